@@ -1,0 +1,16 @@
+pub mod Decode
+pub mod Sections
+pub mod Outcome
+pub mod Terms
+pub mod Summary
+pub mod Fit
+pub mod Group
+pub mod Cell
+pub mod Accept
+pub mod Part
+pub mod Entry
+pub mod Turn
+pub mod Demand
+pub mod Double
+pub mod Pattern
+pub mod Rounded

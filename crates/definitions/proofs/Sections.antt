@@ -1,0 +1,92 @@
+-- Segments laid out in sections and cut out of them again. Assumes nothing.
+use Prim.Native.Nat.{ℕ, zero, suc, _+_}
+use mathlib.Core.Path.{_≡_, refl, sym, ap, ap₂, _∙_}
+use mathlib.Core.List.{List, [], _∷_, _++_, map, append-assoc}
+use mathlib.Core.Bool.{Bool, true, false, cond, _&&_}
+use lib.ListN.{length, take, drop, length-append}
+use lib.Seq.{take-append-seam, drop-append-seam, take-at, drop-at}
+use lib.Dec.{T, eqb, eqb→eq}
+use lib.Ieee.Fits.{and-l, and-r}
+use Rattle.definitions.specs.Lists.{sum, concat, all}
+use Rattle.definitions.specs.Segment.{Segment, Sections, SegmentRecord, Address, Space, aliveWords, cut, firstSegment, afterFirst, segmentsFrom, segmentsOf, recordOf, sectionsOf, flatten}
+use Rattle.definitions.specs.Book.{isSegment}
+
+length-concat : (ls : List (List ℕ)) → length (concat ls) ≡ sum (map length ls)
+length-concat [] = refl
+length-concat (l ∷ ls) = length-append l (concat ls) ∙ ap (λ (n : ℕ). length l + n) (length-concat ls)
+
+pub cut-concat : (ts : List (List ℕ)) (rest : List ℕ) → cut (map length ts) (concat ts ++ rest) ≡ ts
+cut-concat [] rest = refl
+cut-concat (t ∷ ts) rest = rw (append-assoc t (concat ts) rest, take-append-seam t (concat ts ++ rest), drop-append-seam t (concat ts ++ rest)) (ap (λ (l : List (List ℕ)). t ∷ l) (cut-concat ts rest))
+
+map-append : (f : List ℕ → ℕ) (xs ys : List (List ℕ)) → map f (xs ++ ys) ≡ map f xs ++ map f ys
+map-append f [] ys = refl
+map-append f (x ∷ xs) ys = ap (λ (l : List ℕ). f x ∷ l) (map-append f xs ys)
+
+concat-append : (xs ys : List (List ℕ)) → concat (xs ++ ys) ≡ concat xs ++ concat ys
+concat-append [] ys = refl
+concat-append (x ∷ xs) ys = ap (λ (l : List ℕ). x ++ l) (concat-append xs ys) ∙ sym (append-assoc x (concat xs) (concat ys))
+
+length-map : (xs : List (List ℕ)) → length (map length xs) ≡ length xs
+length-map [] = refl
+length-map (x ∷ xs) = ap suc (length-map xs)
+
+-- the terms of a first segment, and what stands behind them
+module _ (ts us : List (List ℕ)) where
+  lengths-first : take (length ts) (map length (ts ++ us)) ≡ map length ts
+  lengths-first = rw (map-append length ts us) (take-at (map length ts) (map length us) (length ts) (length-map ts))
+
+  terms-first : cut (take (length ts) (map length (ts ++ us))) (concat (ts ++ us)) ≡ ts
+  terms-first = rw (lengths-first, concat-append ts us) (cut-concat ts (concat us))
+
+  lengths-after : drop (length ts) (map length (ts ++ us)) ≡ map length us
+  lengths-after = rw (map-append length ts us) (drop-at (map length ts) (map length us) (length ts) (length-map ts))
+
+  bytes-after : drop (sum (take (length ts) (map length (ts ++ us)))) (concat (ts ++ us)) ≡ concat us
+  bytes-after = rw (lengths-first, concat-append ts us) (drop-at (concat ts) (concat us) (sum (map length ts)) (length-concat ts))
+
+alive-length : (s : Segment) → T (isSegment s) → length (s .alive) ≡ aliveWords (recordOf s)
+unfolding isSegment
+alive-length s h = eqb→eq (length (s .alive)) (aliveWords (recordOf s)) h
+
+-- the first segment's runs stand first
+first-back : (s : Segment) (ss : List Segment) → T (isSegment s) → firstSegment (recordOf s) (sectionsOf (s ∷ ss)) ≡ s
+unfolding firstSegment recordOf sectionsOf
+first-back s ss h =
+    λ i.
+    record {
+      type = s .type;
+      kind = s .kind;
+      rows = s .rows;
+      ids = take-append-seam (s .ids) (concat (map (λ (t : Segment). t .ids) ss)) i;
+      offsets = take-append-seam (s .offsets) (concat (map (λ (t : Segment). t .offsets) ss)) i;
+      values = take-append-seam (s .values) (concat (map (λ (t : Segment). t .values) ss)) i;
+      terms = terms-first (s .terms) (concat (map (λ (t : Segment). t .terms) ss)) i;
+      flag = s .flag;
+      alive = take-at (s .alive) (concat (map (λ (t : Segment). t .alive) ss)) (aliveWords (recordOf s)) (alive-length s h) i;
+    }
+
+-- and the others' behind them
+after-back : (s : Segment) (ss : List Segment) → T (isSegment s) → afterFirst (recordOf s) (sectionsOf (s ∷ ss)) ≡ sectionsOf ss
+unfolding afterFirst recordOf sectionsOf
+after-back s ss h =
+    λ i.
+    record {
+      ids = drop-append-seam (s .ids) (concat (map (λ (t : Segment). t .ids) ss)) i;
+      offsets = drop-append-seam (s .offsets) (concat (map (λ (t : Segment). t .offsets) ss)) i;
+      values = drop-append-seam (s .values) (concat (map (λ (t : Segment). t .values) ss)) i;
+      termLengths = lengths-after (s .terms) (concat (map (λ (t : Segment). t .terms) ss)) i;
+      termBytes = bytes-after (s .terms) (concat (map (λ (t : Segment). t .terms) ss)) i;
+      alive = drop-at (s .alive) (concat (map (λ (t : Segment). t .alive) ss)) (aliveWords (recordOf s)) (alive-length s h) i;
+    }
+
+pub segments-back : (ss : List Segment) → T (all isSegment ss) → segmentsFrom (map recordOf ss) (sectionsOf ss) ≡ ss
+segments-back [] h = refl
+segments-back (s ∷ ss) h =
+    ap₂ (λ (x : Segment) (l : List Segment). x ∷ l) (first-back s ss (and-l (isSegment s) (all isSegment ss) h))
+    (ap (segmentsFrom (map recordOf ss)) (after-back s ss (and-l (isSegment s) (all isSegment ss) h)) ∙ segments-back ss (and-r (isSegment s) (all isSegment ss) h))
+
+pub flatten-back : (mode required : ℕ) (ss : List Segment) (addresses : List Address) (space : Space) → T (all isSegment ss)
+    → segmentsOf (flatten mode required ss addresses space) ≡ ss
+unfolding segmentsOf flatten
+flatten-back mode required ss addresses space h = segments-back ss h

@@ -1,0 +1,255 @@
+-- Joins in turn: at each call the book's answer is the joiner's, and what stands is what the book takes to stand. Assumes nothing.
+use Prim.Native.Nat.{ℕ, zero, suc, _+_, _≤_, _<_, zero-le, suc-le-suc}
+use native.Mathlib.Nat.{le-of-suc-le-suc, not-suc-le-zero, zero-add, add-zero, suc-add, add-suc}
+use mathlib.Core.Path.{_≡_, refl, sym, ap, ap₂, _∙_, subst}
+use mathlib.Core.List.{List, [], _∷_, _++_, map, List·Memᴰ, List·Memᴰ·head, List·Memᴰ·tail, List·Memᴰ·not-nil, Memᴰ·cast, List·Memᴰ·append-cases, List·Memᴰ·eq-of-singleton}
+use mathlib.Core.Logic.{⊎-elim}
+use mathlib.Core.Bool.{Bool, true, false, not, cond, _||_, _&&_, false≢true}
+use lib.ListN.{length, getD, length-map}
+use lib.Dec.{T, eqb, ltb, ltb→lt, eqb→eq, eqb-refl}
+use lib.Ieee.Fits.{and-i, and-l, and-r}
+use lib.Ieee.Bits.{is-true}
+use Rattle.definitions.specs.Lists.{all, any, elem, concat}
+use Rattle.definitions.specs.Segment.{Segment, Address, Space, Input, aliveWords, segmentsOf, recordOf, flatten}
+use Rattle.definitions.specs.Row.{isPresent, noType}
+use Rattle.definitions.specs.Join.{Column, Joined, absent, stackedFrom, rowOrder, joinedColumn, joinRules, asSegment}
+use Rattle.definitions.specs.Answer.{listsFit, valuesFit, allCoercible, answer, joinOf}
+use Rattle.definitions.specs.Outcome.{Buffers, Answer, accepted, refused, Outcome, numberOf, spaceOf, numbersOf, refusedBuffers, acceptedBuffers, joinOutcome, readBack}
+use Rattle.definitions.specs.Book.{Standing, first, result, segmentIn, Call, inputOf, handedOf, leftFrom, callInput, callOutcome, callAnswer, afterAnswer, afterCall, answersOf, standsAfter, Entry, noEntry, firstEntry, firstEntries, oneJoin, standingOf, joinedEntry, bookAnswer, bookAfterCall, bookAnswersFrom, bookAfterFrom, isSegment, areDistinct, handsOnlyStanding, acceptedFrom}
+use Rattle.definitions.proofs.Sections.{flatten-back}
+use Rattle.definitions.proofs.Outcome.{read-back, number-is}
+use Rattle.definitions.proofs.Summary.{Uniform}
+use Rattle.definitions.proofs.Fit.{and3}
+use Rattle.definitions.proofs.Group.{all-mem, mem-map}
+use Rattle.definitions.proofs.Cell.{mem-at, either}
+use Rattle.definitions.proofs.Accept.{Passed, all-passed, Lists, lists-order, mem-map-back}
+use Rattle.definitions.proofs.Part as P
+use Rattle.definitions.proofs.Part.{map-mem, map-twice}
+use Rattle.definitions.proofs.Entry.{getD-in, map-append, segOf, Good, good-first, partsOf, parts-segments, joined-is, good-joined}
+
+-- ---- lists
+
+pub getD-all : {A : Type 0} (p : A → Bool) (l : List A) (k : ℕ) (d : A) → T (all p l) → T (p d) → T (p (getD l k d))
+getD-all p [] k d h e = e
+getD-all p (x ∷ xs) zero d h e = and-l (p x) (all p xs) h
+getD-all p (x ∷ xs) (suc k) d h e = getD-all p xs k d (and-r (p x) (all p xs) h) e
+
+all-map : {A B : Type 0} (p : B → Bool) (f : A → B) (l : List A) → ((x : A) → T (p (f x))) → T (all p (map f l))
+all-map p f [] h = tt
+all-map p f (x ∷ xs) h = and-i (p (f x)) (all p (map f xs)) (h x) (all-map p f xs h)
+
+left-map : {A B : Type 0} (f : A → B) (n : ℕ) (places : List ℕ) (l : List A) → leftFrom n places (map f l) ≡ map f (leftFrom n places l)
+left-map f n places [] = refl
+left-map {A} {B} f n places (x ∷ xs) = go (elem n places) (left-map f (suc n) places xs)
+  where
+    go : (b : Bool) → leftFrom (suc n) places (map f xs) ≡ map f (leftFrom (suc n) places xs)
+        → cond b (leftFrom (suc n) places (map f xs)) (f x ∷ leftFrom (suc n) places (map f xs)) ≡ map f (cond b (leftFrom (suc n) places xs) (x ∷ leftFrom (suc n) places xs))
+    go true e = e
+    go false e = ap (λ (l : List B). f x ∷ l) e
+
+left-mem : {A : Type 0} (n : ℕ) (places : List ℕ) (l : List A) {x : A} → List·Memᴰ x (leftFrom n places l) → List·Memᴰ x l
+left-mem n places [] m = m
+left-mem n places (y ∷ ys) {x} m = go (elem n places) m (λ k. left-mem (suc n) places ys k)
+  where
+    go : (b : Bool) → List·Memᴰ x (cond b (leftFrom (suc n) places ys) (y ∷ leftFrom (suc n) places ys)) → (List·Memᴰ x (leftFrom (suc n) places ys) → List·Memᴰ x ys)
+        → List·Memᴰ x (y ∷ ys)
+    go true m f = List·Memᴰ·tail (f m)
+    go false (List·Memᴰ·head q) f = List·Memᴰ·head q
+    go false (List·Memᴰ·tail m) f = List·Memᴰ·tail (f m)
+
+-- ---- a call, by the table's answer and the join's column
+
+answer-is : (c : Call) (standing : List Standing) → callAnswer c standing ≡ answer (callInput c standing)
+unfolding callAnswer callOutcome
+answer-is c standing = number-is (callInput c standing) (c .buffers)
+
+after-is : (c : Call) (standing : List Standing)
+    → afterCall c standing
+    ≡ cond (eqb (answer (callInput c standing)) 0) (leftFrom 0 (c .handed) standing ++ (result (joinOf (callInput c standing) .column) ∷ [])) standing
+unfolding afterCall callOutcome joinOutcome
+after-is c standing = go (eqb (answer i) 0)
+  where
+    i : Input
+    i = callInput c standing
+
+    go : (t : Bool)
+        → afterAnswer c standing (cond t (acceptedBuffers (joinOf i) (c .buffers)) (refusedBuffers (c .buffers))) (cond t (accepted (numbersOf (joinOf i))) (refused (answer i)))
+        ≡ cond t (leftFrom 0 (c .handed) standing ++ (result (joinOf i .column) ∷ [])) standing
+    go true = ap (λ (x : Column). leftFrom 0 (c .handed) standing ++ (result x ∷ [])) (read-back (joinOf i) (c .buffers))
+    go false = refl
+
+result-segment : (c : Column) → T (isSegment (asSegment c))
+unfolding isSegment asSegment aliveWords recordOf
+result-segment c = tt
+
+pub absent-segment : T (isSegment absent)
+unfolding isSegment aliveWords recordOf
+absent-segment = tt
+
+module _ (firsts : List Segment) (segs : T (all isSegment firsts)) (required u : ℕ) where
+  abbrev stand : Entry → Standing
+  stand = standingOf firsts
+
+  seg-ok : (e : Entry) → T (isSegment (segOf firsts e))
+  unfolding standingOf
+  seg-ok e =
+      either (λ (x : Standing). T (isSegment (segmentIn x))) (e .isResult) (result (oneJoin firsts (e .required) (e .sources) (e .origins)))
+      (first (getD firsts (getD (e .sources) 0 0) absent)) (result-segment (oneJoin firsts (e .required) (e .sources) (e .origins)))
+      (getD-all isSegment firsts (getD (e .sources) 0 0) absent segs absent-segment)
+
+  -- ---- one call
+  module _ (c : Call) (book : List Entry) (goods : (e : Entry) → List·Memᴰ e book → Good firsts required u e)
+      (range : T (all (λ k. ltb k (length (map stand book))) (c .handed))) where
+    abbrev es : List Entry
+    es = handedOf noEntry (c .handed) book
+
+    in-range : (k : ℕ) → List·Memᴰ k (c .handed) → k < length book
+    in-range k m =
+        subst (λ (n : ℕ). k < n) (length-map book stand)
+        (ltb→lt k (length (map stand book)) (all-mem (λ k. ltb k (length (map stand book))) (c .handed) range m))
+
+    good-es : (e : Entry) → List·Memᴰ e es → Good firsts required u e
+    good-es e m =
+        let t = mem-map-back (λ k. getD book k noEntry) (c .handed) m in
+        goods e (Memᴰ·cast (t .2) (mem-at book (t .0) noEntry (in-range (t .0) (t .1))))
+
+    handed-same : map segmentIn (handedOf (first absent) (c .handed) (map stand book)) ≡ map (segOf firsts) es
+    handed-same =
+        ap (map segmentIn)
+        (map-mem (λ k. getD (map stand book) k (first absent)) (λ k. stand (getD book k noEntry)) (c .handed) (λ k m. getD-in stand book k (first absent) noEntry (in-range k m))
+        ∙ sym (map-twice stand (λ k. getD book k noEntry) (c .handed)))
+        ∙ map-twice segmentIn stand es
+
+    abbrev input : Input
+    input = inputOf c (map (segOf firsts) es)
+
+    input-same : callInput c (map stand book) ≡ input
+    unfolding callInput
+    input-same = ap (inputOf c) handed-same
+
+    answer-same : callAnswer c (map stand book) ≡ bookAnswer firsts c book
+    unfolding bookAnswer
+    answer-same = answer-is c (map stand book) ∙ ap answer input-same
+
+    call-zero : answer input ≡ 0 → callAnswer c (map stand book) ≡ 0
+    call-zero e = answer-is c (map stand book) ∙ ap answer input-same ∙ e
+
+    back : segmentsOf input ≡ map (segOf firsts) es
+    unfolding inputOf
+    back = flatten-back (c .mode) (c .required) (map (segOf firsts) es) (c .addresses) (spaceOf (c .buffers)) (all-map isSegment (segOf firsts) es seg-ok)
+
+    abbrev partSegments : List Segment
+    partSegments = P.segmentsIn required u (partsOf firsts required u es good-es)
+
+    to-parts : map (segOf firsts) es ≡ partSegments
+    to-parts = sym (parts-segments firsts required u es good-es)
+
+    passed : answer input ≡ 0 → Passed input partSegments
+    passed e = subst (Passed input) (back ∙ to-parts) (all-passed input e)
+
+    column-same : joinOf input .column ≡ joinedColumn (c .required) partSegments (rowOrder (c .mode) partSegments (c .addresses))
+    unfolding joinRules inputOf flatten
+    column-same = ap (λ (ss : List Segment). joinedColumn (c .required) ss (rowOrder (c .mode) ss (c .addresses))) (back ∙ to-parts)
+
+    module _ (q : answer input ≡ 0 → c .required ≡ required) where
+      lists-by : answer input ≡ 0 → Lists partSegments (cond (eqb (c .mode) 0) (stackedFrom 0 partSegments) (c .addresses))
+      unfolding inputOf flatten rowOrder
+      lists-by e = lists-order input partSegments (passed e)
+
+      coercible-by : answer input ≡ 0 → T (allCoercible required partSegments)
+      unfolding inputOf flatten
+      coercible-by e = subst (λ (n : ℕ). T (allCoercible n partSegments)) (q e) (passed e .coercible)
+
+      -- the result is the new entry's one join
+      result-is : answer input ≡ 0 → result (joinOf input .column) ≡ stand (joinedEntry c es)
+      unfolding standingOf joinedEntry rowOrder
+      result-is e =
+          ap result
+          (column-same
+          ∙ ap (λ (n : ℕ). joinedColumn n partSegments (rowOrder (c .mode) partSegments (c .addresses))) (q e)
+          ∙ joined-is firsts required u c es good-es (q e) (passed e .lists) (passed e .values) (lists-by e) (coercible-by e))
+
+      new-good : answer input ≡ 0 → Good firsts required u (joinedEntry c es)
+      new-good e = good-joined firsts required u c es good-es (q e) (passed e .lists) (passed e .values) (lists-by e) (coercible-by e)
+
+      zero-of : eqb (answer input) 0 ≡ true → answer input ≡ 0
+      zero-of e = eqb→eq (answer input) 0 (subst T (sym e) tt)
+
+      -- what stands after the call
+      after-same : afterCall c (map stand book) ≡ map stand (bookAfterCall firsts c book)
+      unfolding bookAfterCall bookAnswer
+      after-same =
+          after-is c (map stand book)
+          ∙ ap (λ (i : Input). cond (eqb (answer i) 0) (leftFrom 0 (c .handed) (map stand book) ++ (result (joinOf i .column) ∷ [])) (map stand book)) input-same
+          ∙ go (eqb (answer input) 0) refl
+        where
+          go : (b : Bool) → eqb (answer input) 0 ≡ b
+              → cond b (leftFrom 0 (c .handed) (map stand book) ++ (result (joinOf input .column) ∷ [])) (map stand book)
+              ≡ map stand (cond b (leftFrom 0 (c .handed) book ++ (joinedEntry c es ∷ [])) book)
+          go true e =
+              ap₂ (λ (l : List Standing) (x : Standing). l ++ (x ∷ [])) (left-map stand 0 (c .handed) book) (result-is (zero-of e))
+              ∙ sym (map-append stand (leftFrom 0 (c .handed) book) (joinedEntry c es ∷ []))
+          go false e = refl
+
+      goods-after : (e : Entry) → List·Memᴰ e (bookAfterCall firsts c book) → Good firsts required u e
+      unfolding bookAfterCall bookAnswer
+      goods-after e m = go (eqb (answer input) 0) refl m
+        where
+          here : answer input ≡ 0 → List·Memᴰ e (leftFrom 0 (c .handed) book) → Good firsts required u e
+          here z k = goods e (left-mem 0 (c .handed) book k)
+
+          there : answer input ≡ 0 → List·Memᴰ e (joinedEntry c es ∷ []) → Good firsts required u e
+          there z k = subst (Good firsts required u) (sym (List·Memᴰ·eq-of-singleton k)) (new-good z)
+
+          go : (b : Bool) → eqb (answer input) 0 ≡ b → List·Memᴰ e (cond b (leftFrom 0 (c .handed) book ++ (joinedEntry c es ∷ [])) book) → Good firsts required u e
+          go true z k = ⊎-elim (here (zero-of z)) (there (zero-of z)) (List·Memᴰ·append-cases (leftFrom 0 (c .handed) book) k)
+          go false z k = goods e k
+
+  -- ---- all calls
+
+  accepted-head : (c : Call) (b : Bool) (l : List Call) → T (all (eqb required) (map (λ (c : Call). c .required) (cond b (c ∷ l) l)))
+      → (b ≡ true → c .required ≡ required) × T (all (eqb required) (map (λ (c : Call). c .required) l))
+  accepted-head c true l h = (
+    λ e. sym (eqb→eq required (c .required) (and-l (eqb required (c .required)) (all (eqb required) (map (λ (c : Call). c .required) l)) h)),
+    and-r (eqb required (c .required)) (all (eqb required) (map (λ (c : Call). c .required) l)) h,
+  )
+  accepted-head c false l h = (λ e. absurd (false≢true e), h)
+
+  pub record Agreed (calls : List Call) (book : List Entry) : Type 0 where
+    pub answers : answersOf calls (map stand book) ≡ bookAnswersFrom firsts calls book
+    pub standing : standsAfter calls (map stand book) ≡ map stand (bookAfterFrom firsts calls book)
+    pub goods : (e : Entry) → List·Memᴰ e (bookAfterFrom firsts calls book) → Good firsts required u e
+
+  -- one call, and the rest
+  joined-on : (c : Call) (cs : List Call) (book : List Entry) (goods : (e : Entry) → List·Memᴰ e book → Good firsts required u e)
+      (range : T (all (λ k. ltb k (length (map stand book))) (c .handed))) (q : answer (input c book goods range) ≡ 0 → c .required ≡ required)
+      → ((b : List Entry) → ((e : Entry) → List·Memᴰ e b → Good firsts required u e) → T (handsOnlyStanding cs (map stand b))
+      → T (all (eqb required) (map (λ (c : Call). c .required) (acceptedFrom cs (map stand b)))) → Agreed cs b)
+      → T (handsOnlyStanding cs (afterCall c (map stand book)))
+      → T (all (eqb required) (map (λ (c : Call). c .required) (acceptedFrom cs (afterCall c (map stand book)))))
+      → Agreed (c ∷ cs) book
+  joined-on c cs book goods range q ih h k =
+      record {
+        answers = ap₂ (λ (n : ℕ) (l : List ℕ). n ∷ l) (answer-same c book goods range) (ap (answersOf cs) after ∙ rest .answers);
+        standing = ap (standsAfter cs) after ∙ rest .standing;
+        goods = rest .goods;
+      }
+    where
+      after : afterCall c (map stand book) ≡ map stand (bookAfterCall firsts c book)
+      after = after-same c book goods range q
+
+      rest : Agreed cs (bookAfterCall firsts c book)
+      rest =
+          ih (bookAfterCall firsts c book) (goods-after c book goods range q) (subst (λ (l : List Standing). T (handsOnlyStanding cs l)) after h)
+          (subst (λ (l : List Standing). T (all (eqb required) (map (λ (c : Call). c .required) (acceptedFrom cs l)))) after k)
+
+  pub agreed : (calls : List Call) (book : List Entry) → ((e : Entry) → List·Memᴰ e book → Good firsts required u e)
+      → T (handsOnlyStanding calls (map stand book))
+      → T (all (eqb required) (map (λ (c : Call). c .required) (acceptedFrom calls (map stand book))))
+      → Agreed calls book
+  agreed [] book goods h k = record { answers = refl; standing = refl; goods = goods }
+  agreed (c ∷ cs) book goods h k =
+      let hs = and3 (all (λ k. ltb k (length (map stand book))) (c .handed)) (areDistinct (c .handed)) (handsOnlyStanding cs (afterCall c (map stand book))) h in
+      let ks = accepted-head c (eqb (callAnswer c (map stand book)) 0) (acceptedFrom cs (afterCall c (map stand book))) k in
+      joined-on c cs book goods (hs .0) (λ e. ks .0 (ap (λ (n : ℕ). eqb n 0) (call-zero c book goods (hs .0) e)))
+      (λ b g x y. agreed cs b g x y) (hs .2) (ks .1)

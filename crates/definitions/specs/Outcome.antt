@@ -1,0 +1,128 @@
+-- What a call of the joiner gives and leaves in the lent memory (document 01, "Answers of the joiner"): a refusal changes no output, output
+-- beyond the lists keeps its elements, and the working bytes are zero on return. Assumes nothing.
+use Prim.Native.Nat.{ℕ, zero, suc}
+use mathlib.Core.List.{List, [], _∷_, _++_, map}
+use mathlib.Core.Bool.{Bool, true, false, cond}
+use lib.ListN.{length, take, drop, replicate}
+use lib.Dec.{eqb}
+use Rattle.definitions.specs.Lists.{concat}
+use Rattle.definitions.specs.Segment.{Input, Space, cut}
+use Rattle.definitions.specs.Join.{Column, Joined}
+use Rattle.definitions.specs.Answer.{answer, joinOf}
+
+-- the lent memory that a call may write: six outputs and the working bytes
+pub record Buffers : Type 0 where
+  pub ids : List ℕ
+  pub offsets : List ℕ
+  pub values : List ℕ
+  pub termLengths : List ℕ
+  pub termBytes : List ℕ
+  pub map : List ℕ
+  pub working : List ℕ
+
+-- the numbers that come with acceptance: type, class and rows, and the number of elements of each list
+pub record Numbers : Type 0 where
+  pub type : ℕ
+  pub class : ℕ
+  pub rows : ℕ
+  pub ids : ℕ
+  pub offsets : ℕ
+  pub values : ℕ
+  pub terms : ℕ
+  pub termBytes : ℕ
+  pub map : ℕ
+
+-- the joiner's answer: 0 with its numbers, or the number of the first check that fails
+pub data Answer : Type 0 where
+  accepted : Numbers → Answer
+  refused : ℕ → Answer
+
+abbrev pub numberOf : Answer → ℕ
+numberOf (accepted n) = 0
+numberOf (refused k) = k
+
+-- what a call gives, and the lent memory as it leaves it
+pub record Outcome : Type 0 where
+  pub answer : Answer
+  pub buffers : Buffers
+
+-- the elements that each output has place for
+unfoldable pub spaceOf : Buffers → Space
+spaceOf b =
+    record {
+      working = length (b .working);
+      ids = length (b .ids);
+      offsets = length (b .offsets);
+      values = length (b .values);
+      termLengths = length (b .termLengths);
+      termBytes = length (b .termBytes);
+      map = length (b .map);
+    }
+
+-- a list written from the start of an output; what stands beyond it stays
+module _ {A : Type 0} where
+  abbrev pub written : List A → List A → List A
+  written list old = list ++ drop (length list) old
+
+abbrev pub zeroed : List ℕ → List ℕ
+zeroed bytes = replicate (length bytes) 0
+
+unfoldable pub numbersOf : Joined → Numbers
+numbersOf j =
+    record {
+      type = j .column .type;
+      class = j .column .class;
+      rows = j .column .rows;
+      ids = length (j .column .ids);
+      offsets = length (j .column .offsets);
+      values = length (j .column .values);
+      terms = length (j .column .terms);
+      termBytes = length (concat (j .column .terms));
+      map = length (j .map);
+    }
+
+-- a refusal changes no output
+unfoldable pub refusedBuffers : Buffers → Buffers
+refusedBuffers b =
+    record {
+      ids = b .ids;
+      offsets = b .offsets;
+      values = b .values;
+      termLengths = b .termLengths;
+      termBytes = b .termBytes;
+      map = b .map;
+      working = zeroed (b .working);
+    }
+
+unfoldable pub acceptedBuffers : Joined → Buffers → Buffers
+acceptedBuffers j b =
+    record {
+      ids = written (j .column .ids) (b .ids);
+      offsets = written (j .column .offsets) (b .offsets);
+      values = written (j .column .values) (b .values);
+      termLengths = written (map length (j .column .terms)) (b .termLengths);
+      termBytes = written (concat (j .column .terms)) (b .termBytes);
+      map = written (j .map) (b .map);
+      working = zeroed (b .working);
+    }
+
+-- the whole outcome of a call that is lent the buffers; the input's space is theirs
+unfoldable pub joinOutcome : Input → Buffers → Outcome
+joinOutcome i b =
+    record {
+      answer = cond (eqb (answer i) 0) (accepted (numbersOf (joinOf i))) (refused (answer i));
+      buffers = cond (eqb (answer i) 0) (acceptedBuffers (joinOf i) b) (refusedBuffers b);
+    }
+
+-- the column that stands in the output lists, read back by the numbers that the answer gave
+unfoldable pub readBack : Numbers → Buffers → Column
+readBack n b =
+    record {
+      type = n .type;
+      class = n .class;
+      rows = n .rows;
+      ids = take (n .ids) (b .ids);
+      offsets = take (n .offsets) (b .offsets);
+      values = take (n .values) (b .values);
+      terms = cut (take (n .terms) (b .termLengths)) (b .termBytes);
+    }

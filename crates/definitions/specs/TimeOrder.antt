@@ -1,0 +1,105 @@
+-- The time order of the alive rows, and its answers (document 01, "Time order"). Assumes nothing.
+use Prim.Native.Nat.{ℕ, zero, suc, _+_, _%_, _^_}
+use mathlib.Core.List.{List, [], _∷_, _++_, map}
+use mathlib.Core.Bool.{Bool, true, false, _&&_, _||_, cond, not}
+use lib.ListN.{length, getD}
+use lib.Dec.{eqb, ltb, leb}
+use Rattle.definitions.specs.Lists.{upTo, any, all, notFalling}
+use Rattle.definitions.specs.Segment.{Segment, SegmentRecord, Sections, Address, segmentsFrom}
+use Rattle.definitions.specs.Row.{rowValues, isPresent}
+use Rattle.definitions.specs.Types.{DateTime}
+use Rattle.definitions.specs.Join.{absent}
+use Rattle.definitions.specs.Answer.{tooManySegments, lengthsWrong, segmentCodesWrong, listsWrong, valuesWrong, bitPastRows, sumsTooLarge, aliveAddresses}
+use Rattle.definitions.specs.Outcome.{written}
+
+-- no mode, required type or addresses; the space is the number of addresses that the output has place for
+pub record TimeInput : Type 0 where
+  pub records : List SegmentRecord
+  pub sections : Sections
+  pub space : ℕ
+
+-- ---- keys
+
+-- a time as a number that keeps the order of two's complement
+abbrev pub timeOf : ℕ → ℕ
+timeOf w = (w + 2 ^ 63) % 2 ^ 64
+
+-- the key of a row's values: its time, above 0, else the key given
+abbrev pub keyOr : List ℕ → ℕ → ℕ
+keyOr [] k = k
+keyOr (w ∷ ws) k = suc (timeOf w)
+
+-- the key of the last of the first n rows that has a time; 0, before all times, if none has
+abbrev pub keyAfter : Segment → ℕ → ℕ
+keyAfter s zero = 0
+keyAfter s (suc n) = keyOr (rowValues s n) (keyAfter s n)
+
+-- a row's time, else the last time before it in its segment, else before all times; withdrawn rows give their time
+unfoldable pub keyOf : List Segment → Address → ℕ
+keyOf ss a = keyAfter (getD ss (a .segment) absent) (suc (a .row))
+
+-- ---- the order: by key, segment, row
+
+unfoldable pub isBefore : List Segment → Address → Address → Bool
+isBefore ss a b =
+    ltb (keyOf ss a) (keyOf ss b)
+    || (eqb (keyOf ss a) (keyOf ss b)
+    && (ltb (a .segment) (b .segment)
+    || (eqb (a .segment) (b .segment) && ltb (a .row) (b .row))))
+
+abbrev pub insertAddress : List Segment → Address → List Address → List Address
+insertAddress ss a [] = a ∷ []
+insertAddress ss a (b ∷ bs) = cond (isBefore ss a b) (a ∷ b ∷ bs) (b ∷ insertAddress ss a bs)
+
+abbrev pub sortAddresses : List Segment → List Address → List Address
+sortAddresses ss [] = []
+sortAddresses ss (a ∷ bs) = insertAddress ss a (sortAddresses ss bs)
+
+unfoldable pub timeOrder : List Segment → List Address
+timeOrder ss = sortAddresses ss (aliveAddresses ss)
+
+-- ---- answers
+
+-- 12: another type, a row of several times, or times falling within a segment
+unfoldable pub timesWrong : List Segment → Bool
+timesWrong ss =
+    any
+    (λ s.
+    (isPresent s && not (eqb (s .type) DateTime))
+    || any (λ r. ltb 1 (length (rowValues s r))) (upTo (s .rows))
+    || not (notFalling (map timeOf (s .values))))
+    ss
+
+unfoldable pub timeSegments : TimeInput → List Segment
+timeSegments i = segmentsFrom (i .records) (i .sections)
+
+unfoldable pub timeAnswer : TimeInput → ℕ
+timeAnswer i =
+    cond (tooManySegments (i .records)) 1
+    (cond (lengthsWrong (i .records) (i .sections)) 2
+    (cond (segmentCodesWrong (timeSegments i)) 3
+    (cond (listsWrong (timeSegments i)) 4
+    (cond (valuesWrong (timeSegments i)) 5
+    (cond (any bitPastRows (timeSegments i)) 6
+    (cond (sumsTooLarge (timeSegments i)) 7
+    (cond (ltb (i .space) (length (aliveAddresses (timeSegments i)))) 11
+    (cond (timesWrong (timeSegments i)) 12
+    0))))))))
+
+-- the answer: how many addresses were written, or the number of the first check that fails
+pub data TimeAnswer : Type 0 where
+  ordered : ℕ → TimeAnswer
+  unordered : ℕ → TimeAnswer
+
+-- what a call gives, and the lent output as it leaves it
+pub record TimeOutcome : Type 0 where
+  pub answer : TimeAnswer
+  pub addresses : List Address
+
+-- the whole outcome of a call that is lent the output; the input's space is its length. A refusal changes nothing, and what stands beyond the addresses stays
+unfoldable pub timeOutcome : TimeInput → List Address → TimeOutcome
+timeOutcome i output =
+    record {
+      answer = cond (eqb (timeAnswer i) 0) (ordered (length (timeOrder (timeSegments i)))) (unordered (timeAnswer i));
+      addresses = cond (eqb (timeAnswer i) 0) (written (timeOrder (timeSegments i)) output) output;
+    }
