@@ -1,0 +1,186 @@
+-- Rank and membership in ascending ids, and a row's range by the segment's kind. Assumes nothing.
+use Prim.Native.Nat.{ℕ, zero, suc, _+_, _-_, _≤_, _<_, zero-le, suc-le-suc}
+use native.Mathlib.Nat.{le-of-suc-le-suc, not-suc-le-zero, le-refl, le-trans, le-suc}
+use native.Mathlib.Numerals.{add-one}
+use native.Mathlib.Omega.{arith}
+use mathlib.Core.Path.{_≡_, refl, sym, ap, ap₂, _∙_, subst}
+use mathlib.Core.List.{List, [], _∷_}
+use mathlib.Core.Bool.{Bool, true, false, cond, _||_, _&&_, false≢true}
+use lib.ListN.{length, getD, take, drop}
+use lib.Seq.{slice, length-slice}
+use lib.Dec.{T, eqb, ltb, leb, ltb→lt, nltb→le, eqb→eq, eqb-refl}
+use lib.Ieee.Fits.{and-l, and-r}
+use lib.Ieee.Bits.{is-true, is-false}
+use borrow.Author.Tests.{lt-ltb, le-ltb, eq-eqb, ne-eqb, ltb-true, ltb-false, eqb-true, eqb-false}
+use Rattle.definitions.specs.Lists.{any, elem, all, count, ascending, ascendingFrom, notFalling, notFallingFrom, last, isEmpty}
+use Rattle.definitions.specs.Segment.{Segment, byKind}
+use Rattle.definitions.specs.Row.{rank, rowValues, oneAt, between, ifListed}
+use Rattle.definitions.proofs.Fit.{rank-lt, rank-le}
+use Rattle.column_index.specs.Lookup.{rankIn, isIn, startOf, endOf, Readable}
+
+-- ---- ascending lists
+
+pub asc-tail : (m : ℕ) (ns : List ℕ) → T (ascendingFrom m ns) → T (ascending ns)
+asc-tail m [] h = tt
+asc-tail m (n ∷ ns) h = and-r (ltb m n) (ascendingFrom n ns) h
+
+pub asc-head : (m n : ℕ) (ns : List ℕ) → T (ascendingFrom m (n ∷ ns)) → m < n
+asc-head m n ns h = ltb→lt m n (and-l (ltb m n) (ascendingFrom n ns) h)
+
+pub asc-at : (m : ℕ) (ns : List ℕ) (k : ℕ) → T (ascendingFrom m ns) → k < length ns → m < getD ns k 0
+asc-at m [] k h l = absurd (not-suc-le-zero l)
+asc-at m (n ∷ ns) zero h l = asc-head m n ns h
+asc-at m (n ∷ ns) (suc k) h l =
+    let p = asc-head m n ns h in
+    let q = asc-at n ns k (and-r (ltb m n) (ascendingFrom n ns) h) (le-of-suc-le-suc l) in
+    omega arith
+
+pub asc-sorted : (ns : List ℕ) → T (ascending ns) → (p q : ℕ) → p ≤ q → q < length ns → getD ns p 0 ≤ getD ns q 0
+asc-sorted [] h p q pq l = absurd (not-suc-le-zero l)
+asc-sorted (n ∷ ns) h zero zero pq l = le-refl n
+asc-sorted (n ∷ ns) h zero (suc q) pq l = let s = asc-at n ns q h (le-of-suc-le-suc l) in omega arith
+asc-sorted (n ∷ ns) h (suc p) zero pq l = absurd (not-suc-le-zero pq)
+asc-sorted (n ∷ ns) h (suc p) (suc q) pq l = asc-sorted ns (asc-tail n ns h) p q (le-of-suc-le-suc pq) (le-of-suc-le-suc l)
+
+-- ---- rank
+
+-- every element before r is below row, and every one from r on is not: then r elements are below row
+counts : (row : ℕ) (xs : List ℕ) (r : ℕ) → r ≤ length xs → ((k : ℕ) → k < r → getD xs k 0 < row) → ((k : ℕ) → r ≤ k → k < length xs → row ≤ getD xs k 0) → r ≡ rank row xs
+counts row [] r h b a = omega arith
+counts row (x ∷ xs) zero h b a =
+    let e = counts row xs zero zero-le (λ k l. b (suc k) (omega arith)) (λ k l m. a (suc k) zero-le (suc-le-suc m)) in
+    rw (le-ltb x row (a 0 zero-le (suc-le-suc zero-le))) e
+counts row (x ∷ xs) (suc r) h b a =
+    let e = counts row xs r (le-of-suc-le-suc h) (λ k l. b (suc k) (suc-le-suc l)) (λ k l m. a (suc k) (suc-le-suc l) (suc-le-suc m)) in
+    rw (lt-ltb x row (b 0 (suc-le-suc zero-le))) (ap suc e)
+
+pub counted : (row : ℕ) (xs : List ℕ) (r : ℕ) → r ≤ length xs → ((k : ℕ) → k < r → getD xs k 0 < row) → ((k : ℕ) → r ≤ k → k < length xs → row ≤ getD xs k 0) → r ≡ rankIn row xs
+unfolding rankIn
+counted row xs r h b a = counts row xs r h b a
+
+pub rank-none : (row m : ℕ) (ns : List ℕ) → T (ascendingFrom m ns) → row ≤ suc m → rank row ns ≡ 0
+rank-none row m [] h l = refl
+rank-none row m (n ∷ ns) h l =
+    let p = asc-head m n ns h in
+    rw (le-ltb n row (omega arith)) (rank-none row n ns (and-r (ltb m n) (ascendingFrom n ns) h) (omega arith))
+
+pub elem-above : (row m : ℕ) (ns : List ℕ) → T (ascendingFrom m ns) → elem row ns ≡ true → m < row
+elem-above row m [] h e = absurd (false≢true e)
+elem-above row m (n ∷ ns) h e = go (eqb row n) refl e (λ t. elem-above row n ns (and-r (ltb m n) (ascendingFrom n ns) h) t)
+  where
+    go : (b : Bool) → eqb row n ≡ b → b || elem row ns ≡ true → (elem row ns ≡ true → n < row) → m < row
+    go true q e ih = let p = asc-head m n ns h in let s = eqb-true row n q in omega arith
+    go false q e ih = let p = asc-head m n ns h in let s = ih e in omega arith
+
+-- an id stands at its rank
+pub found : (row : ℕ) (ids : List ℕ) → T (ascending ids) → elem row ids ≡ true → getD ids (rank row ids) 0 ≡ row
+found row [] h e = absurd (false≢true e)
+found row (x ∷ xs) h e = go (ltb x row) refl (λ t. found row xs (asc-tail x xs h) t)
+  where
+    here : (b : Bool) → eqb row x ≡ b → row ≤ x → b || elem row xs ≡ true → x ≡ row
+    here true q l e = sym (eqb-true row x q)
+    here false q l e = absurd (let s = elem-above row x xs h e in omega arith)
+
+    there : (b : Bool) → eqb row x ≡ b → x < row → b || elem row xs ≡ true → elem row xs ≡ true
+    there true q l e = absurd (let s = eqb-true row x q in omega arith)
+    there false q l e = e
+
+    go : (b : Bool) → ltb x row ≡ b → (elem row xs ≡ true → getD xs (rank row xs) 0 ≡ row) → getD (x ∷ xs) (cond b (suc (rank row xs)) (rank row xs)) 0 ≡ row
+    go true q ih = ih (there (eqb row x) refl (ltb-true x row q) e)
+    go false q ih =
+        let l = ltb-false x row q in
+        rw (rank-none row x xs h (omega arith)) (here (eqb row x) refl l e)
+
+is-here : (row : ℕ) (ids : List ℕ) (k : ℕ) → k < length ids → getD ids k 0 ≡ row → elem row ids ≡ true
+is-here row [] k h e = absurd (not-suc-le-zero h)
+is-here row (x ∷ xs) zero h e = rw (eq-eqb row x (sym e))
+is-here row (x ∷ xs) (suc k) h e = rw (is-here row xs k (le-of-suc-le-suc h) e) (or-true (eqb row x))
+  where
+    or-true : (b : Bool) → b || true ≡ true
+    or-true true = refl
+    or-true false = refl
+
+bool-false : (b : Bool) → (b ≡ true → ⊥) → b ≡ false
+bool-false true f = absurd (f refl)
+bool-false false f = refl
+
+module _ (row : ℕ) (ids : List ℕ) (k : ℕ) (h : T (ascending ids)) (e : k ≡ rankIn row ids) where
+  pub listed-past : length ids ≤ k → false ≡ isIn row ids
+  unfolding rankIn isIn
+  listed-past l = sym (bool-false (elem row ids) (λ t. let s = rank-lt row ids t in omega arith))
+
+  pub listed-at : k < length ids → eqb (getD ids k 0) row ≡ isIn row ids
+  unfolding rankIn isIn
+  listed-at l = go (eqb (getD ids k 0) row) refl
+    where
+      go : (b : Bool) → eqb (getD ids k 0) row ≡ b → b ≡ elem row ids
+      go true q = sym (is-here row ids k l (eqb-true (getD ids k 0) row q))
+      go false q = sym (bool-false (elem row ids) (λ t. eqb-false (getD ids k 0) row q (ap (λ (n : ℕ). getD ids n 0) e ∙ found row ids h t)))
+
+  pub listed-below : isIn row ids ≡ true → k < length ids
+  unfolding rankIn isIn
+  listed-below t = let s = rank-lt row ids t in omega arith
+
+-- ---- a row's range by kind
+
+abbrev RangeIs : ℕ → List ℕ → List ℕ → ℕ → ℕ → ℕ → Type 0
+RangeIs kind ids offsets row start end = (start ≡ startOf kind ids offsets row) × (end ≡ endOf kind ids offsets row)
+
+module _ (kind : ℕ) (ids offsets : List ℕ) (row : ℕ) where
+  pub range-empty : kind ≡ 0 → RangeIs kind ids offsets row 0 0
+  unfolding startOf endOf
+  range-empty e = rw e (refl, refl)
+
+  pub range-full : (r : ℕ) → kind ≡ 1 → r ≡ row → RangeIs kind ids offsets row r (r + 1)
+  unfolding startOf endOf
+  range-full r e q = rw (e, q, add-one row) (refl, refl)
+
+  pub range-old : (r s t : ℕ) → kind ≡ 3 → r ≡ row → s ≡ getD offsets r 0 → t ≡ getD offsets (r + 1) 0 → RangeIs kind ids offsets row s t
+  unfolding startOf endOf
+  range-old r s t e q p o = rw (e, p, o, q, add-one row) (refl, refl)
+
+  pub range-none : (kind ≡ 0 → ⊥) → (kind ≡ 1 → ⊥) → (kind ≡ 3 → ⊥) → false ≡ isIn row ids → RangeIs kind ids offsets row 0 0
+  unfolding startOf endOf
+  range-none n0 n1 n3 e = rw (ne-eqb kind 0 n0, ne-eqb kind 1 n1, ne-eqb kind 3 n3, ← e) (go (eqb kind 2), go (eqb kind 2))
+    where
+      go : (b : Bool) → _≡_ {A = ℕ} 0 (cond b 0 0)
+      go true = refl
+      go false = refl
+
+  pub range-optional : (k : ℕ) → kind ≡ 2 → k ≡ rankIn row ids → true ≡ isIn row ids → RangeIs kind ids offsets row k (k + 1)
+  unfolding startOf endOf
+  range-optional k e q t = rw (e, q, ← t, add-one (rankIn row ids)) (refl, refl)
+
+  pub range-new : (k s t : ℕ) → (kind ≡ 0 → ⊥) → (kind ≡ 1 → ⊥) → (kind ≡ 2 → ⊥) → (kind ≡ 3 → ⊥) → k ≡ rankIn row ids → true ≡ isIn row ids
+      → s ≡ getD offsets k 0 → t ≡ getD offsets (k + 1) 0 → RangeIs kind ids offsets row s t
+  unfolding startOf endOf
+  range-new k s t n0 n1 n2 n3 q e p o =
+      rw (ne-eqb kind 0 n0, ne-eqb kind 1 n1, ne-eqb kind 2 n2, ne-eqb kind 3 n3, ← e, p, o, q, add-one (rankIn row ids)) (refl, refl)
+
+-- ---- what stands there is the row's values
+
+pub row-slice : (s : Segment) (r : ℕ) → rowValues s r ≡ slice (startOf (s .kind) (s .ids) (s .offsets) r) (endOf (s .kind) (s .ids) (s .offsets) r) (s .values)
+unfolding rowValues startOf endOf rankIn isIn
+row-slice s r = go (eqb (s .kind) 0) (eqb (s .kind) 1) (eqb (s .kind) 2) (eqb (s .kind) 3) (elem r (s .ids))
+  where
+    k : ℕ
+    k = rank r (s .ids)
+
+    go : (a b c d e : Bool)
+        → cond a [] (cond b (slice r (suc r) (s .values)) (cond c (cond e (slice k (suc k) (s .values)) []) (cond d (slice (getD (s .offsets) r 0) (getD (s .offsets) (suc r) 0) (s .values)) (cond e (slice (getD (s .offsets) k 0) (getD (s .offsets) (suc k) 0) (s .values)) []))))
+        ≡ slice (cond a 0 (cond b r (cond c (cond e k 0) (cond d (getD (s .offsets) r 0) (cond e (getD (s .offsets) k 0) 0)))))
+        (cond a 0 (cond b (suc r) (cond c (cond e (suc k) 0) (cond d (getD (s .offsets) (suc r) 0) (cond e (getD (s .offsets) (suc k) 0) 0))))) (s .values)
+    go true b c d e = refl
+    go false true c d e = refl
+    go false false true d true = refl
+    go false false true d false = refl
+    go false false false true e = refl
+    go false false false false true = refl
+    go false false false false false = refl
+
+pub four-le : (kind : ℕ) → (kind ≡ 0 → ⊥) → (kind ≡ 1 → ⊥) → (kind ≡ 2 → ⊥) → (kind ≡ 3 → ⊥) → 4 ≤ kind
+four-le zero a b c d = absurd (a refl)
+four-le (suc zero) a b c d = absurd (b refl)
+four-le (suc (suc zero)) a b c d = absurd (c refl)
+four-le (suc (suc (suc zero))) a b c d = absurd (d refl)
+four-le (suc (suc (suc (suc k)))) a b c d = omega arith
