@@ -10,15 +10,15 @@ use lib.Dec.{T, eqb, ltb, ltb→lt, eqb→eq, eqb-refl, eqb·suc-zero}
 use lib.Ieee.Fits.{and-i, and-l, and-r}
 use lib.Ieee.Bits.{is-true}
 use Rattle.definitions.specs.Lists.{all, any, count, filter, elem}
-use Rattle.definitions.specs.Segment.{Segment, Address, Space, Input, segmentsOf, flatten}
+use Rattle.definitions.specs.Segment.{Segment, Address, Space, Input, segmentsOf, recordOf, sectionsOf}
 use Rattle.definitions.specs.Row.{isPresent, isHeld, effective, noType}
 use Rattle.definitions.specs.Class.{classOf, greatestClass}
 use Rattle.definitions.specs.Join.{Column, Joined, absent, rowsOf, stackedFrom, rowOrder, termsOf, cellOf, encode, joinedType, joinedClass, joinedColumn, joinRules}
 use Rattle.definitions.specs.Answer.{presentTypes, answer, joinOf}
 use Rattle.definitions.specs.Book as Book
 use Rattle.definitions.specs.Book.{Standing, first, result, Call, standsAfter, Entry, firstEntry, firstEntries, segmentsAt, originsIn, oneJoin, standingOf, bookAfter, isSegment, handsOnlyStanding, acceptedFrom, allEqual, requiredTypes, isUniform, IsSequenceOf, ResultStands, CalledAt, JoinedInTurn, JoinsInTurnAgree}
-use Rattle.definitions.specs.Outcome.{spaceOf}
-use Rattle.definitions.proofs.Sections.{flatten-back}
+use Rattle.definitions.specs.Outcome.{spaceOf, Lent, inputOf}
+use Rattle.definitions.proofs.Sections.{flatten, flatten-back}
 use Rattle.definitions.proofs.Outcome.{accepted-is}
 use Rattle.definitions.proofs.Summary.{keepsTerm, Same, same-terms, same-type, same-class, OfType, Uniform}
 use Rattle.definitions.proofs.Fit.{any-mem, mem-filter, greatest-ge}
@@ -227,14 +227,23 @@ called firsts segs e sequence mode addresses space at a =
 -- ---- the claim
 
 pub joins-in-turn-agree : JoinsInTurnAgree
-unfolding JoinsInTurnAgree requiredTypes
+unfolding JoinsInTurnAgree requiredTypes inputOf flatten
 joins-in-turn-agree firsts calls segs hands uni =
     record {
       answers = ap (Book.answersOf calls) (sym start) ∙ all-agree .answers;
       standing = ap (standsAfter calls) (sym start) ∙ all-agree .standing;
       anySequence = λ e sequence r seq. sequence-same e sequence r seq;
       whereCalled = λ e sequence mode addresses buffers n r seq at a.
-          let o = accepted-is (flatten mode (e .required) (segmentsAt firsts sequence) addresses (spaceOf buffers)) buffers n a in
+          let l : Lent =
+          record {
+            mode = mode;
+            required = e .required;
+            records = map recordOf (segmentsAt firsts sequence);
+            sections = sectionsOf (segmentsAt firsts sequence);
+            addresses = addresses;
+            buffers = buffers;
+          } in
+          let o = accepted-is l n a in
           o .1 ∙ called firsts segs e sequence mode addresses (spaceOf buffers) at (o .0) ∙ sequence-same e sequence r seq;
     }
   where

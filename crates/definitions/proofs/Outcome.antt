@@ -8,10 +8,10 @@ use lib.ListN.{length, take, drop, length-map}
 use lib.Seq.{take-append-seam, take-at}
 use lib.Dec.{T, eqb, eqb→eq}
 use Rattle.definitions.specs.Lists.{concat}
-use Rattle.definitions.specs.Segment.{Input, cut}
+use Rattle.definitions.specs.Segment.{cut}
 use Rattle.definitions.specs.Join.{Column, Joined}
 use Rattle.definitions.specs.Answer.{answer, joinOf}
-use Rattle.definitions.specs.Outcome.{Buffers, Numbers, Answer, accepted, refused, Outcome, numberOf, written, numbersOf, refusedBuffers, acceptedBuffers, joinOutcome, readBack}
+use Rattle.definitions.specs.Outcome.{Buffers, Numbers, Answer, accepted, refused, Outcome, numberOf, written, numbersOf, refusedBuffers, acceptedBuffers, Lent, inputOf, joinOutcome, readBack}
 use Rattle.definitions.proofs.Sections.{cut-concat}
 
 -- the terms stand in their two outputs
@@ -35,28 +35,24 @@ read-back j b =
       terms = terms-back (j .column .terms) (b .termLengths) (b .termBytes) i;
     }
 
--- the answer by the table's number
-abbrev byNumber : Joined → ℕ → Answer
-byNumber j n = cond (eqb n 0) (accepted (numbersOf j)) (refused n)
-
 -- its number is the table's
-pub number-is : (i : Input) (b : Buffers) → numberOf (joinOutcome i b .answer) ≡ answer i
+pub number-is : (l : Lent) → numberOf (joinOutcome l .answer) ≡ answer (inputOf l)
 unfolding joinOutcome
-number-is i b = go (answer i) (eqb (answer i) 0) refl
+number-is l = go (answer (inputOf l)) (eqb (answer (inputOf l)) 0) refl
   where
-    go : (n : ℕ) (t : Bool) → eqb n 0 ≡ t → numberOf (cond t (accepted (numbersOf (joinOf i))) (refused n)) ≡ n
+    go : (n : ℕ) (t : Bool) → eqb n 0 ≡ t → numberOf (cond t (accepted (numbersOf (joinOf (inputOf l)))) (refused n)) ≡ n
     go n true e = sym (eqb→eq n 0 (subst T (sym e) tt))
     go n false e = refl
 
 -- an outcome that is accepted: the table's answer is 0, and the column is the join's
-pub accepted-is : (i : Input) (b : Buffers) (n : Numbers) → joinOutcome i b .answer ≡ accepted n
-    → (answer i ≡ 0) × (readBack n (joinOutcome i b .buffers) ≡ joinOf i .column)
+pub accepted-is : (l : Lent) (n : Numbers) → joinOutcome l .answer ≡ accepted n
+    → (answer (inputOf l) ≡ 0) × (readBack n (joinOutcome l .buffers) ≡ joinOf (inputOf l) .column)
 unfolding joinOutcome
-accepted-is i b n = go (eqb (answer i) 0) refl
+accepted-is l n = go (eqb (answer (inputOf l)) 0) refl
   where
-    go : (t : Bool) → eqb (answer i) 0 ≡ t → cond t (accepted (numbersOf (joinOf i))) (refused (answer i)) ≡ accepted n
-        → (answer i ≡ 0) × (readBack n (cond t (acceptedBuffers (joinOf i) b) (refusedBuffers b)) ≡ joinOf i .column)
+    go : (t : Bool) → eqb (answer (inputOf l)) 0 ≡ t → cond t (accepted (numbersOf (joinOf (inputOf l)))) (refused (answer (inputOf l))) ≡ accepted n
+        → (answer (inputOf l) ≡ 0) × (readBack n (cond t (acceptedBuffers (joinOf (inputOf l)) (l .buffers)) (refusedBuffers (l .buffers))) ≡ joinOf (inputOf l) .column)
     go true e p =
-        let q : numbersOf (joinOf i) ≡ n = cc in
-        (eqb→eq (answer i) 0 (subst T (sym e) tt), ap (λ (m : Numbers). readBack m (acceptedBuffers (joinOf i) b)) (sym q) ∙ read-back (joinOf i) b)
+        let q : numbersOf (joinOf (inputOf l)) ≡ n = cc in
+        (eqb→eq (answer (inputOf l)) 0 (subst T (sym e) tt), ap (λ (m : Numbers). readBack m (acceptedBuffers (joinOf (inputOf l)) (l .buffers))) (sym q) ∙ read-back (joinOf (inputOf l)) (l .buffers))
     go false e p = absurd (let z : _≡_ {A = ℕ} 0 1 = cc in omega arith)

@@ -8,7 +8,7 @@ use lib.Seq.{take-append-seam, drop-append-seam, take-at, drop-at}
 use lib.Dec.{T, eqb, eqb→eq}
 use lib.Ieee.Fits.{and-l, and-r}
 use Rattle.definitions.specs.Lists.{sum, concat, all}
-use Rattle.definitions.specs.Segment.{Segment, Sections, SegmentRecord, Address, Space, aliveWords, cut, firstSegment, afterFirst, segmentsFrom, segmentsOf, recordOf, sectionsOf, flatten}
+use Rattle.definitions.specs.Segment.{Segment, Sections, SegmentRecord, Address, Space, aliveWords, cut, firstSegment, afterFirst, segmentsFrom, segmentsOf, recordOf, sectionsOf, Input}
 use Rattle.definitions.specs.Book.{isSegment}
 
 length-concat : (ls : List (List ℕ)) → length (concat ls) ≡ sum (map length ls)
@@ -85,6 +85,18 @@ segments-back [] h = refl
 segments-back (s ∷ ss) h =
     ap₂ (λ (x : Segment) (l : List Segment). x ∷ l) (first-back s ss (and-l (isSegment s) (all isSegment ss) h))
     (ap (segmentsFrom (map recordOf ss)) (after-back s ss (and-l (isSegment s) (all isSegment ss) h)) ∙ segments-back ss (and-r (isSegment s) (all isSegment ss) h))
+
+-- segments laid out as an input
+unfoldable pub flatten : ℕ → ℕ → List Segment → List Address → Space → Input
+flatten mode required ss addresses space =
+    record {
+      mode = mode;
+      required = required;
+      records = map recordOf ss;
+      sections = sectionsOf ss;
+      addresses = addresses;
+      space = space;
+    }
 
 pub flatten-back : (mode required : ℕ) (ss : List Segment) (addresses : List Address) (space : Space) → T (all isSegment ss)
     → segmentsOf (flatten mode required ss addresses space) ≡ ss

@@ -10,13 +10,13 @@ use lib.Dec.{T, eqb, ltb, ltb→lt, eqb→eq, eqb-refl}
 use lib.Ieee.Fits.{and-i, and-l, and-r}
 use lib.Ieee.Bits.{is-true}
 use Rattle.definitions.specs.Lists.{all, any, elem, concat}
-use Rattle.definitions.specs.Segment.{Segment, Address, Space, Input, aliveWords, segmentsOf, recordOf, flatten}
+use Rattle.definitions.specs.Segment.{Segment, Address, Space, Input, aliveWords, segmentsOf, recordOf, sectionsOf}
 use Rattle.definitions.specs.Row.{isPresent, noType}
 use Rattle.definitions.specs.Join.{Column, Joined, absent, stackedFrom, rowOrder, joinedColumn, joinRules, asSegment}
 use Rattle.definitions.specs.Answer.{listsFit, valuesFit, allCoercible, answer, joinOf}
-use Rattle.definitions.specs.Outcome.{Buffers, Answer, accepted, refused, Outcome, numberOf, spaceOf, numbersOf, refusedBuffers, acceptedBuffers, joinOutcome, readBack}
-use Rattle.definitions.specs.Book.{Standing, first, result, segmentIn, Call, inputOf, handedOf, leftFrom, callInput, callOutcome, callAnswer, afterAnswer, afterCall, answersOf, standsAfter, Entry, noEntry, firstEntry, firstEntries, oneJoin, standingOf, joinedEntry, bookAnswer, bookAfterCall, bookAnswersFrom, bookAfterFrom, isSegment, areDistinct, handsOnlyStanding, acceptedFrom}
-use Rattle.definitions.proofs.Sections.{flatten-back}
+use Rattle.definitions.specs.Outcome.{Buffers, Answer, accepted, refused, Outcome, numberOf, spaceOf, numbersOf, refusedBuffers, acceptedBuffers, Lent, inputOf, joinOutcome, readBack}
+use Rattle.definitions.specs.Book.{Standing, first, result, segmentIn, Call, lentTo, handedOf, leftFrom, callLent, callOutcome, callAnswer, afterAnswer, afterCall, answersOf, standsAfter, Entry, noEntry, firstEntry, firstEntries, oneJoin, standingOf, joinedEntry, bookAnswer, bookAfterCall, bookAnswersFrom, bookAfterFrom, isSegment, areDistinct, handsOnlyStanding, acceptedFrom}
+use Rattle.definitions.proofs.Sections.{flatten, flatten-back}
 use Rattle.definitions.proofs.Outcome.{read-back, number-is}
 use Rattle.definitions.proofs.Summary.{Uniform}
 use Rattle.definitions.proofs.Fit.{and3}
@@ -59,23 +59,26 @@ left-mem n places (y ∷ ys) {x} m = go (elem n places) m (λ k. left-mem (suc n
 
 -- ---- a call, by the table's answer and the join's column
 
-answer-is : (c : Call) (standing : List Standing) → callAnswer c standing ≡ answer (callInput c standing)
+answer-is : (c : Call) (standing : List Standing) → callAnswer c standing ≡ answer (inputOf (callLent c standing))
 unfolding callAnswer callOutcome
-answer-is c standing = number-is (callInput c standing) (c .buffers)
+answer-is c standing = number-is (callLent c standing)
 
 after-is : (c : Call) (standing : List Standing)
     → afterCall c standing
-    ≡ cond (eqb (answer (callInput c standing)) 0) (leftFrom 0 (c .handed) standing ++ (result (joinOf (callInput c standing) .column) ∷ [])) standing
+    ≡ cond (eqb (answer (inputOf (callLent c standing))) 0) (leftFrom 0 (c .handed) standing ++ (result (joinOf (inputOf (callLent c standing)) .column) ∷ [])) standing
 unfolding afterCall callOutcome joinOutcome
 after-is c standing = go (eqb (answer i) 0)
   where
     i : Input
-    i = callInput c standing
+    i = inputOf (callLent c standing)
+
+    b : Buffers
+    b = callLent c standing .buffers
 
     go : (t : Bool)
-        → afterAnswer c standing (cond t (acceptedBuffers (joinOf i) (c .buffers)) (refusedBuffers (c .buffers))) (cond t (accepted (numbersOf (joinOf i))) (refused (answer i)))
+        → afterAnswer c standing (cond t (acceptedBuffers (joinOf i) b) (refusedBuffers b)) (cond t (accepted (numbersOf (joinOf i))) (refused (answer i)))
         ≡ cond t (leftFrom 0 (c .handed) standing ++ (result (joinOf i .column) ∷ [])) standing
-    go true = ap (λ (x : Column). leftFrom 0 (c .handed) standing ++ (result x ∷ [])) (read-back (joinOf i) (c .buffers))
+    go true = ap (λ (x : Column). leftFrom 0 (c .handed) standing ++ (result x ∷ [])) (read-back (joinOf i) b)
     go false = refl
 
 result-segment : (c : Column) → T (isSegment (asSegment c))
@@ -121,11 +124,11 @@ module _ (firsts : List Segment) (segs : T (all isSegment firsts)) (required u :
         ∙ map-twice segmentIn stand es
 
     abbrev input : Input
-    input = inputOf c (map (segOf firsts) es)
+    input = inputOf (lentTo c (map (segOf firsts) es))
 
-    input-same : callInput c (map stand book) ≡ input
-    unfolding callInput
-    input-same = ap (inputOf c) handed-same
+    input-same : inputOf (callLent c (map stand book)) ≡ input
+    unfolding callLent
+    input-same = ap (λ (ss : List Segment). inputOf (lentTo c ss)) handed-same
 
     answer-same : callAnswer c (map stand book) ≡ bookAnswer firsts c book
     unfolding bookAnswer
@@ -135,7 +138,7 @@ module _ (firsts : List Segment) (segs : T (all isSegment firsts)) (required u :
     call-zero e = answer-is c (map stand book) ∙ ap answer input-same ∙ e
 
     back : segmentsOf input ≡ map (segOf firsts) es
-    unfolding inputOf
+    unfolding inputOf lentTo flatten
     back = flatten-back (c .mode) (c .required) (map (segOf firsts) es) (c .addresses) (spaceOf (c .buffers)) (all-map isSegment (segOf firsts) es seg-ok)
 
     abbrev partSegments : List Segment
@@ -148,16 +151,16 @@ module _ (firsts : List Segment) (segs : T (all isSegment firsts)) (required u :
     passed e = subst (Passed input) (back ∙ to-parts) (all-passed input e)
 
     column-same : joinOf input .column ≡ joinedColumn (c .required) partSegments (rowOrder (c .mode) partSegments (c .addresses))
-    unfolding joinRules inputOf flatten
+    unfolding joinRules inputOf lentTo
     column-same = ap (λ (ss : List Segment). joinedColumn (c .required) ss (rowOrder (c .mode) ss (c .addresses))) (back ∙ to-parts)
 
     module _ (q : answer input ≡ 0 → c .required ≡ required) where
       lists-by : answer input ≡ 0 → Lists partSegments (cond (eqb (c .mode) 0) (stackedFrom 0 partSegments) (c .addresses))
-      unfolding inputOf flatten rowOrder
+      unfolding inputOf lentTo rowOrder
       lists-by e = lists-order input partSegments (passed e)
 
       coercible-by : answer input ≡ 0 → T (allCoercible required partSegments)
-      unfolding inputOf flatten
+      unfolding inputOf lentTo
       coercible-by e = subst (λ (n : ℕ). T (allCoercible n partSegments)) (q e) (passed e .coercible)
 
       -- the result is the new entry's one join

@@ -7,11 +7,11 @@ use mathlib.Core.Bool.{Bool, true, false, _&&_, _||_, cond, not}
 use lib.ListN.{length, getD}
 use lib.Dec.{T, eqb, ltb}
 use Rattle.definitions.specs.Lists.{all, count, elem, concat}
-use Rattle.definitions.specs.Segment.{Segment, Address, Input, aliveWords, recordOf, flatten}
+use Rattle.definitions.specs.Segment.{Segment, Address, aliveWords, recordOf, sectionsOf}
 use Rattle.definitions.specs.Row.{noType}
 use Rattle.definitions.specs.Join.{Column, absent, rowsOf, stackedFrom, joinedColumn, asSegment}
 use Rattle.definitions.specs.Answer.{answer, presentTypes}
-use Rattle.definitions.specs.Outcome.{Buffers, Numbers, Answer, accepted, refused, Outcome, numberOf, spaceOf, joinOutcome, readBack}
+use Rattle.definitions.specs.Outcome.{Buffers, Numbers, Answer, accepted, refused, Outcome, numberOf, Lent, inputOf, joinOutcome, readBack}
 
 -- ---- calls
 
@@ -23,9 +23,17 @@ pub record Call : Type 0 where
   pub addresses : List Address
   pub buffers : Buffers
 
--- the input of a call that is handed these segments
-unfoldable pub inputOf : Call → List Segment → Input
-inputOf c ss = flatten (c .mode) (c .required) ss (c .addresses) (spaceOf (c .buffers))
+-- what the joiner is lent in a call that hands it these segments, laid out in sections
+unfoldable pub lentTo : Call → List Segment → Lent
+lentTo c ss =
+    record {
+      mode = c .mode;
+      required = c .required;
+      records = map recordOf ss;
+      sections = sectionsOf ss;
+      addresses = c .addresses;
+      buffers = c .buffers;
+    }
 
 module _ {A : Type 0} where
   -- the entries at the places handed over; d stands for one that is not there
@@ -49,12 +57,12 @@ abbrev pub segmentIn : Standing → Segment
 segmentIn (first s) = s
 segmentIn (result c) = asSegment c
 
-unfoldable pub callInput : Call → List Standing → Input
-callInput c standing = inputOf c (map segmentIn (handedOf (first absent) (c .handed) standing))
+unfoldable pub callLent : Call → List Standing → Lent
+callLent c standing = lentTo c (map segmentIn (handedOf (first absent) (c .handed) standing))
 
 -- what the joiner gives and leaves
 unfoldable pub callOutcome : Call → List Standing → Outcome
-callOutcome c standing = joinOutcome (callInput c standing) (c .buffers)
+callOutcome c standing = joinOutcome (callLent c standing)
 
 unfoldable pub callAnswer : Call → List Standing → ℕ
 callAnswer c standing = numberOf (callOutcome c standing .answer)
@@ -136,7 +144,7 @@ joinedEntry c es =
 
 -- the book finds each answer itself by the table
 unfoldable pub bookAnswer : List Segment → Call → List Entry → ℕ
-bookAnswer firsts c book = answer (inputOf c (map (λ e. segmentIn (standingOf firsts e)) (handedOf noEntry (c .handed) book)))
+bookAnswer firsts c book = answer (inputOf (lentTo c (map (λ e. segmentIn (standingOf firsts e)) (handedOf noEntry (c .handed) book))))
 
 unfoldable pub bookAfterCall : List Segment → Call → List Entry → List Entry
 bookAfterCall firsts c book =
@@ -213,12 +221,20 @@ pub record CalledAt (firsts : List Segment) (e : Entry) (sequence : List ℕ) (m
 
 abbrev pub oneCall : List Segment → Entry → List ℕ → ℕ → List Address → Buffers → Outcome
 oneCall firsts e sequence mode addresses buffers =
-    joinOutcome (flatten mode (e .required) (segmentsAt firsts sequence) addresses (spaceOf buffers)) buffers
+    joinOutcome
+    (record {
+      mode = mode;
+      required = e .required;
+      records = map recordOf (segmentsAt firsts sequence);
+      sections = sectionsOf (segmentsAt firsts sequence);
+      addresses = addresses;
+      buffers = buffers;
+    })
 
 pub record JoinedInTurn (firsts : List Segment) (calls : List Call) : Type 0 where
   -- every answer is the book's
   pub answers : answersOf calls (map first firsts) ≡ bookAnswers firsts calls
-  -- what stands is what the book takes to stand: each result is the one join of its sources
+  -- what stands is what the book takes to stand: each result is the one join of its sources. (One that was handed on later stands after a shorter list.)
   pub standing : standsAfter calls (map first firsts) ≡ map (standingOf firsts) (bookAfter firsts calls)
   -- the sources may be taken in any sequence
   pub anySequence :

@@ -6,15 +6,15 @@ use mathlib.Core.List.{List, [], _∷_, map}
 use mathlib.Core.Bool.{Bool, true, false}
 use lib.ListN.{length, take, replicate}
 use lib.Ieee.{ofInt, toBits}
-use Rattle.definitions.specs.Segment.{Segment, SegmentRecord, Sections, Address, Input, aliveWords, firstSegment, afterFirst, segmentsOf, recordOf, sectionsOf, flatten}
+use Rattle.definitions.specs.Segment.{Segment, SegmentRecord, Sections, Address, aliveWords, firstSegment, afterFirst, segmentsOf, recordOf, sectionsOf}
 use Rattle.definitions.specs.Row.{rowValues, bitAt, isAlive, aliveRows, isDropped, isHeld, heldOf, asEmpty, effective, noType}
 use Rattle.definitions.specs.Types.{isKnownType, isNumerical, hasTerms, sameCategory, hasType, everyValue, onlyType, numericalType, typeOf, signedOf, integerOf, doubleOf, coerced, isCoercible}
 use Rattle.definitions.specs.Class.{kindClass, aliveClass, classOf, greatestClass}
 use Rattle.definitions.specs.Join.{Column, rowOrder, isUsed, keptTerms, termsOf, ordinalOf, mapOf, newWord, cellOf, encode, joinedType, joinedClass, joinedCells, joinedColumn, joinRules, kindOf, asSegment}
 use Rattle.definitions.specs.Answer.{tooManySegments, lengthsWrong, codesKnown, noColumnIsBare, segmentCodesWrong, codesWrong, idsFit, offsetsFit, emptyFits, fullFits, optionalFits, oldFits, newFits, listsFit, listsWrong, valuesFit, valuesWrong, bitPastRows, aliveWrong, sumsTooLarge, workingTooSmall, isAliveAt, aliveAddresses, listsAliveRows, addressesWrong, presentTypes, oneCategory, allCoercible, typesWrong, outputTooShort, answer}
-use Rattle.definitions.specs.Outcome.{Buffers, Numbers, Answer, accepted, refused, Outcome, numberOf, spaceOf, numbersOf, refusedBuffers, acceptedBuffers, joinOutcome, readBack}
-use Rattle.definitions.specs.TimeOrder.{TimeInput, TimeAnswer, ordered, unordered, TimeOutcome, keyOf, isBefore, timeOrder, timesWrong, timeSegments, timeAnswer, timeOutcome}
-use Rattle.definitions.specs.Book.{Call, Standing, first, result, Entry, inputOf, callInput, callOutcome, callAnswer, afterCall, answersOf, standsAfter, firstEntry, oneJoin, standingOf, joinedEntry, bookAnswer, bookAfterCall, bookAnswers, bookAfter}
+use Rattle.definitions.specs.Outcome.{Buffers, Numbers, Answer, accepted, refused, Outcome, numberOf, spaceOf, numbersOf, refusedBuffers, acceptedBuffers, Lent, inputOf, joinOutcome, readBack}
+use Rattle.definitions.specs.TimeOrder.{TimeInput, TimeAnswer, ordered, unordered, timeNumberOf, TimeOutcome, keyOf, isBefore, timeOrder, timesWrong, timeSegments, timeAnswer, timeOutcome}
+use Rattle.definitions.specs.Book.{Call, Standing, first, result, Entry, lentTo, callLent, callOutcome, callAnswer, afterCall, answersOf, standsAfter, firstEntry, oneJoin, standingOf, joinedEntry, bookAnswer, bookAfterCall, bookAnswers, bookAfter}
 
 -- ---- how the tables are written
 
@@ -42,8 +42,8 @@ at : ℕ → ℕ → Address
 at s r = record { segment = s; row = r }
 
 -- lent memory: so many elements of each output, and so many working bytes. None of it is zero
-lent : ℕ → ℕ → Buffers
-lent n working =
+memory : ℕ → ℕ → Buffers
+memory n working =
     record {
       ids = replicate n 9;
       offsets = replicate n 9;
@@ -54,19 +54,16 @@ lent n working =
       working = replicate working 9;
     }
 
--- a call of the joiner: the input but for its space, and what is lent
-record Question : Type 0 where
-  input : Input
-  memory : Buffers
+-- a call of the joiner: mode, required type, segments, addresses and lent memory
+asked : ℕ → ℕ → List Segment → List Address → Buffers → Lent
+asked mode required ss addresses b =
+    record { mode = mode; required = required; records = map recordOf ss; sections = sectionsOf ss; addresses = addresses; buffers = b }
 
-asked : ℕ → ℕ → List Segment → List Address → Buffers → Question
-asked mode required ss addresses b = record { input = flatten mode required ss addresses (spaceOf b); memory = b }
+stacked : ℕ → List Segment → Lent
+stacked required ss = asked 0 required ss [] (memory 12 12)
 
-stacked : ℕ → List Segment → Question
-stacked required ss = asked 0 required ss [] (lent 12 12)
-
-inOrder : ℕ → List Segment → List Address → Question
-inOrder required ss addresses = asked 1 required ss addresses (lent 12 12)
+inOrder : ℕ → List Segment → List Address → Lent
+inOrder required ss addresses = asked 1 required ss addresses (memory 12 12)
 
 -- what a listing shows: the answer, and the column and the map as they stand in the outputs
 record Sheet : Type 0 where
@@ -82,9 +79,9 @@ sheetBy b (accepted n) = record { answer = 0; column = readBack n b; map = take 
 sheetBy b (refused k) = record { answer = k; column = noColumn; map = [] }
 
 -- every definition is opened here, once
-sheetOf : Question → Sheet
-unfolding ofInt toBits aliveWords firstSegment afterFirst segmentsOf recordOf sectionsOf flatten rowValues bitAt isAlive aliveRows isDropped isHeld heldOf asEmpty effective isKnownType isNumerical hasTerms sameCategory hasType everyValue onlyType numericalType typeOf signedOf integerOf doubleOf coerced isCoercible kindClass aliveClass classOf greatestClass rowOrder isUsed keptTerms termsOf ordinalOf mapOf newWord cellOf encode joinedType joinedClass joinedCells joinedColumn joinRules tooManySegments lengthsWrong codesKnown noColumnIsBare segmentCodesWrong codesWrong idsFit offsetsFit emptyFits fullFits optionalFits oldFits newFits listsFit listsWrong valuesFit valuesWrong bitPastRows aliveWrong sumsTooLarge workingTooSmall isAliveAt aliveAddresses listsAliveRows addressesWrong presentTypes oneCategory allCoercible typesWrong outputTooShort answer spaceOf numbersOf refusedBuffers acceptedBuffers joinOutcome readBack noColumn
-sheetOf q = sheetBy (joinOutcome (q .input) (q .memory) .buffers) (joinOutcome (q .input) (q .memory) .answer)
+sheetOf : Lent → Sheet
+unfolding ofInt toBits aliveWords firstSegment afterFirst segmentsOf recordOf sectionsOf rowValues bitAt isAlive aliveRows isDropped isHeld heldOf asEmpty effective isKnownType isNumerical hasTerms sameCategory hasType everyValue onlyType numericalType typeOf signedOf integerOf doubleOf coerced isCoercible kindClass aliveClass classOf greatestClass rowOrder isUsed keptTerms termsOf ordinalOf mapOf newWord cellOf encode joinedType joinedClass joinedCells joinedColumn joinRules tooManySegments lengthsWrong codesKnown noColumnIsBare segmentCodesWrong codesWrong idsFit offsetsFit emptyFits fullFits optionalFits oldFits newFits listsFit listsWrong valuesFit valuesWrong bitPastRows aliveWrong sumsTooLarge workingTooSmall isAliveAt aliveAddresses listsAliveRows addressesWrong presentTypes oneCategory allCoercible typesWrong outputTooShort answer spaceOf numbersOf refusedBuffers acceptedBuffers inputOf joinOutcome readBack noColumn
+sheetOf l = sheetBy (joinOutcome l .buffers) (joinOutcome l .answer)
 
 -- type, class, rows, ids, offsets, values, terms, map
 accepts : ℕ → ℕ → ℕ → List ℕ → List ℕ → List ℕ → List (List ℕ) → List ℕ → Sheet
@@ -95,11 +92,11 @@ refuses : ℕ → Sheet
 refuses n = record { answer = n; column = noColumn; map = [] }
 
 record Case : Type 0 where
-  question : Question
+  lent : Lent
   expected : Sheet
 
-case : Question → Sheet → Case
-case q s = record { question = q; expected = s }
+case : Lent → Sheet → Case
+case l s = record { lent = l; expected = s }
 
 -- ---- C1 to C12
 
@@ -157,8 +154,8 @@ cases =
     (accepts 4 0 1 [] [] (0 ∷ []) (b ∷ []) (0 ∷ 0 ∷ []))
     ∷ []
 
-cases-hold : map (λ c. sheetOf (c .question)) cases ≡ map (λ c. c .expected) cases
-unfolding sheetOf plain withAlive at lent asked stacked inOrder accepts refuses noColumn case a b five nine one cases
+cases-hold : map (λ c. sheetOf (c .lent)) cases ≡ map (λ c. c .expected) cases
+unfolding sheetOf plain withAlive at memory asked stacked inOrder accepts refuses noColumn case a b five nine one cases
 cases-hold = refl
 
 -- ---- the four slips that document 01 names
@@ -177,8 +174,8 @@ slips =
     (accepts 4 0 2 [] [] (1 ∷ 0 ∷ []) ((97 ∷ 97 ∷ []) ∷ b ∷ []) (1 ∷ 0 ∷ []))
     ∷ []
 
-slips-hold : map (λ c. sheetOf (c .question)) slips ≡ map (λ c. c .expected) slips
-unfolding sheetOf plain withAlive at lent asked stacked inOrder accepts case a b five nine one slips
+slips-hold : map (λ c. sheetOf (c .lent)) slips ≡ map (λ c. c .expected) slips
+unfolding sheetOf plain withAlive at memory asked stacked inOrder accepts case a b five nine one slips
 slips-hold = refl
 
 -- ---- corners beside them
@@ -198,20 +195,20 @@ corners =
     ∷ case (stacked 255 (plain 5 2 1 [] [] [] [] ∷ one 1 5 ∷ [])) (refuses 10)
     ∷ []
 
-corners-hold : map (λ c. sheetOf (c .question)) corners ≡ map (λ c. c .expected) corners
-unfolding sheetOf plain withAlive at lent asked stacked inOrder accepts refuses noColumn case a b one corners
+corners-hold : map (λ c. sheetOf (c .lent)) corners ≡ map (λ c. c .expected) corners
+unfolding sheetOf plain withAlive at memory asked stacked inOrder accepts refuses noColumn case a b one corners
 corners-hold = refl
 
 -- ---- all that a call leaves in the lent memory: C1's outputs, and a refusal's
 
 -- C1 with nines in every place, and its refusal for want of space: no element beyond the lists changes, and the working bytes are zero
 memories : List Buffers
-unfolding ofInt toBits aliveWords firstSegment afterFirst segmentsOf recordOf sectionsOf flatten rowValues bitAt isAlive aliveRows isDropped isHeld heldOf asEmpty effective isKnownType isNumerical hasTerms sameCategory hasType everyValue onlyType numericalType typeOf signedOf integerOf doubleOf coerced isCoercible kindClass aliveClass classOf greatestClass rowOrder isUsed keptTerms termsOf ordinalOf mapOf newWord cellOf encode joinedType joinedClass joinedCells joinedColumn joinRules tooManySegments lengthsWrong codesKnown noColumnIsBare segmentCodesWrong codesWrong idsFit offsetsFit emptyFits fullFits optionalFits oldFits newFits listsFit listsWrong valuesFit valuesWrong bitPastRows aliveWrong sumsTooLarge workingTooSmall isAliveAt aliveAddresses listsAliveRows addressesWrong presentTypes oneCategory allCoercible typesWrong outputTooShort answer spaceOf numbersOf refusedBuffers acceptedBuffers joinOutcome readBack lent asked plain a b
-memories = map (λ n. joinOutcome (question n .input) (question n .memory) .buffers) (4 ∷ 2 ∷ [])
+unfolding ofInt toBits aliveWords firstSegment afterFirst segmentsOf recordOf sectionsOf rowValues bitAt isAlive aliveRows isDropped isHeld heldOf asEmpty effective isKnownType isNumerical hasTerms sameCategory hasType everyValue onlyType numericalType typeOf signedOf integerOf doubleOf coerced isCoercible kindClass aliveClass classOf greatestClass rowOrder isUsed keptTerms termsOf ordinalOf mapOf newWord cellOf encode joinedType joinedClass joinedCells joinedColumn joinRules tooManySegments lengthsWrong codesKnown noColumnIsBare segmentCodesWrong codesWrong idsFit offsetsFit emptyFits fullFits optionalFits oldFits newFits listsFit listsWrong valuesFit valuesWrong bitPastRows aliveWrong sumsTooLarge workingTooSmall isAliveAt aliveAddresses listsAliveRows addressesWrong presentTypes oneCategory allCoercible typesWrong outputTooShort answer spaceOf numbersOf refusedBuffers acceptedBuffers inputOf joinOutcome readBack memory asked plain a b
+memories = map (λ n. joinOutcome (question n) .buffers) (4 ∷ 2 ∷ [])
   where
-    question : ℕ → Question
+    question : ℕ → Lent
     question n =
-        asked 0 255 (plain 4 2 2 (1 ∷ []) [] (0 ∷ []) (b ∷ []) ∷ plain 4 1 2 [] [] (1 ∷ 0 ∷ []) (a ∷ b ∷ []) ∷ []) [] (lent n 3)
+        asked 0 255 (plain 4 2 2 (1 ∷ []) [] (0 ∷ []) (b ∷ []) ∷ plain 4 1 2 [] [] (1 ∷ 0 ∷ []) (a ∷ b ∷ []) ∷ []) [] (memory n 3)
 
 leftBehind : List Buffers
 leftBehind =
@@ -246,7 +243,7 @@ timesOf ss space = record { records = map recordOf ss; sections = sectionsOf ss;
 
 -- a call that is lent an output of so many addresses (9, 9)
 timeSheetOf : List Segment → ℕ → TimeOutcome
-unfolding ofInt toBits aliveWords firstSegment afterFirst segmentsOf recordOf sectionsOf flatten rowValues bitAt isAlive aliveRows isDropped isHeld heldOf asEmpty effective isKnownType isNumerical hasTerms sameCategory hasType everyValue onlyType numericalType typeOf signedOf integerOf doubleOf coerced isCoercible kindClass aliveClass classOf greatestClass rowOrder isUsed keptTerms termsOf ordinalOf mapOf newWord cellOf encode joinedType joinedClass joinedCells joinedColumn joinRules tooManySegments lengthsWrong codesKnown noColumnIsBare segmentCodesWrong codesWrong idsFit offsetsFit emptyFits fullFits optionalFits oldFits newFits listsFit listsWrong valuesFit valuesWrong bitPastRows aliveWrong sumsTooLarge workingTooSmall isAliveAt aliveAddresses listsAliveRows addressesWrong presentTypes oneCategory allCoercible typesWrong outputTooShort answer spaceOf numbersOf refusedBuffers acceptedBuffers joinOutcome readBack keyOf isBefore timeOrder timesWrong timeSegments timeAnswer timeOutcome timesOf at
+unfolding ofInt toBits aliveWords firstSegment afterFirst segmentsOf recordOf sectionsOf rowValues bitAt isAlive aliveRows isDropped isHeld heldOf asEmpty effective isKnownType isNumerical hasTerms sameCategory hasType everyValue onlyType numericalType typeOf signedOf integerOf doubleOf coerced isCoercible kindClass aliveClass classOf greatestClass rowOrder isUsed keptTerms termsOf ordinalOf mapOf newWord cellOf encode joinedType joinedClass joinedCells joinedColumn joinRules tooManySegments lengthsWrong codesKnown noColumnIsBare segmentCodesWrong codesWrong idsFit offsetsFit emptyFits fullFits optionalFits oldFits newFits listsFit listsWrong valuesFit valuesWrong bitPastRows aliveWrong sumsTooLarge workingTooSmall isAliveAt aliveAddresses listsAliveRows addressesWrong presentTypes oneCategory allCoercible typesWrong outputTooShort answer spaceOf numbersOf refusedBuffers acceptedBuffers inputOf joinOutcome readBack keyOf isBefore timeOrder timesWrong timeSegments timeAnswer timeOutcome timesOf at
 timeSheetOf ss space = timeOutcome (timesOf ss space) (replicate space (at 9 9))
 
 record TimeCase : Type 0 where
@@ -277,31 +274,23 @@ timeCases-hold = refl
 
 -- what is asked: a join, or the time order of some segments with place for so many addresses
 data Example : Type 0 where
-  joins : Question → Example
+  joins : Lent → Example
   orders : List Segment → ℕ → Example
-
-abbrev timeNumberOf : TimeAnswer → ℕ
-timeNumberOf (ordered n) = 0
-timeNumberOf (unordered k) = k
 
 abbrev exampleAnswer : Example → ℕ
 exampleAnswer (joins q) = sheetOf q .answer
 exampleAnswer (orders ss space) = timeNumberOf (timeSheetOf ss space .answer)
 
--- records that announce what the sections do not have
-announced : List SegmentRecord → Question
+-- records with sections that have nothing
+announced : List SegmentRecord → Lent
 announced rs =
     record {
-      input =
-          record {
-            mode = 0;
-            required = 255;
-            records = rs;
-            sections = record { ids = []; offsets = []; values = []; termLengths = []; termBytes = []; alive = [] };
-            addresses = [];
-            space = spaceOf (lent 9 9);
-          };
-      memory = lent 9 9;
+      mode = 0;
+      required = 255;
+      records = rs;
+      sections = record { ids = []; offsets = []; values = []; termLengths = []; termBytes = []; alive = [] };
+      addresses = [];
+      buffers = memory 9 9;
     }
 
 -- a record without lists but for values: type, kind, rows, values
@@ -317,21 +306,21 @@ examples =
     ∷ joins (stacked 255 (plain 4 1 2 [] [] (0 ∷ 1 ∷ []) (b ∷ a ∷ []) ∷ []))
     ∷ joins (inOrder 255 (withAlive (2 ∷ []) (one 1 5) ∷ []) [])
     ∷ joins (announced (bare 255 0 4294967295 0 ∷ []))
-    ∷ joins (asked 1 255 (five ∷ []) [] (lent 9 2))
+    ∷ joins (asked 1 255 (five ∷ []) [] (memory 9 2))
     ∷ joins (inOrder 255 (nine ∷ []) (at 0 0 ∷ at 0 0 ∷ []))
     ∷ joins (stacked 255 (plain 4 1 1 [] [] (0 ∷ []) (a ∷ []) ∷ one 5 1 ∷ []))
-    ∷ joins (asked 0 255 (plain 1 1 2 [] [] (5 ∷ 6 ∷ []) [] ∷ []) [] (lent 1 9))
+    ∷ joins (asked 0 255 (plain 1 1 2 [] [] (5 ∷ 6 ∷ []) [] ∷ []) [] (memory 1 9))
     ∷ orders (plain 7 1 2 [] [] (5 ∷ 4 ∷ []) [] ∷ []) 2
     ∷ []
 
 examples-hold : map exampleAnswer examples ≡ (1 ∷ 2 ∷ 3 ∷ 4 ∷ 5 ∷ 6 ∷ 7 ∷ 8 ∷ 9 ∷ 10 ∷ 11 ∷ 12 ∷ [])
-unfolding sheetOf timeSheetOf plain withAlive at lent asked stacked inOrder noColumn a b five nine one announced bare examples
+unfolding sheetOf timeSheetOf plain withAlive at memory asked stacked inOrder noColumn a b five nine one announced bare examples
 examples-hold = refl
 
 -- ---- joins in turn: a small list of joins against its book
 
 call : List ℕ → ℕ → ℕ → List Address → Call
-call handed mode required addresses = record { handed = handed; mode = mode; required = required; addresses = addresses; buffers = lent 12 12 }
+call handed mode required addresses = record { handed = handed; mode = mode; required = required; addresses = addresses; buffers = memory 12 12 }
 
 -- the answers, and what stands, each as run and by the book
 record Turns : Type 0 where
@@ -341,7 +330,7 @@ record Turns : Type 0 where
   defined : List Standing
 
 turnsOf : List Segment → List Call → Turns
-unfolding kindOf asSegment inputOf callInput callOutcome callAnswer afterCall firstEntry oneJoin standingOf joinedEntry bookAnswer bookAfterCall ofInt toBits aliveWords firstSegment afterFirst segmentsOf recordOf sectionsOf flatten rowValues bitAt isAlive aliveRows isDropped isHeld heldOf asEmpty effective isKnownType isNumerical hasTerms sameCategory hasType everyValue onlyType numericalType typeOf signedOf integerOf doubleOf coerced isCoercible kindClass aliveClass classOf greatestClass rowOrder isUsed keptTerms termsOf ordinalOf mapOf newWord cellOf encode joinedType joinedClass joinedCells joinedColumn joinRules tooManySegments lengthsWrong codesKnown noColumnIsBare segmentCodesWrong codesWrong idsFit offsetsFit emptyFits fullFits optionalFits oldFits newFits listsFit listsWrong valuesFit valuesWrong bitPastRows aliveWrong sumsTooLarge workingTooSmall isAliveAt aliveAddresses listsAliveRows addressesWrong presentTypes oneCategory allCoercible typesWrong outputTooShort answer spaceOf numbersOf refusedBuffers acceptedBuffers joinOutcome readBack lent call
+unfolding kindOf asSegment lentTo callLent callOutcome callAnswer afterCall firstEntry oneJoin standingOf joinedEntry bookAnswer bookAfterCall ofInt toBits aliveWords firstSegment afterFirst segmentsOf recordOf sectionsOf rowValues bitAt isAlive aliveRows isDropped isHeld heldOf asEmpty effective isKnownType isNumerical hasTerms sameCategory hasType everyValue onlyType numericalType typeOf signedOf integerOf doubleOf coerced isCoercible kindClass aliveClass classOf greatestClass rowOrder isUsed keptTerms termsOf ordinalOf mapOf newWord cellOf encode joinedType joinedClass joinedCells joinedColumn joinRules tooManySegments lengthsWrong codesKnown noColumnIsBare segmentCodesWrong codesWrong idsFit offsetsFit emptyFits fullFits optionalFits oldFits newFits listsFit listsWrong valuesFit valuesWrong bitPastRows aliveWrong sumsTooLarge workingTooSmall isAliveAt aliveAddresses listsAliveRows addressesWrong presentTypes oneCategory allCoercible typesWrong outputTooShort answer spaceOf numbersOf refusedBuffers acceptedBuffers inputOf joinOutcome readBack memory call
 turnsOf firsts cs =
     record {
       answers = answersOf cs (map first firsts);
@@ -372,7 +361,7 @@ atEnd =
     result (record { type = 4; class = 1; rows = 5; ids = 0 ∷ 1 ∷ 2 ∷ 3 ∷ []; offsets = []; values = 1 ∷ 1 ∷ 1 ∷ 0 ∷ []; terms = a ∷ b ∷ [] }) ∷ []
 
 turns-hold : turnsOf weeks calls ≡ record { answers = 6 ∷ 0 ∷ 0 ∷ 0 ∷ []; booked = 6 ∷ 0 ∷ 0 ∷ 0 ∷ []; standing = atEnd; defined = atEnd }
-unfolding turnsOf weeks calls call atEnd plain withAlive at lent a b
+unfolding turnsOf weeks calls call atEnd plain withAlive at memory a b
 turns-hold = refl
 
 -- ---- why the claim on joins in turn has a premise: without it the result differs from the one join
@@ -389,7 +378,7 @@ record Need : Type 0 where
   defined : List ℕ
 
 needOf : List Segment → List Call → Need
-unfolding kindOf asSegment inputOf callInput callOutcome callAnswer afterCall firstEntry oneJoin standingOf joinedEntry bookAnswer bookAfterCall ofInt toBits aliveWords firstSegment afterFirst segmentsOf recordOf sectionsOf flatten rowValues bitAt isAlive aliveRows isDropped isHeld heldOf asEmpty effective isKnownType isNumerical hasTerms sameCategory hasType everyValue onlyType numericalType typeOf signedOf integerOf doubleOf coerced isCoercible kindClass aliveClass classOf greatestClass rowOrder isUsed keptTerms termsOf ordinalOf mapOf newWord cellOf encode joinedType joinedClass joinedCells joinedColumn joinRules tooManySegments lengthsWrong codesKnown noColumnIsBare segmentCodesWrong codesWrong idsFit offsetsFit emptyFits fullFits optionalFits oldFits newFits listsFit listsWrong valuesFit valuesWrong bitPastRows aliveWrong sumsTooLarge workingTooSmall isAliveAt aliveAddresses listsAliveRows addressesWrong presentTypes oneCategory allCoercible typesWrong outputTooShort answer spaceOf numbersOf refusedBuffers acceptedBuffers joinOutcome readBack lent call
+unfolding kindOf asSegment lentTo callLent callOutcome callAnswer afterCall firstEntry oneJoin standingOf joinedEntry bookAnswer bookAfterCall ofInt toBits aliveWords firstSegment afterFirst segmentsOf recordOf sectionsOf rowValues bitAt isAlive aliveRows isDropped isHeld heldOf asEmpty effective isKnownType isNumerical hasTerms sameCategory hasType everyValue onlyType numericalType typeOf signedOf integerOf doubleOf coerced isCoercible kindClass aliveClass classOf greatestClass rowOrder isUsed keptTerms termsOf ordinalOf mapOf newWord cellOf encode joinedType joinedClass joinedCells joinedColumn joinRules tooManySegments lengthsWrong codesKnown noColumnIsBare segmentCodesWrong codesWrong idsFit offsetsFit emptyFits fullFits optionalFits oldFits newFits listsFit listsWrong valuesFit valuesWrong bitPastRows aliveWrong sumsTooLarge workingTooSmall isAliveAt aliveAddresses listsAliveRows addressesWrong presentTypes oneCategory allCoercible typesWrong outputTooShort answer spaceOf numbersOf refusedBuffers acceptedBuffers inputOf joinOutcome readBack memory call
 needOf firsts cs =
     record {
       answers = answersOf cs (map first firsts);
@@ -414,5 +403,5 @@ unlikeCalls = call (0 ∷ []) 0 2 [] ∷ call (0 ∷ 1 ∷ []) 0 255 [] ∷ []
 premise-needed :
     (needOf mixed mixedCalls ∷ needOf unlike unlikeCalls ∷ [])
     ≡ (record { answers = 0 ∷ 0 ∷ []; stands = 0 ∷ []; defined = 2 ∷ [] } ∷ record { answers = 0 ∷ 0 ∷ []; stands = 2 ∷ []; defined = 0 ∷ [] } ∷ [])
-unfolding needOf mixed mixedCalls unlike unlikeCalls call plain withAlive at lent one
+unfolding needOf mixed mixedCalls unlike unlikeCalls call plain withAlive at memory one
 premise-needed = refl

@@ -6,7 +6,7 @@ use mathlib.Core.Bool.{Bool, true, false, cond}
 use lib.ListN.{length, take, drop, replicate}
 use lib.Dec.{eqb}
 use Rattle.definitions.specs.Lists.{concat}
-use Rattle.definitions.specs.Segment.{Input, Space, cut}
+use Rattle.definitions.specs.Segment.{SegmentRecord, Sections, Address, Input, Space, cut}
 use Rattle.definitions.specs.Join.{Column, Joined}
 use Rattle.definitions.specs.Answer.{answer, joinOf}
 
@@ -59,6 +59,27 @@ spaceOf b =
       map = length (b .map);
     }
 
+-- what is lent to a call: what the joiner reads, and the memory that it may write
+pub record Lent : Type 0 where
+  pub mode : ℕ
+  pub required : ℕ
+  pub records : List SegmentRecord
+  pub sections : Sections
+  pub addresses : List Address
+  pub buffers : Buffers
+
+-- the input of a call: its space is what the lent memory has
+unfoldable pub inputOf : Lent → Input
+inputOf l =
+    record {
+      mode = l .mode;
+      required = l .required;
+      records = l .records;
+      sections = l .sections;
+      addresses = l .addresses;
+      space = spaceOf (l .buffers);
+    }
+
 -- a list written from the start of an output; what stands beyond it stays
 module _ {A : Type 0} where
   abbrev pub written : List A → List A → List A
@@ -106,12 +127,12 @@ acceptedBuffers j b =
       working = zeroed (b .working);
     }
 
--- the whole outcome of a call that is lent the buffers; the input's space is theirs
-unfoldable pub joinOutcome : Input → Buffers → Outcome
-joinOutcome i b =
+-- the whole outcome of a call
+unfoldable pub joinOutcome : Lent → Outcome
+joinOutcome l =
     record {
-      answer = cond (eqb (answer i) 0) (accepted (numbersOf (joinOf i))) (refused (answer i));
-      buffers = cond (eqb (answer i) 0) (acceptedBuffers (joinOf i) b) (refusedBuffers b);
+      answer = cond (eqb (answer (inputOf l)) 0) (accepted (numbersOf (joinOf (inputOf l)))) (refused (answer (inputOf l)));
+      buffers = cond (eqb (answer (inputOf l)) 0) (acceptedBuffers (joinOf (inputOf l)) (l .buffers)) (refusedBuffers (l .buffers));
     }
 
 -- the column that stands in the output lists, read back by the numbers that the answer gave

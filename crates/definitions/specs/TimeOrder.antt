@@ -24,7 +24,7 @@ pub record TimeInput : Type 0 where
 abbrev pub timeOf : ℕ → ℕ
 timeOf w = (w + 2 ^ 63) % 2 ^ 64
 
--- the key of a row's values: its time, above 0, else the key given
+-- the key of a row's values: its time plus one, so that 0 stays for "before all times"; else the key given
 abbrev pub keyOr : List ℕ → ℕ → ℕ
 keyOr [] k = k
 keyOr (w ∷ ws) k = suc (timeOf w)
@@ -90,6 +90,10 @@ timeAnswer i =
 pub data TimeAnswer : Type 0 where
   ordered : ℕ → TimeAnswer
   unordered : ℕ → TimeAnswer
+
+abbrev pub timeNumberOf : TimeAnswer → ℕ
+timeNumberOf (ordered n) = 0
+timeNumberOf (unordered k) = k
 
 -- what a call gives, and the lent output as it leaves it
 pub record TimeOutcome : Type 0 where
