@@ -23,7 +23,7 @@ map-append : (f : List ℕ → ℕ) (xs ys : List (List ℕ)) → map f (xs ++ y
 map-append f [] ys = refl
 map-append f (x ∷ xs) ys = ap (λ (l : List ℕ). f x ∷ l) (map-append f xs ys)
 
-concat-append : (xs ys : List (List ℕ)) → concat (xs ++ ys) ≡ concat xs ++ concat ys
+pub concat-append : (xs ys : List (List ℕ)) → concat (xs ++ ys) ≡ concat xs ++ concat ys
 concat-append [] ys = refl
 concat-append (x ∷ xs) ys = ap (λ (l : List ℕ). x ++ l) (concat-append xs ys) ∙ sym (append-assoc x (concat xs) (concat ys))
 

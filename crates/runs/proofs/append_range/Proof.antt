@@ -1,14 +1,11 @@
 use borrow.Author.Needs.{needs}
-use native.Mathlib.Omega.{arith}
-use mathlib.Core.Path.{_≡_, refl, sym, ap, _∙_}
-use Prim.Native.Nat.{ℕ, suc, _+_, _-_, _≤_, _<_}
-use lib.ListN.{length, set, getD, length-set}
+use mathlib.Core.Path.{_≡_, refl, _∙_}
+use Prim.Native.Nat.{_-_, _≤_}
+use lib.ListN.{length, length-set}
 use Rattle.definitions.specs.Lists.{upFrom}
 use Rattle.runs.proofs.Laws.{putting, putting-none, putting-next, putting-all, upFrom-length, upFrom-at}
 use Rattle.runs.proofs.append_range.Statement.{statement}
 use Rattle.runs.proofs.append_range.Tie as tie
-use Rattle.runs.proofs.append_range.Reads as reads
-use Rattle.runs.proofs.append_range.Lts as lts
 
 abbrev Inv-loop : tie.InvT-loop
 Inv-loop first n out₀ at j₀ out j = (j ≤ n) × (out ≡ putting at (upFrom first n) out₀ j) × (length out ≡ length out₀)
@@ -16,50 +13,39 @@ Inv-loop first n out₀ at j₀ out j = (j ≤ n) × (out ≡ putting at (upFrom
 abbrev μ-loop : tie.MeasureT-loop
 μ-loop first n out₀ at j₀ out j = n - j
 
--- src/lib.rt:27:5
 loop-holds : tie.Need-loop-holds Inv-loop μ-loop
 loop-holds c = (search needs, putting-none _ _ _, refl)
 
--- src/lib.rt:28:32
 cast-out : tie.Need-cast-out Inv-loop μ-loop
 cast-out c = search needs
 
--- src/lib.rt:28:23
 add-out : tie.Need-add-out Inv-loop μ-loop
 add-out c = search needs
 
--- src/lib.rt:28:13
 add-out-2 : tie.Need-add-out-2 Inv-loop μ-loop
 add-out-2 c = search needs
 
--- src/lib.rt:28:9
 mul-out : tie.Need-mul-out Inv-loop μ-loop
 mul-out c = search needs
 
--- src/lib.rt:28:9
 slice-write-out : tie.Need-slice-write-out Inv-loop μ-loop
 slice-write-out c = search needs
 
--- src/lib.rt:29:9
 add-j : tie.Need-add-j Inv-loop μ-loop
 add-j c = search needs
 
--- src/lib.rt:27:5
 loop-less : tie.Need-loop-less Inv-loop μ-loop
 loop-less c = search needs
 
--- src/lib.rt:27:5
 loop-again : tie.Need-loop-again Inv-loop μ-loop
 loop-again c =
     let l = c .before in
     let s = l .before in
     (search needs, rw (l .loop .inv .1) (putting-next _ _ _ _ _ _ (upFrom-length (s .args .first) (s .args .n)) (s .pre .1) (c .loop-test .taken) (upFrom-at _ _ _ (c .loop-test .taken))), simp length-set (search needs))
 
--- src/lib.rt:21:1
 same-length : tie.Need-same-length Inv-loop μ-loop
 same-length c = search needs
 
--- src/lib.rt:21:1
 returns : tie.Need-returns Inv-loop μ-loop
 returns c =
     let l = c .before in

@@ -1,14 +1,12 @@
 use borrow.Author.Needs.{needs}
 use native.Mathlib.Omega.{arith}
-use mathlib.Core.Path.{_≡_, refl, sym, ap, _∙_}
-use Prim.Native.Nat.{ℕ, suc, _+_, _-_, _≤_, _<_}
-use lib.ListN.{length, set, getD, length-set}
+use mathlib.Core.Path.{_≡_, refl, _∙_}
+use Prim.Native.Nat.{_-_, _≤_}
+use lib.ListN.{length, length-set}
 use Rattle.runs.specs.Put.{shifted}
 use Rattle.runs.proofs.Laws.{putting, putting-none, putting-next, putting-all, shifted-length, shifted-at, shifted-fits}
 use Rattle.runs.proofs.append_shifted.Statement.{statement}
 use Rattle.runs.proofs.append_shifted.Tie as tie
-use Rattle.runs.proofs.append_shifted.Reads as reads
-use Rattle.runs.proofs.append_shifted.Lts as lts
 
 abbrev Inv-loop : tie.InvT-loop
 Inv-loop xs by out₀ at j₀ out j = (j ≤ length xs) × (out ≡ putting at (shifted by xs) out₀ j) × (length out ≡ length out₀)
@@ -16,46 +14,36 @@ Inv-loop xs by out₀ at j₀ out j = (j ≤ length xs) × (out ≡ putting at (
 abbrev μ-loop : tie.MeasureT-loop
 μ-loop xs by out₀ at j₀ out j = length xs - j
 
--- src/lib.rt:40:5
 loop-holds : tie.Need-loop-holds Inv-loop μ-loop
 loop-holds c = (search needs, putting-none _ _ _, refl)
 
--- src/lib.rt:41:28
 mul-out : tie.Need-mul-out Inv-loop μ-loop
 mul-out c = search needs
 
--- src/lib.rt:41:28
 shared-slice-read-out : tie.Need-shared-slice-read-out Inv-loop μ-loop
 shared-slice-read-out c = search needs
 
--- src/lib.rt:41:23
 add-out : tie.Need-add-out Inv-loop μ-loop
 add-out c =
     let t = c .before in
     let s = t .before .before in
     omega (arith, shifted-fits _ _ (s .args .xs .now) (s .pre .0) (t .before .loop .j) (t .loop-test .taken))
 
--- src/lib.rt:41:13
 add-out-2 : tie.Need-add-out-2 Inv-loop μ-loop
 add-out-2 c = search needs
 
--- src/lib.rt:41:9
 mul-out-2 : tie.Need-mul-out-2 Inv-loop μ-loop
 mul-out-2 c = search needs
 
--- src/lib.rt:41:9
 slice-write-out : tie.Need-slice-write-out Inv-loop μ-loop
 slice-write-out c = search needs
 
--- src/lib.rt:42:9
 add-j : tie.Need-add-j Inv-loop μ-loop
 add-j c = search needs
 
--- src/lib.rt:40:5
 loop-less : tie.Need-loop-less Inv-loop μ-loop
 loop-less c = search needs
 
--- src/lib.rt:40:5
 loop-again : tie.Need-loop-again Inv-loop μ-loop
 loop-again c =
     let t = c .before in
@@ -63,11 +51,9 @@ loop-again c =
     let s = l .before in
     (search needs, rw (l .loop .inv .1) (putting-next _ _ _ _ _ _ (shifted-length (s .args .by) (s .args .xs .now)) (s .pre .1) (t .loop-test .taken) (shifted-at _ _ _ (t .loop-test .taken))), simp length-set (search needs))
 
--- src/lib.rt:34:1
 same-length : tie.Need-same-length Inv-loop μ-loop
 same-length c = search needs
 
--- src/lib.rt:34:1
 returns : tie.Need-returns Inv-loop μ-loop
 returns c =
     let l = c .before in

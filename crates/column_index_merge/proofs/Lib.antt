@@ -1,0 +1,4 @@
+pub mod Held
+pub mod Class
+pub mod Count
+pub mod Rules

@@ -1,0 +1,184 @@
+-- A list that is written only where it is wanted, and a turn of the loop over the addresses. Assumes nothing.
+use Prim.Native.Nat.{ℕ, suc, _+_, _-_, _≤_, _<_}
+use native.Mathlib.Nat.{add-zero}
+use native.Mathlib.Numerals.{add-one}
+use native.Mathlib.Omega.{arith}
+use mathlib.Core.Path.{_≡_, refl, sym, ap, ap₂, _∙_, subst}
+use mathlib.Core.List.{List, [], _∷_, _++_}
+use mathlib.Core.Bool.{Bool, true, false, cond, false≢true}
+use lib.ListN.{length, getD, set, drop, drop-of-length-le}
+use lib.Seq.{drop-cons}
+use Rattle.runs.specs.Put.{put, putIf, RoomIf}
+use Rattle.runs.proofs.Laws.{Filling, fill-start, fill-end, fill-room, fill-more, put-nil}
+use Rattle.places.specs.Width.{idPart, idsOf, totalsOf}
+use Rattle.places.specs.Place.{run, rowOf, startIn, endIn, widthIn, cellIn, widths, Inside}
+use Rattle.places.proofs.Cells.{cell-run, cell-length}
+use Rattle.places.proofs.Laws.{put-one, first-set, fill-second, part-none, part-some, part-length, ids-step, totals-step, widthNow}
+use Rattle.column_values_merge.specs.Word.{wordsFor, Worded}
+use Rattle.column_values_merge.proofs.Laws.{words-length}
+use Rattle.column_index_shuffled.specs.Order.{orderedWords, Ordered}
+
+-- ---- one row's part
+
+module _ (at x w : ℕ) (old : List ℕ) where
+  pub part-unwanted : (b : Bool) → b ≡ false → old ≡ putIf b at (idPart x w) old
+  unfolding putIf
+  part-unwanted b e = rw e
+
+  pub part-bare : (b : Bool) → b ≡ true → w ≡ 0 → old ≡ putIf b at (idPart x w) old
+  unfolding putIf
+  part-bare b e f = rw (e, part-none x w f) (sym (put-nil at old))
+
+  pub part-room : (b : Bool) → RoomIf b at (length (idPart x w)) (length old) → b ≡ true → (w ≡ 0 → ⊥) → at < length old
+  part-room b r e f = let k : length (idPart x w) ≡ 1 = ap length (part-some x w f) in omega (arith, r .room e)
+
+  pub part-set : (b : Bool) → RoomIf b at (length (idPart x w)) (length old) → b ≡ true → (w ≡ 0 → ⊥) → set old at x ≡ putIf b at (idPart x w) old
+  unfolding putIf
+  part-set b r e f = put-one at x old (part-room b r e f) ∙ ap (λ (l : List ℕ). put at l old) (sym (part-some x w f)) ∙ ap (λ (c : Bool). cond c (put at (idPart x w) old) old) (sym e)
+
+pub count-bare : (n w : ℕ) → w ≡ 0 → n ≡ n + length (idPart 0 w)
+count-bare n w e = rw e (sym (add-zero n))
+
+pub count-some : (n w : ℕ) → (w ≡ 0 → ⊥) → n + 1 ≡ n + length (idPart 0 w)
+count-some n w e = ap (λ (l : List ℕ). n + length l) (sym (part-some 0 w e))
+
+-- ---- a list that is written where it is wanted
+
+pub record Partly (wanted : Bool) (whole old rest out : List ℕ) (at : ℕ) : Type 0 where
+  pub on : wanted ≡ true → Filling 0 whole old rest out at
+  pub off : wanted ≡ false → out ≡ old
+  pub kept : length out ≡ length old
+
+pub partly-start : (b : Bool) (whole old : List ℕ) → RoomIf b 0 (length whole) (length old) → Partly b whole old whole old 0
+partly-start b whole old r = record { on = λ e. fill-start whole old (omega (arith, r .room e)); off = λ e. refl; kept = refl }
+
+module _ {b : Bool} {whole old rest out : List ℕ} {at : ℕ} (g : Partly b whole old rest out at) where
+  pub partly-end : rest ≡ [] → out ≡ putIf b 0 whole old
+  unfolding putIf
+  partly-end e = go b (g .on) (g .off)
+    where
+      go : (c : Bool) → (c ≡ true → Filling 0 whole old rest out at) → (c ≡ false → out ≡ old) → out ≡ cond c (put 0 whole old) old
+      go true f h = fill-end (f refl) e .1
+      go false f h = h refl
+
+  module _ (a r : List ℕ) (e : rest ≡ a ++ r) where
+    pub partly-room : RoomIf b at (length a) (length out)
+    partly-room = record { room = λ t. fill-room (g .on t) a r e }
+
+    pub partly-more : (out′ : List ℕ) (at′ : ℕ) → at′ ≡ at + length a → out′ ≡ putIf b at a out → Partly b whole old r out′ at′
+    unfolding putIf
+    partly-more out′ at′ p o = go b (g .on) (g .off) o
+      where
+        go : (c : Bool) → (c ≡ true → Filling 0 whole old rest out at) → (c ≡ false → out ≡ old) → out′ ≡ cond c (put at a out) out → Partly c whole old r out′ at′
+        go true f h q =
+            let m = fill-more (f refl) a r e out′ at′ p q in
+            record { on = λ t. m; off = λ t. absurd (false≢true (sym t)); kept = m .kept }
+        go false f h q = record { on = λ t. absurd (false≢true t); off = λ t. q ∙ h refl; kept = ap length (q ∙ h refl) }
+
+-- the first element, written before the others
+module _ (b : Bool) (x : ℕ) (vs old : List ℕ) (r : RoomIf b 0 (length (x ∷ vs)) (length old)) where
+  pub first-room : RoomIf b 0 1 (length old)
+  first-room = record { room = λ e. let k = r .room e in omega arith }
+
+  module _ (out : List ℕ) (o : out ≡ putIf b 0 (x ∷ []) old) where
+    pub partly-second : Partly b (x ∷ vs) out vs out 1
+    unfolding putIf
+    partly-second = go b (λ e. r .room e) o
+      where
+        go : (c : Bool) → (c ≡ true → 0 + length (x ∷ vs) ≤ length old) → out ≡ cond c (put 0 (x ∷ []) old) old → Partly c (x ∷ vs) out vs out 1
+        go true h q =
+            let k : length (x ∷ vs) ≤ length old = let m = h refl in omega arith in
+            let e : set old 0 x ≡ out = put-one 0 x old (omega arith) ∙ sym q in
+            record { on = λ t. subst (λ (z : List ℕ). Filling 0 (x ∷ vs) z vs z 1) e (fill-second x vs old k); off = λ t. absurd (false≢true (sym t)); kept = refl }
+        go false h q = record { on = λ t. absurd (false≢true t); off = λ t. refl; kept = refl }
+
+    pub partly-first : putIf b 0 (x ∷ vs) out ≡ putIf b 0 (x ∷ vs) old
+    unfolding putIf
+    partly-first = go b (λ e. r .room e) o
+      where
+        go : (c : Bool) → (c ≡ true → 0 + length (x ∷ vs) ≤ length old) → out ≡ cond c (put 0 (x ∷ []) old) old → cond c (put 0 (x ∷ vs) out) out ≡ cond c (put 0 (x ∷ vs) old) old
+        go true h q =
+            let k : 0 < length old = let m = h refl in omega arith in
+            ap (put 0 (x ∷ vs)) (q ∙ sym (put-one 0 x old k)) ∙ first-set x vs old
+        go false h q = q
+
+-- ---- a turn at the address j: s is the segment that was read, x and y where the row's values were found, w how many they are
+
+module _ {to : ℕ} {addresses places sources : List (List ℕ)} {ids offsets values table : List ℕ} (l : Ordered to addresses places sources ids offsets values table) {j s : ℕ} (h : j < length addresses)
+    (e : s ≡ getD (getD addresses j []) 0 0) where
+  pub ordered-now : (s < length places)
+      × (s < length sources)
+      × Inside (getD places s []) ids offsets values (rowOf (getD addresses j []))
+      × Worded (getD sources s []) table (cellIn (getD places s []) ids offsets values (rowOf (getD addresses j [])))
+  ordered-now = rw e (l .each j h)
+
+  module _ {x y : ℕ} (p : x ≡ startIn (getD places s []) ids offsets (rowOf (getD addresses j []))) (q : y ≡ endIn (getD places s []) ids offsets (rowOf (getD addresses j []))) where
+    pub row-rises : x ≤ y
+    row-rises = omega (arith, ordered-now .2 .within .rises)
+
+    pub row-end : getD (getD places s []) 6 0 + y ≤ length values
+    row-end = omega (arith, ordered-now .2 .inside, ordered-now .2 .values-run, ordered-now .2 .values-end)
+
+    lent : run (getD (getD places s []) 6 0 + x) (getD (getD places s []) 6 0 + y) values ≡ cellIn (getD places s []) ids offsets values (rowOf (getD addresses j []))
+    lent = rw (p, q) (cell-run (getD places s []) ids offsets values (rowOf (getD addresses j [])) (ordered-now .2))
+
+    pub row-worded : Worded (getD sources s []) table (run (getD (getD places s []) 6 0 + x) (getD (getD places s []) 6 0 + y) values)
+    row-worded = rw lent (ordered-now .3)
+
+    row-width : y - x ≡ widthNow places ids offsets addresses j
+    unfolding widthIn
+    row-width = ap₂ (λ (m n : ℕ). m - n) q p ∙ ap (λ (k : ℕ). widthIn (getD places k []) ids offsets (rowOf (getD addresses j []))) e
+
+    cell-width : length (cellIn (getD places s []) ids offsets values (rowOf (getD addresses j []))) ≡ y - x
+    unfolding widthIn
+    cell-width = cell-length (getD places s []) ids offsets values (rowOf (getD addresses j [])) (ordered-now .2) ∙ ap₂ (λ (m n : ℕ). m - n) (sym q) (sym p)
+
+    abbrev words : List ℕ
+    words = wordsFor to (getD sources s []) table (run (getD (getD places s []) 6 0 + x) (getD (getD places s []) 6 0 + y) values)
+
+    words-now : orderedWords to places sources ids offsets values table (drop j addresses) ≡ words ++ orderedWords to places sources ids offsets values table (drop (j + 1) addresses)
+    unfolding orderedWords
+    words-now =
+        rw (add-one j, drop-cons addresses j [] h, ← e)
+        (ap (λ (c : List ℕ). wordsFor to (getD sources s []) table c ++ orderedWords to places sources ids offsets values table (drop (suc j) addresses)) (sym lent))
+
+    words-count : length words ≡ y - x
+    words-count = words-length to (getD sources s []) table (run (getD (getD places s []) 6 0 + x) (getD (getD places s []) 6 0 + y) values) ∙ ap length lent ∙ cell-width
+
+    module _ {whole old out : List ℕ} {at : ℕ} (g : Filling 0 whole old (orderedWords to places sources ids offsets values table (drop j addresses)) out at) where
+      pub words-room : at + (y - x) ≤ length out
+      words-room = rw (← words-count) (fill-room g words (orderedWords to places sources ids offsets values table (drop (j + 1) addresses)) words-now)
+
+      pub words-more : {out′ : List ℕ} {at′ : ℕ} → at′ ≡ at + (y - x) → out′ ≡ put at words out
+          → Filling 0 whole old (orderedWords to places sources ids offsets values table (drop (j + 1) addresses)) out′ at′
+      words-more {out′} {at′} a o =
+          fill-more g words (orderedWords to places sources ids offsets values table (drop (j + 1) addresses)) words-now out′ at′ (a ∙ ap (λ (n : ℕ). at + n) (sym words-count)) o
+
+    totals-now : (t u : ℕ) → u ≡ t + (y - x) → totalsOf t (widths places ids offsets (drop j addresses)) ≡ idPart u (y - x) ++ totalsOf u (widths places ids offsets (drop (j + 1) addresses))
+    totals-now t u f = rw f (totals-step places ids offsets addresses j h t (y - x) row-width)
+
+    module _ {b : Bool} {whole old out : List ℕ} {at : ℕ} where
+      pub ids-room : Partly b whole old (idsOf j (widths places ids offsets (drop j addresses))) out at → RoomIf b at (length (idPart j (y - x))) (length out)
+      ids-room g = partly-room g (idPart j (y - x)) (idsOf (j + 1) (widths places ids offsets (drop (j + 1) addresses))) (ids-step places ids offsets addresses j h (y - x) row-width)
+
+      pub ids-more : Partly b whole old (idsOf j (widths places ids offsets (drop j addresses))) out at → {out′ : List ℕ} {at′ : ℕ} → at′ ≡ at + length (idPart 0 (y - x)) → out′ ≡ putIf b at (idPart j (y - x)) out
+          → Partly b whole old (idsOf (j + 1) (widths places ids offsets (drop (j + 1) addresses))) out′ at′
+      ids-more g {out′} {at′} p o =
+          partly-more g (idPart j (y - x)) (idsOf (j + 1) (widths places ids offsets (drop (j + 1) addresses))) (ids-step places ids offsets addresses j h (y - x) row-width) out′ at′
+          (p ∙ ap (λ (n : ℕ). at + n) (sym (part-length j (y - x)))) o
+
+      module _ (t u : ℕ) (f : u ≡ t + (y - x)) where
+        pub totals-room : Partly b whole old (totalsOf t (widths places ids offsets (drop j addresses))) out at → RoomIf b at (length (idPart u (y - x))) (length out)
+        totals-room g = partly-room g (idPart u (y - x)) (totalsOf u (widths places ids offsets (drop (j + 1) addresses))) (totals-now t u f)
+
+        -- n is how many rows were listed: the totals stand one place behind the ids
+        pub totals-more : (n n′ : ℕ) → at ≡ n + 1 → Partly b whole old (totalsOf t (widths places ids offsets (drop j addresses))) out at → {out′ : List ℕ} → n′ ≡ n + length (idPart 0 (y - x)) → out′ ≡ putIf b at (idPart u (y - x)) out
+            → Partly b whole old (totalsOf u (widths places ids offsets (drop (j + 1) addresses))) out′ (n′ + 1)
+        totals-more n n′ d g {out′} p o =
+            partly-more g (idPart u (y - x)) (totalsOf u (widths places ids offsets (drop (j + 1) addresses))) (totals-now t u f) out′ (n′ + 1)
+            (omega (arith, part-length u (y - x))) o
+
+pub words-end : (to : ℕ) (places sources : List (List ℕ)) (ids offsets values table : List ℕ) (addresses : List (List ℕ)) (j : ℕ) → length addresses ≤ j
+    → orderedWords to places sources ids offsets values table (drop j addresses) ≡ []
+unfolding orderedWords
+words-end to places sources ids offsets values table addresses j h = rw (drop-of-length-le addresses h)

@@ -1,0 +1,132 @@
+-- The laws of the parts: one choice by a code, counts, room, and the shape. Assumes nothing.
+use Prim.Native.Nat.{ℕ, zero, suc, _+_, _≤_, _<_}
+use native.Mathlib.Nat.{zero-add, le-refl}
+use native.Mathlib.Omega.{arith}
+use mathlib.Core.Path.{_≡_, refl, sym, ap, _∙_, subst}
+use mathlib.Core.List.{List, [], _∷_, _++_, append-nil}
+use mathlib.Core.Bool.{Bool, true, false, not, cond}
+use lib.ListN.{length, take, drop, drop-of-length-le}
+use lib.Dec.{eqb, ltb, leb}
+use borrow.Author.Tests.{eq-eqb, ne-eqb, not-true, not-false}
+use Rattle.definitions.specs.Lists.{sum}
+use Rattle.runs.specs.Put.{put, putIf, RoomIf}
+use Rattle.places.specs.Width.{idsOf, totalsOf}
+use Rattle.places.specs.Place.{widths}
+use Rattle.places.specs.Stack.{stackedWidths}
+use Rattle.column_index_merge.specs.declared.Counts.{Counts}
+use Rattle.column_values_merge.specs.Stack.{stackedWords}
+use Rattle.column_index_stacked.specs.Stacked.{Stacked}
+use Rattle.column_index_shuffled.specs.Order.{orderedWords, Ordered}
+use Rattle.merge_column.specs.declared.Shape.{Shape}
+use Rattle.merge_column.specs.declared.Space.{Space}
+use Rattle.merge_column.specs.declared.Plan.{Plan}
+use Rattle.merge_column.specs.declared.Plan.the-variants.{Refused, Column}
+use Rattle.merge_column.specs.Plan.{classFor, widthsFor, Countable, idsFor, offsetsFor, enoughFor, wordsFor, Filling}
+
+-- put from the start over something as long
+pub put-whole : {A : Type 0} (vs old : List A) → length vs ≡ length old → put 0 vs old ≡ vs
+unfolding put
+put-whole vs old e =
+    ap (λ (n : ℕ). vs ++ drop n old) (zero-add (length vs) ∙ e) ∙ rw (drop-of-length-le old (le-refl (length old))) (append-nil vs)
+
+-- ---- one choice by a code
+
+module _ {A : Type 0} (m n : ℕ) (a b : A) where
+  pub at-code : m ≡ n → a ≡ cond (eqb m n) a b
+  at-code e = rw (eq-eqb m n e)
+
+  pub past-code : (m ≡ n → ⊥) → b ≡ cond (eqb m n) a b
+  past-code e = rw (ne-eqb m n e)
+
+pub class-none : (t g : ℕ) → t ≡ 255 → 0 ≡ classFor t g
+unfolding classFor
+class-none t g e = at-code t 255 0 g e
+
+pub class-some : (t g r : ℕ) → (t ≡ 255 → ⊥) → r ≡ g → r ≡ classFor t g
+unfolding classFor
+class-some t g r e q = q ∙ past-code t 255 0 g e
+
+pub ids-none : (k n : ℕ) → k ≡ 0 → 0 ≡ idsFor k n
+unfolding idsFor
+ids-none k n e = at-code k 0 0 n e
+
+pub ids-some : (k n : ℕ) → (k ≡ 0 → ⊥) → n ≡ idsFor k n
+unfolding idsFor
+ids-some k n e = past-code k 0 0 n e
+
+pub offsets-some : (k n : ℕ) → k ≡ 2 → n + 1 ≡ offsetsFor k n
+unfolding offsetsFor
+offsets-some k n e = let z : n + 1 ≡ suc n = omega arith in z ∙ at-code k 2 (suc n) 0 e
+
+pub offsets-none : (k n : ℕ) → (k ≡ 2 → ⊥) → 0 ≡ offsetsFor k n
+unfolding offsetsFor
+offsets-none k n e = past-code k 2 (suc n) 0 e
+
+-- ---- by mode
+
+module _ (mode : ℕ) (addresses places : List (List ℕ)) (ids offsets : List ℕ) where
+  pub widths-stacked : mode ≡ 0 → stackedWidths places ids offsets ≡ widthsFor mode addresses places ids offsets
+  unfolding widthsFor
+  widths-stacked e = at-code mode 0 (stackedWidths places ids offsets) (widths places ids offsets addresses) e
+
+  pub widths-ordered : (mode ≡ 0 → ⊥) → widths places ids offsets addresses ≡ widthsFor mode addresses places ids offsets
+  unfolding widthsFor
+  widths-ordered e = past-code mode 0 (stackedWidths places ids offsets) (widths places ids offsets addresses) e
+
+  module _ (k : Countable mode addresses places ids offsets) where
+    pub few-stacked : mode ≡ 0 → sum (stackedWidths places ids offsets) < 18446744073709551616
+    few-stacked e = omega (arith, k .few, ap sum (widths-stacked e))
+
+    pub few-ordered : (mode ≡ 0 → ⊥) → sum (widths places ids offsets addresses) < 18446744073709551616
+    few-ordered e = omega (arith, k .few, ap sum (widths-ordered e))
+
+pub counts-are : (x : Counts) (ws vs : List ℕ) → x .listed ≡ length (idsOf 0 ws) → x .values ≡ sum ws → ws ≡ vs → x ≡ record { listed = length (idsOf 0 vs); values = sum vs }
+counts-are x ws vs p q e = λ i. record { listed = (p ∙ ap (λ (l : List ℕ). length (idsOf 0 l)) e) i; values = (q ∙ ap sum e) i }
+
+module _ {mode class to : ℕ} {addresses places sources : List (List ℕ)} {ids offsets values map outIds outOffsets outValues : List ℕ}
+    (g : Filling mode class to addresses places sources ids offsets values map outIds outOffsets outValues) where
+  pub words-stacked : mode ≡ 0 → stackedWords to places sources values map ≡ wordsFor mode to addresses places sources ids offsets values map
+  unfolding wordsFor
+  words-stacked e = at-code mode 0 (stackedWords to places sources values map) (orderedWords to places sources ids offsets values map addresses) e
+
+  pub words-ordered : (mode ≡ 0 → ⊥) → orderedWords to places sources ids offsets values map addresses ≡ wordsFor mode to addresses places sources ids offsets values map
+  unfolding wordsFor
+  words-ordered e = past-code mode 0 (stackedWords to places sources values map) (orderedWords to places sources ids offsets values map addresses) e
+
+  module _ (ws vs : List ℕ) (e : ws ≡ widthsFor mode addresses places ids offsets) (q : vs ≡ wordsFor mode to addresses places sources ids offsets values map) where
+    pub ids-place : RoomIf (not (eqb class 0)) 0 (length (idsOf 0 ws)) (length outIds)
+    ids-place = rw e (g .ids-room)
+
+    pub offsets-place : RoomIf (eqb class 2) 0 (length (0 ∷ totalsOf 0 ws)) (length outOffsets)
+    offsets-place = rw e (g .offsets-room)
+
+    pub values-place : length vs ≤ length outValues
+    values-place = rw q (g .values-room)
+
+-- ---- room
+
+pub no-room : {t : Bool} (rest : Bool) → t ≡ true → false ≡ cond t false rest
+no-room rest e = rw e
+
+pub has-place : {t x rest : Bool} → t ≡ false → x ≡ rest → x ≡ cond t false rest
+has-place e q = rw e q
+
+-- ---- the shape
+
+pub plan-refused : (x y : Shape) (bytes : ℕ) (space : Space) (b : Bool) → x ≡ y → b ≡ enoughFor x bytes space → not b ≡ true → Refused 11 ≡ cond (enoughFor y bytes space) (Column y) (Refused 11)
+plan-refused x y bytes space b e q n = sym (ap (λ (t : Bool). cond t (Column y) (Refused 11)) (ap (λ (z : Shape). enoughFor z bytes space) (sym e) ∙ sym q ∙ not-true b n))
+
+pub plan-column : (x y : Shape) (bytes : ℕ) (space : Space) (b : Bool) → x ≡ y → b ≡ enoughFor x bytes space → not b ≡ false → Column x ≡ cond (enoughFor y bytes space) (Column y) (Refused 11)
+plan-column x y bytes space b e q n =
+    ap Column e ∙ sym (ap (λ (t : Bool). cond t (Column y) (Refused 11)) (ap (λ (z : Shape). enoughFor z bytes space) (sym e) ∙ sym q ∙ not-false b n))
+
+-- ---- what the fills leave, over the widths and the words by mode
+
+pub filled-ids : {x : List ℕ} (old ws vs : List ℕ) (b : Bool) → x ≡ putIf b 0 (idsOf 0 ws) old → ws ≡ vs → x ≡ putIf b 0 (idsOf 0 vs) old
+filled-ids old ws vs b p e = p ∙ ap (λ (l : List ℕ). putIf b 0 (idsOf 0 l) old) e
+
+pub filled-offsets : {x : List ℕ} (old ws vs : List ℕ) (b : Bool) → x ≡ putIf b 0 (0 ∷ totalsOf 0 ws) old → ws ≡ vs → x ≡ putIf b 0 (0 ∷ totalsOf 0 vs) old
+filled-offsets old ws vs b p e = p ∙ ap (λ (l : List ℕ). putIf b 0 (0 ∷ totalsOf 0 l) old) e
+
+pub filled-values : {x : List ℕ} (old ws vs : List ℕ) → x ≡ put 0 ws old → ws ≡ vs → x ≡ put 0 vs old
+filled-values old ws vs p e = p ∙ ap (λ (l : List ℕ). put 0 l old) e

@@ -1,0 +1,4 @@
+pub mod Laws
+pub mod Held
+pub mod Ready
+pub mod Measured

@@ -1,0 +1,56 @@
+-- What is measured is the plan. Assumes nothing.
+use Prim.Native.Nat.{ℕ, zero, suc, _+_, _≤_, _<_, zero-le}
+use native.Mathlib.Omega.{arith}
+use mathlib.Core.Path.{_≡_, refl, sym, ap, _∙_}
+use mathlib.Core.List.{List, [], _∷_}
+use mathlib.Core.Bool.{cond}
+use lib.Dec.{eqb}
+use lib.ListN.{length}
+use Rattle.definitions.specs.Lists.{sum}
+use Rattle.definitions.specs.Segment.{SegmentRecord}
+use Rattle.definitions.specs.Answer.{total}
+use Rattle.segment.specs.Records.{recordsOf}
+use Rattle.places.specs.Width.{idsOf}
+use Rattle.column_index_merge.specs.declared.Counts.{Counts}
+use Rattle.column_index_merge.specs.Class.{greatestIn}
+use Rattle.term_rows.specs.Runs.{toAt, textAt}
+use Rattle.merge_type.specs.declared.TypeAnswer.{TypeAnswer}
+use Rattle.merge_type.specs.declared.TypeAnswer.the-variants.{Wrong, Joined}
+use Rattle.merge_type.specs.Parts.{partsFrom, typeAnswer}
+use Rattle.merge_column.specs.declared.Space.{Space}
+use Rattle.merge_column.specs.declared.Plan.{Plan}
+use Rattle.merge_column.specs.declared.Plan.the-variants.{Refused}
+use Rattle.merge_column.specs.Plan.{classFor, widthsFor, countsFor, Countable, planOf, planBy, planFor}
+
+-- a row that is listed has a value
+ids-le : (n : ℕ) (ws : List ℕ) → length (idsOf n ws) ≤ sum ws
+unfolding idsOf
+ids-le n [] = zero-le
+ids-le n (zero ∷ ws) = let h = ids-le (suc n) ws in omega arith
+ids-le n (suc w ∷ ws) = let h = ids-le (suc n) ws in omega arith
+
+pub listed-few : {mode : ℕ} {addresses places : List (List ℕ)} {ids offsets : List ℕ} → Countable mode addresses places ids offsets
+    → (x : Counts) → x ≡ countsFor mode addresses places ids offsets → x .listed < 18446744073709551615
+listed-few {mode} {addresses} {places} {ids} {offsets} k x e =
+    omega (arith, ap (λ (z : Counts). z .listed) e, ids-le 0 (widthsFor mode addresses places ids offsets), k .few)
+
+module _ (mode required : ℕ) (records : List (List ℕ)) (ids offsets values lengths words : List ℕ) (addresses places alives : List (List ℕ)) (held : List ℕ) (space : Space)
+    (x : TypeAnswer) (e : x ≡ typeAnswer required (partsFrom records values held)) where
+  pub planned-wrong : x ≡ Wrong → Refused 10 ≡ planFor mode required records ids offsets values lengths words addresses places alives held space
+  unfolding planFor
+  planned-wrong q = sym (ap (λ (t : TypeAnswer). planBy t mode records ids offsets lengths words addresses places alives held space) (sym e ∙ q))
+
+  pub planned-column : (typ : ℕ) → x ≡ Joined typ → (r : Plan) (class all rows : ℕ) (k : Counts) (terms bytes : ℕ)
+      → r ≡ planOf typ class rows (k .listed) (k .values) terms bytes space
+      → class ≡ classFor typ (greatestIn places alives ids offsets words)
+      → all ≡ total (λ (y : SegmentRecord). y .rows) (recordsOf records)
+      → rows ≡ cond (eqb mode 0) all (length addresses)
+      → k ≡ countsFor mode addresses places ids offsets
+      → terms ≡ toAt records held (length records)
+      → bytes ≡ textAt records held lengths (length records)
+      → r ≡ planFor mode required records ids offsets values lengths words addresses places alives held space
+  unfolding planFor
+  planned-column typ q r class all rows k terms bytes re ce ae we ke te be =
+      re
+      ∙ (λ i. planOf typ (ce i) ((we ∙ ap (λ (n : ℕ). cond (eqb mode 0) n (length addresses)) ae) i) (ke i .listed) (ke i .values) (te i) (be i) space)
+      ∙ sym (ap (λ (t : TypeAnswer). planBy t mode records ids offsets lengths words addresses places alives held space) (sym e ∙ q))

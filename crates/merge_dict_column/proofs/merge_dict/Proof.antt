@@ -1,0 +1,59 @@
+use borrow.Author.Needs.{needs}
+use Rattle.merge_dict_column.proofs.Ends.{ready, readable, dictionary}
+use Rattle.merge_dict_column.proofs.merge_dict.Statement.{statement}
+use Rattle.merge_dict_column.proofs.merge_dict.Tie as tie
+
+-- src/lib.rt:245:51
+slice-aggregate-fill-rows : tie.Need-slice-aggregate-fill-rows
+slice-aggregate-fill-rows c = search needs
+
+-- src/lib.rt:245:5
+fill-rows-requires : tie.Need-fill-rows-requires
+fill-rows-requires c κs = search needs
+
+-- src/lib.rt:246:34
+slice-aggregate-start-heap : tie.Need-slice-aggregate-start-heap
+slice-aggregate-start-heap c = search needs
+
+-- src/lib.rt:246:9
+start-heap-requires : tie.Need-start-heap-requires
+start-heap-requires c κs = (c .before .before .fill-rows .ensures .size, readable (c .before .before .before .before .before .before .before .before .before .before .before .pre .0) (c .before .before .before .before .before .before .before .before .before .before .before .pre .1) (c .before .before .fill-rows .ensures))
+
+-- src/lib.rt:247:23
+slice-aggregate-merge-terms : tie.Need-slice-aggregate-merge-terms
+slice-aggregate-merge-terms c = search needs
+
+-- src/lib.rt:247:5
+merge-terms-requires : tie.Need-merge-terms-requires
+merge-terms-requires c κs = (ready (c .before .before .before .before .before .before .before .before .before .before .before .before .before .before .before .before .pre .0) (c .before .before .before .before .before .before .before .before .before .before .before .before .before .before .before .before .pre .1) (c .before .before .before .before .before .before .before .fill-rows .ensures), c .before .before .before .before .start-heap .ensures)
+
+-- src/lib.rt:229:1
+same-length : tie.Need-same-length
+same-length c = search needs
+
+-- src/lib.rt:229:1
+same-length-2 : tie.Need-same-length-2
+same-length-2 c = search needs
+
+-- src/lib.rt:229:1
+same-length-3 : tie.Need-same-length-3
+same-length-3 c = search needs
+
+-- src/lib.rt:229:1
+returns : tie.Need-returns
+returns c = dictionary (c .before .before .before .before .before .before .before .before .before .before .before .before .before .before .before .before .before .before .before .before .before .before .before .before .pre .0) (c .before .before .before .before .before .before .before .before .before .before .before .before .before .before .before .before .before .before .before .before .before .before .before .before .pre .1) (c .before .before .before .before .before .before .before .before .before .before .before .before .before .before .before .fill-rows .ensures) _ _ _ _ _ (c .before .before .before .before .before .before .before .merge-terms .ensures .1)
+
+pub merge-dict-spec : {M : Type 1} → statement M
+merge-dict-spec =
+    tie.close
+    (tie.spec
+    slice-aggregate-fill-rows
+    fill-rows-requires
+    slice-aggregate-start-heap
+    start-heap-requires
+    slice-aggregate-merge-terms
+    merge-terms-requires
+    same-length
+    same-length-2
+    same-length-3
+    returns)

@@ -1,0 +1,2 @@
+pub mod Dict
+pub mod Stands

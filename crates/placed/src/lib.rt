@@ -1,0 +1,1 @@
+// No code: what the passes over the records leave, and what the fills write, in the words of the definitions.

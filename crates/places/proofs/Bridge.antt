@@ -1,0 +1,84 @@
+-- Where a place says where a segment stands, its rows are the segment's. Assumes nothing.
+use Prim.Native.Nat.{ℕ, suc, _-_, _≤_, _<_}
+use native.Mathlib.Omega.{arith}
+use mathlib.Core.Path.{_≡_, refl, sym, ap, _∙_, subst}
+use mathlib.Core.List.{List, [], map}
+use lib.ListN.{length, getD, drop, length-map}
+use lib.Seq.{slice}
+use lib.Dec.{T}
+use mathlib.Core.Bool.{cond}
+use Rattle.definitions.specs.Lists.{elem}
+use Rattle.definitions.specs.Segment.{Segment, byKind}
+use Rattle.definitions.specs.Row.{rank, rowValues}
+use Rattle.definitions.specs.Answer.{listsFit}
+use Rattle.column_index.specs.Lookup.{Sound}
+use Rattle.column_index.proofs.Walk.{fits-sound, sound-inside}
+use Rattle.places.specs.Place.{kindAt, rowsAt, idsAt, offsetsAt, valuesAt, endIn, widthIn, segmentAt, cellIn, Inside}
+use Rattle.places.specs.Stack.{SoundAt}
+use Rattle.places.proofs.Cells.{sound-within, cell-length}
+
+-- the runs at a place are those of the segment
+pub record Stands (place ids offsets values : List ℕ) (s : Segment) : Type 0 where
+  pub kind : kindAt place ≡ s .kind
+  pub rows : rowsAt place ≡ s .rows
+  pub ids-are : idsAt place ids ≡ s .ids
+  pub offsets-are : offsetsAt place offsets ≡ s .offsets
+  pub values-are : valuesAt place values ≡ s .values
+  pub ids-run : getD place 2 0 ≤ getD place 3 0
+  pub ids-end : getD place 3 0 ≤ length ids
+  pub offsets-run : getD place 4 0 ≤ getD place 5 0
+  pub offsets-end : getD place 5 0 ≤ length offsets
+  pub values-run : getD place 6 0 ≤ getD place 7 0
+  pub values-end : getD place 7 0 ≤ length values
+
+rowFrom : ℕ → List ℕ → List ℕ → List ℕ → ℕ → List ℕ
+rowFrom kind ids offsets values r =
+    byKind kind [] (slice r (suc r) values) (cond (elem r ids) (slice (rank r ids) (suc (rank r ids)) values) []) (slice (getD offsets r 0) (getD offsets (suc r) 0) values)
+    (cond (elem r ids) (slice (getD offsets (rank r ids) 0) (getD offsets (suc (rank r ids)) 0) values) [])
+
+row-from : (s : Segment) (r : ℕ) → rowValues s r ≡ rowFrom (s .kind) (s .ids) (s .offsets) (s .values) r
+unfolding rowValues rowFrom
+row-from s r = refl
+
+module _ {place ids offsets values : List ℕ} {s : Segment} (st : Stands place ids offsets values s) where
+  pub cell-stands : (r : ℕ) → cellIn place ids offsets values r ≡ rowValues s r
+  unfolding cellIn segmentAt
+  cell-stands r =
+      row-from (segmentAt place ids offsets values) r
+      ∙ (λ i. rowFrom (st .kind i) (st .ids-are i) (st .offsets-are i) (st .values-are i) r)
+      ∙ sym (row-from s r)
+
+  pub count-stands : length (s .values) ≡ getD place 7 0 - getD place 6 0
+  count-stands = ap length (sym (st .values-are)) ∙ lib.Seq.length-take-le (getD place 7 0 - getD place 6 0) (drop (getD place 6 0) values) (rw (lib.ListN.length-drop (getD place 6 0) values) (omega (arith, st .values-end)))
+
+  module _ (fit : T (listsFit s)) where
+    pub sound-stands : SoundAt place ids offsets
+    sound-stands =
+        record {
+          ids-run = st .ids-run;
+          ids-end = st .ids-end;
+          offsets-run = st .offsets-run;
+          offsets-end = st .offsets-end;
+          values-run = st .values-run;
+          sound =
+              subst (λ (k : ℕ). Sound k (rowsAt place) (getD place 7 0 - getD place 6 0) (idsAt place ids) (offsetsAt place offsets)) (sym (st .kind))
+              (subst (λ (k : ℕ). Sound (s .kind) k (getD place 7 0 - getD place 6 0) (idsAt place ids) (offsetsAt place offsets)) (sym (st .rows))
+              (subst (λ (k : ℕ). Sound (s .kind) (s .rows) k (idsAt place ids) (offsetsAt place offsets)) count-stands
+              (subst (λ (l : List ℕ). Sound (s .kind) (s .rows) (length (s .values)) l (offsetsAt place offsets)) (sym (st .ids-are))
+              (subst (λ (l : List ℕ). Sound (s .kind) (s .rows) (length (s .values)) (s .ids) l) (sym (st .offsets-are)) (fits-sound s fit)))));
+        }
+
+    pub inside-stands : (r : ℕ) → r < s .rows → Inside place ids offsets values r
+    unfolding endIn
+    inside-stands r h =
+        let l : r < rowsAt place = subst (λ (n : ℕ). r < n) (sym (st .rows)) h in
+        record {
+          within = sound-within sound-stands r l;
+          values-run = st .values-run;
+          values-end = st .values-end;
+          inside = sound-inside (sound-stands .sound) l;
+        }
+
+    pub width-stands : (r : ℕ) → r < s .rows → (f : ℕ → ℕ) → widthIn place ids offsets r ≡ length (map f (rowValues s r))
+    width-stands r h f =
+        sym (cell-length place ids offsets values r (inside-stands r h)) ∙ ap length (cell-stands r) ∙ sym (length-map (rowValues s r) f)

@@ -1,0 +1,4 @@
+pub mod Width
+pub mod Place
+pub mod Stack
+pub mod Places

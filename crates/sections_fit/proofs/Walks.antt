@@ -1,0 +1,136 @@
+-- The laws of the walks over the segments: what each says at the next number or record, and at the end. Assumes nothing.
+use mathlib.Core.Path.{_≡_, refl, sym, _∙_}
+use mathlib.Core.Bool.{Bool, true, false, _&&_}
+use mathlib.Core.List.{List, [], _∷_}
+use Prim.Native.Nat.{ℕ, zero, suc, _+_, _-_, _≤_, _<_}
+use native.Mathlib.Nat.{add-zero, zero-add, add-assoc}
+use native.Mathlib.Omega.{arith}
+use lib.Dec.{eqb}
+use lib.ListN.{length, drop, take, getD, drop-of-length-le}
+use borrow.Author.Tests.{eq-eqb, ne-eqb, eqb-true, eqb-false}
+use Rattle.definitions.specs.Lists.{sum}
+use Rattle.definitions.specs.Segment.{SegmentRecord, aliveWords}
+use Rattle.definitions.specs.Answer.{total}
+use Rattle.segment.specs.declared.Record.{Record}
+use Rattle.segment.specs.Records.{structOf, plain, recordsOf}
+use Rattle.segment.proofs.Walk.{part-rest, part-is, rest-is, records-end, records-step}
+use Rattle.segment_fit.specs.Fits.{fitsCodes, fitsLists, fitsValues, fitsAlive}
+use Rattle.segment_fit.proofs.Laws.{sum-step}
+use Rattle.sections_fit.specs.declared.Totals.{Totals}
+use Rattle.sections_fit.specs.Walks.{codesFrom, listsFrom, valuesFrom, aliveFrom, totalsOf, addTo}
+
+-- ---- sums
+
+-- two tests of equality that say the same
+pub eqb-same : (a b c d : ℕ) → (a ≡ b → c ≡ d) → (c ≡ d → a ≡ b) → eqb a b ≡ eqb c d
+eqb-same a b c d f g = go (eqb c d) refl
+  where
+    go : (t : Bool) → eqb c d ≡ t → eqb a b ≡ t
+    go true e = eq-eqb a b (g (eqb-true c d e))
+    go false e = ne-eqb a b (λ p. eqb-false c d e (f p))
+
+pub sum-low : (xs : List ℕ) (i x left : ℕ) → i < length xs → x ≡ getD xs i 0 → left < x → false ≡ eqb (sum (drop i xs)) left
+sum-low xs i x left h e k = sym (ne-eqb (sum (drop i xs)) left (λ p. (let s = sum-step xs i h in omega arith)))
+
+pub sum-next : (xs : List ℕ) (i x left : ℕ) → i < length xs → x ≡ getD xs i 0 → x ≤ left → eqb (sum (drop (i + 1) xs)) (left - x) ≡ eqb (sum (drop i xs)) left
+sum-next xs i x left h e k =
+    let s = sum-step xs i h in
+    eqb-same (sum (drop (i + 1) xs)) (left - x) (sum (drop i xs)) left (λ p. omega arith) (λ p. omega arith)
+
+pub sum-end : (xs : List ℕ) (i left : ℕ) → length xs ≤ i → eqb left 0 ≡ eqb (sum (drop i xs)) left
+sum-end xs i left h = rw (drop-of-length-le xs h) (eqb-same left 0 0 left (λ p. sym p) (λ p. sym p))
+
+pub sum-split : (n : ℕ) (xs : List ℕ) → sum (take n xs) + sum (drop n xs) ≡ sum xs
+sum-split zero xs = omega arith
+sum-split (suc n) [] = refl
+sum-split (suc n) (x ∷ xs) = let e = sum-split n xs in omega arith
+
+-- ---- the records' sums
+
+-- t, and then the sums of the records
+unfoldable pub totalsFrom : Totals → List SegmentRecord → Totals
+totalsFrom t [] = t
+totalsFrom t (r ∷ rs) = totalsFrom (addTo t r) rs
+
+abbrev pub noTotals : Totals
+noTotals = record { rows = 0; ids = 0; offsets = 0; values = 0; terms = 0; alive = 0 }
+
+totals-are : (t : Totals) (rs : List SegmentRecord) → totalsFrom t rs
+    ≡ record { rows = t .rows + total (λ (r : SegmentRecord). r .rows) rs; ids = t .ids + total (λ (r : SegmentRecord). r .ids) rs; offsets = t .offsets + total (λ (r : SegmentRecord). r .offsets) rs; values = t .values + total (λ (r : SegmentRecord). r .values) rs; terms = t .terms + total (λ (r : SegmentRecord). r .terms) rs; alive = t .alive + total aliveWords rs }
+unfolding totalsFrom addTo
+totals-are t [] = λ i. record { rows = sym (add-zero (t .rows)) i; ids = sym (add-zero (t .ids)) i; offsets = sym (add-zero (t .offsets)) i; values = sym (add-zero (t .values)) i; terms = sym (add-zero (t .terms)) i; alive = sym (add-zero (t .alive)) i }
+totals-are t (r ∷ rs) =
+    totals-are (addTo t r) rs
+    ∙ (λ i. record {
+      rows = add-assoc (t .rows) (r .rows) (total (λ (x : SegmentRecord). x .rows) rs) i;
+      ids = add-assoc (t .ids) (r .ids) (total (λ (x : SegmentRecord). x .ids) rs) i;
+      offsets = add-assoc (t .offsets) (r .offsets) (total (λ (x : SegmentRecord). x .offsets) rs) i;
+      values = add-assoc (t .values) (r .values) (total (λ (x : SegmentRecord). x .values) rs) i;
+      terms = add-assoc (t .terms) (r .terms) (total (λ (x : SegmentRecord). x .terms) rs) i;
+      alive = add-assoc (t .alive) (aliveWords r) (total aliveWords rs) i;
+    })
+
+pub totals-all : (rs : List SegmentRecord) → totalsFrom noTotals rs ≡ totalsOf rs
+totals-all rs =
+    totals-are noTotals rs
+    ∙ (λ i. record {
+      rows = zero-add (total (λ (r : SegmentRecord). r .rows) rs) i;
+      ids = zero-add (total (λ (r : SegmentRecord). r .ids) rs) i;
+      offsets = zero-add (total (λ (r : SegmentRecord). r .offsets) rs) i;
+      values = zero-add (total (λ (r : SegmentRecord). r .values) rs) i;
+      terms = zero-add (total (λ (r : SegmentRecord). r .terms) rs) i;
+      alive = zero-add (total aliveWords rs) i;
+    })
+
+-- ---- the walks
+
+module _ (records : List (List ℕ)) (s : ℕ) (h : length records ≤ s) where
+  pub codes-end : true ≡ codesFrom (recordsOf (drop s records))
+  unfolding codesFrom
+  codes-end = rw (records-end records s h)
+
+  pub lists-end : (ids offsets : List ℕ) → true ≡ listsFrom (recordsOf (drop s records)) ids offsets
+  unfolding listsFrom
+  lists-end ids offsets = rw (records-end records s h)
+
+  pub values-end : (values lengths bytes : List ℕ) → true ≡ valuesFrom (recordsOf (drop s records)) values lengths bytes
+  unfolding valuesFrom
+  values-end values lengths bytes = rw (records-end records s h)
+
+  pub alive-end : (mode : ℕ) (alive : List ℕ) → true ≡ aliveFrom mode (recordsOf (drop s records)) alive
+  unfolding aliveFrom
+  alive-end mode alive = rw (records-end records s h)
+
+  pub totals-end : (t : Totals) → t ≡ totalsFrom t (recordsOf (drop s records))
+  unfolding totalsFrom
+  totals-end t = rw (records-end records s h)
+
+module _ (records : List (List ℕ)) (s : ℕ) (h : s < length records) {r : Record} (e : r ≡ structOf (getD records s [])) where
+  pub codes-step : codesFrom (recordsOf (drop s records)) ≡ fitsCodes (plain r) && codesFrom (recordsOf (drop (s + 1) records))
+  unfolding codesFrom
+  codes-step = rw (records-step records s h e)
+
+  pub lists-step : (ids offsets : List ℕ) (i i′ o o′ : ℕ) → i′ ≡ i + r .ids → o′ ≡ o + r .offsets
+      → listsFrom (recordsOf (drop s records)) (drop i ids) (drop o offsets)
+      ≡ fitsLists (plain r) (take (i′ - i) (drop i ids)) (take (o′ - o) (drop o offsets)) && listsFrom (recordsOf (drop (s + 1) records)) (drop i′ ids) (drop o′ offsets)
+  unfolding listsFrom
+  lists-step ids offsets i i′ o o′ p q =
+      rw (part-is (r .ids) i i′ ids p, part-is (r .offsets) o o′ offsets q, rest-is (r .ids) i i′ ids p, rest-is (r .offsets) o o′ offsets q, records-step records s h e)
+
+  pub values-step : (values lengths bytes : List ℕ) (v v′ t t′ b n : ℕ) → v′ ≡ v + r .values → t′ ≡ t + r .terms → n ≡ sum (take (t′ - t) (drop t lengths))
+      → valuesFrom (recordsOf (drop s records)) (drop v values) (drop t lengths) (drop b bytes)
+      ≡ fitsValues (plain r) (take (v′ - v) (drop v values)) (take (t′ - t) (drop t lengths)) (take (length bytes - b) (drop b bytes))
+      && valuesFrom (recordsOf (drop (s + 1) records)) (drop v′ values) (drop t′ lengths) (drop (b + n) bytes)
+  unfolding valuesFrom
+  values-step values lengths bytes v v′ t t′ b n p q k =
+      rw (rest-is n b (b + n) bytes refl, k, part-is (r .values) v v′ values p, part-is (r .terms) t t′ lengths q, rest-is (r .values) v v′ values p, rest-is (r .terms) t t′ lengths q, part-rest b bytes, records-step records s h e)
+
+  pub alive-step : (mode : ℕ) (alive : List ℕ) (a a′ n : ℕ) → n ≡ aliveWords (plain r) → a′ ≡ a + n
+      → aliveFrom mode (recordsOf (drop s records)) (drop a alive)
+      ≡ fitsAlive mode (plain r) (take (a′ - a) (drop a alive)) && aliveFrom mode (recordsOf (drop (s + 1) records)) (drop a′ alive)
+  unfolding aliveFrom
+  alive-step mode alive a a′ n k p = rw (part-is n a a′ alive p, rest-is n a a′ alive p, k, records-step records s h e)
+
+  pub totals-step : (t : Totals) → totalsFrom (addTo t (plain r)) (recordsOf (drop (s + 1) records)) ≡ totalsFrom t (recordsOf (drop s records))
+  unfolding totalsFrom
+  totals-step t = rw (records-step records s h e)

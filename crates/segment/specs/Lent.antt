@@ -1,0 +1,32 @@
+-- Everything that a call is lent, in the words of the definitions.
+use Prim.Native.Nat.{ℕ}
+use mathlib.Core.List.{List, map}
+use lib.ListN.{getD}
+use Rattle.definitions.specs.Segment.{Address, Space, Input}
+use Rattle.segment.specs.Records.{recordsOf, sectionsIn}
+
+abbrev pub address : ℕ → ℕ → Address
+address segment row = record { segment = segment; row = row }
+
+-- the two numbers in their order
+abbrev pub addressOf : List ℕ → Address
+addressOf a = address (getD a 0 0) (getD a 1 0)
+
+abbrev pub addressesOf : List (List ℕ) → List Address
+addressesOf l = map addressOf l
+
+-- so many working bytes and no outputs: what the checks up to 9 read of the space
+abbrev pub workingOnly : ℕ → Space
+workingOnly n = record { working = n; ids = 0; offsets = 0; values = 0; termLengths = 0; termBytes = 0; map = 0 }
+
+-- mode, required type, records, the six sections, addresses and the number of working bytes
+abbrev pub lentInput : ℕ → ℕ → List (List ℕ) → List ℕ → List ℕ → List ℕ → List ℕ → List ℕ → List ℕ → List (List ℕ) → ℕ → Input
+lentInput mode required records ids offsets values lengths bytes alive addresses working =
+    record {
+      mode = mode;
+      required = required;
+      records = recordsOf records;
+      sections = sectionsIn ids offsets values lengths bytes alive;
+      addresses = addressesOf addresses;
+      space = workingOnly working;
+    }

@@ -1,0 +1,194 @@
+-- The laws of the scans: what each says at the next element, and at the end. Assumes nothing.
+use mathlib.Core.Path.{_≡_, refl, sym, ap, _∙_}
+use mathlib.Core.Bool.{Bool, true, false, _&&_, _||_, and-true, and-false}
+use mathlib.Core.List.{List, [], _∷_}
+use Prim.Native.Nat.{ℕ, zero, suc, _+_, _-_, _*_, _≤_, _<_, zero-le, suc-le-suc}
+use native.Mathlib.Numerals.{add-one}
+use native.Mathlib.Omega.{arith}
+use lib.Dec.{eqb, ltb, leb}
+use lib.ListN.{length, drop, take, getD, drop-of-length-le}
+use lib.Seq.{drop-cons, drop-drop}
+use borrow.Author.Tests.{eq-eqb, ne-eqb, lt-ltb, le-ltb, ltb-true, ltb-false, le-leb, lt-leb, leb-true}
+use Rattle.definitions.specs.Lists.{sum, all, any, last, upFrom, isBelow, compareBytes}
+use Rattle.definitions.specs.Row.{bitAt}
+use Rattle.segment.proofs.Tests.{both-true}
+use Rattle.segment_fit.specs.Fits.{risesFrom, rises, lastOf, allBelow, termsRise, termsRiseFrom, pastRows, fitsOffsets}
+
+-- ---- rises
+
+pub rises-none : (step : ℕ) (xs : List ℕ) → length xs ≡ 0 → true ≡ rises step xs
+unfolding rises
+rises-none step [] h = refl
+rises-none step (x ∷ xs) h = absurd (omega arith)
+
+pub rises-start : (step p : ℕ) (xs : List ℕ) → (length xs ≡ 0 → ⊥) → p ≡ getD xs 0 0 → risesFrom step p (drop 1 xs) ≡ rises step xs
+unfolding rises
+rises-start step p [] h e = absurd (h refl)
+rises-start step p (x ∷ xs) h e = ap (λ (n : ℕ). risesFrom step n xs) e
+
+module _ (step m x : ℕ) (xs : List ℕ) (i : ℕ) (h : i < length xs) (e : x ≡ getD xs i 0) where
+  rises-step : risesFrom step m (drop i xs) ≡ leb (m + step) x && risesFrom step x (drop (i + 1) xs)
+  unfolding risesFrom
+  rises-step = rw (e, add-one i, drop-cons xs i 0 h)
+
+  pub rises-low : x < m + step → false ≡ risesFrom step m (drop i xs)
+  rises-low k = rw (rises-step, lt-leb (m + step) x k)
+
+  pub rises-next : m + step ≤ x → risesFrom step x (drop (i + 1) xs) ≡ risesFrom step m (drop i xs)
+  rises-next k = rw (rises-step, le-leb (m + step) x k)
+
+pub rises-end : (step m : ℕ) (xs : List ℕ) (i : ℕ) → length xs ≤ i → true ≡ risesFrom step m (drop i xs)
+unfolding risesFrom
+rises-end step m xs i h = rw (drop-of-length-le xs h)
+
+-- ---- the last
+
+pub last-at : (xs : List ℕ) → 0 < length xs → lastOf xs ≡ getD xs (length xs - 1) 0
+unfolding lastOf
+last-at [] h = absurd (omega arith)
+last-at (x ∷ []) h = refl
+last-at (x ∷ y ∷ xs) h =
+    last-at (y ∷ xs) (suc-le-suc zero-le)
+    ∙ ap (λ (n : ℕ). getD (y ∷ xs) n 0) (let e : length (y ∷ xs) - 1 ≡ length xs = omega arith in e)
+    ∙ ap (λ (n : ℕ). getD (x ∷ y ∷ xs) n 0) (let e : suc (length xs) ≡ length (x ∷ y ∷ xs) - 1 = omega arith in e)
+
+-- of numbers that rise, the last is the greatest
+rising-below : (rows m : ℕ) (ns : List ℕ) → risesFrom 1 m ns ≡ true → ltb (last (m ∷ ns)) rows ≡ ltb m rows && all (λ n. ltb n rows) ns
+unfolding risesFrom
+rising-below rows m [] h = sym (and-true (ltb m rows))
+rising-below rows m (n ∷ ns) h =
+    let p = both-true (leb (m + 1) n) (risesFrom 1 n ns) h in
+    rising-below rows n ns (p .1) ∙ go (leb-true (m + 1) n (p .0)) (ltb n rows) refl
+  where
+    go : m + 1 ≤ n → (t : Bool) → ltb n rows ≡ t → t && all (λ k. ltb k rows) ns ≡ ltb m rows && (t && all (λ k. ltb k rows) ns)
+    go l true e = rw (lt-ltb m rows (let k : m < rows = omega (arith, ltb-true n rows e) in k))
+    go l false e = sym (and-false (ltb m rows))
+
+pub ids-below : (rows : ℕ) (xs : List ℕ) → rises 1 xs ≡ true → (length xs ≡ 0 → ⊥) → ltb (lastOf xs) rows ≡ allBelow rows xs
+unfolding rises lastOf allBelow
+ids-below rows [] h n = absurd (n refl)
+ids-below rows (x ∷ xs) h n = rising-below rows x xs h
+
+pub below-none : (rows : ℕ) (xs : List ℕ) → length xs ≡ 0 → true ≡ allBelow rows xs
+unfolding allBelow
+below-none rows [] h = refl
+below-none rows (x ∷ xs) h = absurd (omega arith)
+
+-- ---- all below a limit
+
+module _ (limit : ℕ) (xs : List ℕ) (i : ℕ) (h : i < length xs) where
+  below-step : allBelow limit (drop i xs) ≡ ltb (getD xs i 0) limit && allBelow limit (drop (i + 1) xs)
+  unfolding allBelow
+  below-step = rw (add-one i, drop-cons xs i 0 h)
+
+  pub below-high : limit ≤ getD xs i 0 → false ≡ allBelow limit (drop i xs)
+  below-high k = rw (below-step, le-ltb (getD xs i 0) limit k)
+
+  pub below-next : getD xs i 0 < limit → allBelow limit (drop (i + 1) xs) ≡ allBelow limit (drop i xs)
+  below-next k = rw (below-step, lt-ltb (getD xs i 0) limit k)
+
+pub below-end : (limit : ℕ) (xs : List ℕ) (i : ℕ) → length xs ≤ i → true ≡ allBelow limit (drop i xs)
+unfolding allBelow
+below-end limit xs i h = rw (drop-of-length-le xs h)
+
+-- ---- offsets
+
+pub offsets-none : (values : ℕ) (xs : List ℕ) → length xs ≡ 0 → false ≡ fitsOffsets values xs
+unfolding fitsOffsets
+offsets-none values [] h = refl
+offsets-none values (x ∷ xs) h = absurd (omega arith)
+
+module _ (values : ℕ) (xs : List ℕ) (n : length xs ≡ 0 → ⊥) where
+  offsets-head : getD xs 0 1 ≡ getD xs 0 0
+  offsets-head = go xs n
+    where
+      go : (l : List ℕ) → (length l ≡ 0 → ⊥) → getD l 0 1 ≡ getD l 0 0
+      go [] k = absurd (k refl)
+      go (x ∷ l) k = refl
+
+  pub offsets-first : (getD xs 0 0 ≡ 0 → ⊥) → false ≡ fitsOffsets values xs
+  unfolding fitsOffsets
+  offsets-first k = rw (offsets-head, ne-eqb (getD xs 0 0) 0 k)
+
+  pub offsets-last : (a b : ℕ) → getD xs 0 0 ≡ 0 → a ≡ lastOf xs → b ≡ values → eqb a b ≡ fitsOffsets values xs
+  unfolding fitsOffsets
+  offsets-last a b k p q = rw (offsets-head, eq-eqb (getD xs 0 0) 0 k, p, q)
+
+-- ---- terms
+
+pub sum-step : (xs : List ℕ) (i : ℕ) → i < length xs → sum (drop i xs) ≡ getD xs i 0 + sum (drop (i + 1) xs)
+sum-step xs i h = rw (add-one i, drop-cons xs i 0 h)
+
+pub terms-none : (lengths bytes : List ℕ) → length lengths ≡ 0 → true ≡ termsRise lengths bytes
+unfolding termsRise
+terms-none [] bytes h = refl
+terms-none (n ∷ ns) bytes h = absurd (omega arith)
+
+pub terms-start : (lengths bytes : List ℕ) (to : ℕ) → (length lengths ≡ 0 → ⊥) → to ≡ getD lengths 0 0
+    → termsRiseFrom (take (to - 0) (drop 0 bytes)) (drop 1 lengths) (drop to bytes) ≡ termsRise lengths bytes
+unfolding termsRise termsRiseFrom
+terms-start [] bytes to h e = absurd (h refl)
+terms-start (n ∷ ns) bytes to h e = rw (let z : to - 0 ≡ to = omega arith in z, e)
+
+module _ (t lengths bytes : List ℕ) (i x to end : ℕ) (h : i < length lengths) (e : x ≡ getD lengths i 0) (k : end ≡ to + x) where
+  terms-step : termsRiseFrom t (drop i lengths) (drop to bytes) ≡ isBelow (compareBytes t (take (end - to) (drop to bytes))) && termsRiseFrom (take (end - to) (drop to bytes)) (drop (i + 1) lengths) (drop end bytes)
+  unfolding termsRiseFrom
+  terms-step = rw (let z : end - to ≡ x = omega arith in z, k, ← drop-drop x to bytes, e, add-one i, drop-cons lengths i 0 h)
+
+  pub terms-low : {b : Bool} → b ≡ isBelow (compareBytes t (take (end - to) (drop to bytes))) → b ≡ false → false ≡ termsRiseFrom t (drop i lengths) (drop to bytes)
+  terms-low p q = rw (terms-step, ← p, q)
+
+  pub terms-next : {b : Bool} → b ≡ isBelow (compareBytes t (take (end - to) (drop to bytes))) → b ≡ true
+      → termsRiseFrom (take (end - to) (drop to bytes)) (drop (i + 1) lengths) (drop end bytes) ≡ termsRiseFrom t (drop i lengths) (drop to bytes)
+  terms-next p q = rw (terms-step, ← p, q)
+
+pub terms-end : (t lengths bytes : List ℕ) (i : ℕ) → length lengths ≤ i → true ≡ termsRiseFrom t (drop i lengths) bytes
+unfolding termsRiseFrom
+terms-end t lengths bytes i h = rw (drop-of-length-le lengths h)
+
+-- ---- bits past the rows
+
+-- from a row on
+unfoldable pub pastFrom : ℕ → List ℕ → ℕ → Bool
+pastFrom rows alive row = any (λ r. leb rows r && bitAt alive r) (upFrom row (64 * length alive - row))
+
+up-step : (row n : ℕ) → row < n → upFrom row (n - row) ≡ row ∷ upFrom (suc row) (n - (row + 1))
+up-step row n h = rw (let e : n - row ≡ suc (n - (row + 1)) = omega arith in e)
+
+past-step : (rows : ℕ) (alive : List ℕ) (row : ℕ) → row < 64 * length alive → pastFrom rows alive row ≡ (leb rows row && bitAt alive row) || pastFrom rows alive (row + 1)
+unfolding pastFrom
+past-step rows alive row h = rw (up-step row (64 * length alive) h, add-one row)
+
+past-over : (rows : ℕ) (alive : List ℕ) (row : ℕ) → 64 * length alive ≤ row → pastFrom rows alive row ≡ false
+unfolding pastFrom
+past-over rows alive row h = rw (let e : 64 * length alive - row ≡ 0 = omega arith in e)
+
+past-skip : (rows : ℕ) (alive : List ℕ) (k : ℕ) → k ≤ rows → pastFrom rows alive k ≡ pastFrom rows alive 0
+past-skip rows alive zero h = refl
+past-skip rows alive (suc k) h = rw (← add-one k) (go (past-skip rows alive k (omega arith)) (ltb k (64 * length alive)) refl)
+  where
+    go : pastFrom rows alive k ≡ pastFrom rows alive 0 → (t : Bool) → ltb k (64 * length alive) ≡ t → pastFrom rows alive (k + 1) ≡ pastFrom rows alive 0
+    go q true e =
+        let l : k < rows = omega arith in
+        let s : pastFrom rows alive k ≡ pastFrom rows alive (k + 1) = rw (past-step rows alive k (ltb-true k (64 * length alive) e), lt-leb rows k l) in
+        sym s ∙ q
+    go q false e =
+        let l = ltb-false k (64 * length alive) e in
+        past-over rows alive (k + 1) (omega arith) ∙ sym (past-over rows alive k l) ∙ q
+
+pub past-start : (rows : ℕ) (alive : List ℕ) (row : ℕ) → row ≡ rows → pastFrom rows alive row ≡ pastRows rows alive
+unfolding pastRows pastFrom
+past-start rows alive row e = rw e (past-skip rows alive rows (omega arith) ∙ rw (let z : 64 * length alive - 0 ≡ 64 * length alive = omega arith in z))
+
+module _ (rows : ℕ) (alive : List ℕ) (row : ℕ) (l : rows ≤ row) (h : row < 64 * length alive) {b : Bool} (e : b ≡ bitAt alive row) where
+  past-bit : pastFrom rows alive row ≡ b || pastFrom rows alive (row + 1)
+  past-bit = rw (past-step rows alive row h, le-leb rows row l, e)
+
+  pub past-found : b ≡ true → true ≡ pastFrom rows alive row
+  past-found t = rw (past-bit, t)
+
+  pub past-next : b ≡ false → pastFrom rows alive (row + 1) ≡ pastFrom rows alive row
+  past-next t = rw (past-bit, t)
+
+pub past-end : (rows : ℕ) (alive : List ℕ) (row : ℕ) → 64 * length alive ≤ row → false ≡ pastFrom rows alive row
+past-end rows alive row h = sym (past-over rows alive row h)

@@ -1,0 +1,179 @@
+-- The checks of one segment as the code makes them are the definitions' own. Assumes nothing.
+use mathlib.Core.Path.{_≡_, refl, sym, ap, ap₂, _∙_}
+use mathlib.Core.Bool.{Bool, true, false, not, _&&_, _||_, cond, and-true, and-assoc}
+use mathlib.Core.List.{List, [], _∷_}
+use Prim.Native.Nat.{ℕ, suc, _+_, _≤_}
+use native.Mathlib.Nat.{add-zero}
+use native.Mathlib.Numerals.{add-one}
+use lib.Dec.{eqb, ltb, leb, eqb·suc-zero, leb·suc-suc}
+use lib.ListN.{length, drop, take, getD}
+use lib.Seq.{length-take-le}
+use borrow.Author.Tests.{eqb-true}
+use Rattle.definitions.specs.Lists.{all, isEmpty, last, ascending, ascendingFrom, notFalling, notFallingFrom, termsAscending}
+use Rattle.definitions.specs.Segment.{SegmentRecord, Sections, byKind, cut, aliveWords, firstSegment}
+use Rattle.definitions.specs.Row.{hasAliveSet, noType}
+use Rattle.definitions.specs.Types.{isKnownType, hasTerms, BoolType}
+use Rattle.definitions.specs.Answer.{codesKnown, noColumnIsBare, idsFit, offsetsFit, emptyFits, fullFits, optionalFits, oldFits, newFits, listsFit, valuesFit, bitPastRows}
+use Rattle.segment.proofs.Tests.{empty-length}
+use Rattle.segment_fit.specs.Fits.{risesFrom, rises, lastOf, allBelow, bareCounts, fitsCodes, fitsIds, fitsOffsets, fitsEmpty, fitsFull, fitsOptional, fitsOld, fitsNew, fitsLists, termsRise, fitsWords, fitsTerms, fitsValues, pastRows}
+
+-- ---- lists
+
+pub length-cut : (ns bytes : List ℕ) → length (cut ns bytes) ≡ length ns
+length-cut [] bytes = refl
+length-cut (n ∷ ns) bytes = ap suc (length-cut ns (drop n bytes))
+
+empty-take : (n : ℕ) (xs : List ℕ) → n ≤ length xs → isEmpty (take n xs) ≡ eqb n 0
+empty-take n xs h = empty-length (take n xs) ∙ ap (λ (k : ℕ). eqb k 0) (length-take-le n xs h)
+
+empty-cut : (n : ℕ) (xs bytes : List ℕ) → n ≤ length xs → isEmpty (cut (take n xs) bytes) ≡ eqb n 0
+empty-cut n xs bytes h = empty-length (cut (take n xs) bytes) ∙ ap (λ (k : ℕ). eqb k 0) (length-cut (take n xs) bytes ∙ length-take-le n xs h)
+
+rises-from : (m : ℕ) (ns : List ℕ) → risesFrom 1 m ns ≡ ascendingFrom m ns
+unfolding risesFrom
+rises-from m [] = refl
+rises-from m (n ∷ ns) = ap₂ (λ (a b : Bool). a && b) (ap (λ (k : ℕ). leb k n) (add-one m)) (rises-from n ns)
+
+rises-up : (xs : List ℕ) → rises 1 xs ≡ ascending xs
+unfolding rises
+rises-up [] = refl
+rises-up (x ∷ xs) = rises-from x xs
+
+falls-from : (m : ℕ) (ns : List ℕ) → risesFrom 0 m ns ≡ notFallingFrom m ns
+unfolding risesFrom
+falls-from m [] = refl
+falls-from m (n ∷ ns) = ap₂ (λ (a b : Bool). a && b) (ap (λ (k : ℕ). leb k n) (add-zero m)) (falls-from n ns)
+
+rises-flat : (xs : List ℕ) → rises 0 xs ≡ notFalling xs
+unfolding rises
+rises-flat [] = refl
+rises-flat (x ∷ xs) = falls-from x xs
+
+-- ---- tests in another sequence
+
+rotate3 : (a b c : Bool) → a && b && c ≡ b && (c && a)
+rotate3 true true c = sym (and-true c)
+rotate3 true false c = refl
+rotate3 false true true = refl
+rotate3 false true false = refl
+rotate3 false false c = refl
+
+rotate4 : (a b c d : Bool) → a && b && c && d ≡ b && (c && (d && a))
+rotate4 a true c d = ap (λ (x : Bool). x && c && d) (and-true a) ∙ rotate3 a c d
+rotate4 true false c d = refl
+rotate4 false false c d = refl
+
+assoc4 : (a b c d : Bool) → a && b && c && d ≡ a && (b && (c && d))
+assoc4 true b c d = and-assoc b c d
+assoc4 false b c d = refl
+
+-- ---- 3
+
+pub assoc5 : (a b c d e : Bool) → a && b && c && d && e ≡ a && (b && (c && (d && e)))
+assoc5 true b c d e = assoc4 b c d e
+assoc5 false b c d e = refl
+
+pub codes-first : (r : SegmentRecord) (s : Sections) → r .ids ≤ length (s .ids) → r .offsets ≤ length (s .offsets) → r .values ≤ length (s .values) → r .terms ≤ length (s .termLengths)
+    → codesKnown (firstSegment r s) && noColumnIsBare (firstSegment r s) ≡ fitsCodes r
+unfolding firstSegment fitsCodes bareCounts codesKnown noColumnIsBare
+codes-first r s i o v t =
+    rw (empty-take (r .ids) (s .ids) i, empty-take (r .offsets) (s .offsets) o, empty-take (r .values) (s .values) v, empty-cut (r .terms) (s .termLengths) (s .termBytes) t, assoc5 (eqb (r .kind) 0) (eqb (r .ids) 0) (eqb (r .offsets) 0) (eqb (r .values) 0) (eqb (r .terms) 0))
+    (assoc4 (isKnownType (r .type)) (ltb (r .kind) 5) (ltb (r .flag) 2) (not (eqb (r .type) noType) || (eqb (r .kind) 0 && (eqb (r .ids) 0 && (eqb (r .offsets) 0 && (eqb (r .values) 0 && eqb (r .terms) 0))))))
+
+-- ---- 4
+
+module _ (rows n : ℕ) (ids offsets values : List ℕ) (v : length values ≡ n) where
+  ids-is : ascending ids && all (λ k. ltb k rows) ids ≡ fitsIds rows ids
+  unfolding fitsIds allBelow
+  ids-is = rw (rises-up ids)
+
+  offsets-is : eqb (getD offsets 0 1) 0 && eqb (last offsets) (length values) ≡ fitsOffsets n offsets
+  unfolding fitsOffsets lastOf
+  offsets-is = rw v
+
+  empty-is : isEmpty ids && isEmpty offsets && isEmpty values ≡ fitsEmpty n ids offsets
+  unfolding fitsEmpty
+  empty-is = rw (empty-length ids, empty-length offsets, empty-length values, v) (and-assoc (eqb (length ids) 0) (eqb (length offsets) 0) (eqb n 0))
+
+  full-is : isEmpty ids && isEmpty offsets && eqb (length values) rows ≡ fitsFull rows n ids offsets
+  unfolding fitsFull
+  full-is = rw (empty-length ids, empty-length offsets, v) (and-assoc (eqb (length ids) 0) (eqb (length offsets) 0) (eqb n rows))
+
+  optional-is : ascending ids && all (λ k. ltb k rows) ids && isEmpty offsets && eqb (length values) (length ids) ≡ fitsOptional rows n ids offsets
+  unfolding fitsOptional
+  optional-is = rw (ids-is, empty-length offsets, v) (rotate3 (fitsIds rows ids) (eqb (length offsets) 0) (eqb n (length ids)))
+
+  old-is : isEmpty ids && eqb (length offsets) (suc rows) && (eqb (getD offsets 0 1) 0 && eqb (last offsets) (length values)) && notFalling offsets ≡ fitsOld rows n ids offsets
+  unfolding fitsOld
+  old-is = rw (empty-length ids, offsets-is, ← rises-flat offsets, ← add-one rows) (assoc4 (eqb (length ids) 0) (eqb (length offsets) (rows + 1)) (fitsOffsets n offsets) (rises 0 offsets))
+
+  new-is : (ascending ids && all (λ k. ltb k rows) ids) && eqb (length offsets) (suc (length ids)) && (eqb (getD offsets 0 1) 0 && eqb (last offsets) (length values)) && ascending offsets ≡ fitsNew rows n ids offsets
+  unfolding fitsNew
+  new-is = rw (ids-is, offsets-is, ← rises-up offsets, ← add-one (length ids)) (rotate4 (fitsIds rows ids) (eqb (length offsets) (length ids + 1)) (fitsOffsets n offsets) (rises 1 offsets))
+
+pub lists-first : (r : SegmentRecord) (s : Sections) → r .values ≤ length (s .values) → listsFit (firstSegment r s) ≡ fitsLists r (take (r .ids) (s .ids)) (take (r .offsets) (s .offsets))
+unfolding firstSegment fitsLists listsFit idsFit offsetsFit emptyFits fullFits optionalFits oldFits newFits
+lists-first r s h =
+    let i = take (r .ids) (s .ids) in
+    let o = take (r .offsets) (s .offsets) in
+    let w = take (r .values) (s .values) in
+    let v = length-take-le (r .values) (s .values) h in
+    λ j.
+    byKind (r .kind)
+    (empty-is (r .rows) (r .values) i o w v j)
+    (full-is (r .rows) (r .values) i o w v j)
+    (optional-is (r .rows) (r .values) i o w v j)
+    (old-is (r .rows) (r .values) i o w v j)
+    (new-is (r .rows) (r .values) i o w v j)
+
+-- ---- 5
+
+all-two : (xs : List ℕ) → all (λ w. leb w 1) xs ≡ all (λ w. ltb w 2) xs
+all-two [] = refl
+all-two (x ∷ xs) = ap₂ (λ (a b : Bool). a && b) (sym (leb·suc-suc x 1)) (all-two xs)
+
+terms-of-bool : (t : ℕ) → eqb t BoolType ≡ true → hasTerms t ≡ false
+unfolding hasTerms
+terms-of-bool t e = rw (eqb-true t 5 e)
+
+words-is : (t n : ℕ) (vs : List ℕ) → (not (eqb t BoolType) || all (λ w. leb w 1) vs) && (not (hasTerms t) || all (λ w. ltb w n) vs) ≡ fitsWords t n vs
+unfolding fitsWords allBelow
+words-is t n vs = go (eqb t BoolType) refl
+  where
+    go : (b : Bool) → eqb t BoolType ≡ b → (not b || all (λ w. leb w 1) vs) && (not (hasTerms t) || all (λ w. ltb w n) vs) ≡ cond b (all (λ w. ltb w 2) vs) (cond (hasTerms t) (all (λ w. ltb w n) vs) true)
+    go true e = rw (terms-of-bool t e, and-true (all (λ w. leb w 1) vs)) (all-two vs)
+    go false e = pick (hasTerms t)
+      where
+        pick : (h : Bool) → not h || all (λ w. ltb w n) vs ≡ cond h (all (λ w. ltb w n) vs) true
+        pick true = refl
+        pick false = refl
+
+terms-is : (t k : ℕ) (ls bs : List ℕ) → termsAscending (cut ls bs) && (isEmpty (cut ls bs) || (hasTerms t && not (eqb k 0))) ≡ fitsTerms t k ls bs
+unfolding fitsTerms termsRise
+terms-is t k [] bs = refl
+terms-is t k (n ∷ ns) bs = rw (eqb·suc-zero (length ns)) (swap (termsAscending (cut (n ∷ ns) bs)) (hasTerms t) (not (eqb k 0)))
+  where
+    swap : (a b c : Bool) → a && (b && c) ≡ b && (c && a)
+    swap a b c = sym (and-assoc a b c) ∙ rotate3 a b c
+
+assoc22 : (a b c d : Bool) → a && b && c && d ≡ (a && b) && (c && d)
+assoc22 a b c d = and-assoc (a && b) c d
+
+pub values-first : (r : SegmentRecord) (s : Sections) → valuesFit (firstSegment r s) ≡ fitsValues r (take (r .values) (s .values)) (take (r .terms) (s .termLengths)) (s .termBytes)
+unfolding firstSegment fitsValues valuesFit
+values-first r s =
+    let ls = take (r .terms) (s .termLengths) in
+    let vs = take (r .values) (s .values) in
+    rw (length-cut ls (s .termBytes))
+    (assoc22 (not (eqb (r .type) BoolType) || all (λ w. leb w 1) vs) (not (hasTerms (r .type)) || all (λ w. ltb w (length ls)) vs) (termsAscending (cut ls (s .termBytes))) (isEmpty (cut ls (s .termBytes)) || (hasTerms (r .type) && not (eqb (r .kind) 0)))
+    ∙ ap₂ (λ (a b : Bool). a && b) (words-is (r .type) (length ls) vs) (terms-is (r .type) (r .kind) ls (s .termBytes)))
+
+-- ---- 6
+
+pub past-first : (r : SegmentRecord) (s : Sections) → bitPastRows (firstSegment r s) ≡ pastRows (r .rows) (take (aliveWords r) (s .alive))
+unfolding firstSegment bitPastRows pastRows
+past-first r s = refl
+
+pub flag-first : (r : SegmentRecord) (s : Sections) → hasAliveSet (firstSegment r s) ≡ eqb (r .flag) 1
+unfolding firstSegment
+flag-first r s = refl

@@ -1,0 +1,21 @@
+use mathlib.Core.Path.{refl}
+use borrow.Author.Tests.{eq-eqb, ne-eqb}
+use Rattle.segment.proofs.Tests.{stop, past}
+use Rattle.segment_fit.specs.Fits.{fitsEmpty}
+use Rattle.segment_fit.proofs.empty_fits.Statement.{statement}
+use Rattle.segment_fit.proofs.empty_fits.Tie as tie
+
+returns : tie.Need-returns
+unfolding fitsEmpty
+returns c = stop _ (ne-eqb _ _ (c .if1 .taken))
+
+returns-2 : tie.Need-returns-2
+unfolding fitsEmpty
+returns-2 c = past (eq-eqb _ _ (c .before .if1 .left)) (stop _ (ne-eqb _ _ (c .if2 .taken)))
+
+returns-3 : tie.Need-returns-3
+unfolding fitsEmpty
+returns-3 c = past (eq-eqb _ _ (c .before .if1 .left)) (past (eq-eqb _ _ (c .if2 .left)) refl)
+
+pub empty-fits-spec : {M : Type 1} → statement M
+empty-fits-spec = tie.close (tie.spec returns returns-2 returns-3)

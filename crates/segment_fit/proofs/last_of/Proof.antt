@@ -1,0 +1,23 @@
+use mathlib.Core.Path.{sym, _∙_}
+use borrow.Author.Needs.{needs}
+use Rattle.segment_fit.proofs.Laws.{last-at}
+use Rattle.segment_fit.proofs.last_of.Statement.{statement}
+use Rattle.segment_fit.proofs.last_of.Tie as tie
+
+sub-n : tie.Need-sub-n
+sub-n c = search needs
+
+mul-wide : tie.Need-mul-wide
+mul-wide c = search needs
+
+shared-slice-read-wide : tie.Need-shared-slice-read-wide
+shared-slice-read-wide c = search needs
+
+wide-requires : tie.Need-wide-requires
+wide-requires c κs = search needs
+
+returns : tie.Need-returns
+returns c = c .wide .ensures .0 ∙ sym (last-at (c .before .before .before .args .xs .now) (c .before .before .before .pre))
+
+pub last-of-spec : {M : Type 1} → statement M
+last-of-spec = tie.close (tie.spec sub-n mul-wide shared-slice-read-wide wide-requires returns)

@@ -1,0 +1,24 @@
+use mathlib.Core.Path.{sym, _∙_}
+use borrow.Author.Needs.{needs}
+use borrow.Author.Tests.{not-true, not-false}
+use Rattle.segment.proofs.Tests.{stop, past}
+use Rattle.segment_fit.specs.Fits.{fitsValues}
+use Rattle.segment_fit.proofs.values_fit.Statement.{statement}
+use Rattle.segment_fit.proofs.values_fit.Tie as tie
+
+words-fit-requires : tie.Need-words-fit-requires
+words-fit-requires c κs = search needs
+
+returns : tie.Need-returns
+unfolding fitsValues
+returns c = stop _ (sym (c .before .words-fit .ensures) ∙ not-true _ (c .if1 .taken))
+
+terms-fit-requires : tie.Need-terms-fit-requires
+terms-fit-requires c κs = search needs
+
+returns-2 : tie.Need-returns-2
+unfolding fitsValues
+returns-2 c = past (sym (c .before .before .words-fit .ensures) ∙ not-false _ (c .before .if1 .left)) (c .terms-fit .ensures)
+
+pub values-fit-spec : {M : Type 1} → statement M
+values-fit-spec = tie.close (tie.spec words-fit-requires returns terms-fit-requires returns-2)

@@ -1,0 +1,94 @@
+-- The checks of one segment, over just the numbers and lists that each reads, in the sequence of the code. proofs/Own.antt says that they are the
+-- definitions' own. Assumes nothing.
+use Prim.Native.Nat.{ℕ, _+_, _*_}
+use mathlib.Core.List.{List, [], _∷_}
+use mathlib.Core.Bool.{Bool, true, _&&_, _||_, cond, not}
+use lib.ListN.{length, getD}
+use lib.Dec.{eqb, ltb, leb}
+use Rattle.definitions.specs.Lists.{all, any, last, upTo, termsAscending, termsAscendingFrom}
+use Rattle.definitions.specs.Segment.{SegmentRecord, byKind, cut}
+use Rattle.definitions.specs.Row.{bitAt, noType}
+use Rattle.definitions.specs.Types.{isKnownType, hasTerms, BoolType}
+
+-- each element is at least step above the one before it
+unfoldable pub risesFrom : ℕ → ℕ → List ℕ → Bool
+risesFrom step m [] = true
+risesFrom step m (n ∷ ns) = leb (m + step) n && risesFrom step n ns
+
+unfoldable pub rises : ℕ → List ℕ → Bool
+unfolding risesFrom
+rises step [] = true
+rises step (n ∷ ns) = risesFrom step n ns
+
+unfoldable pub lastOf : List ℕ → ℕ
+lastOf xs = last xs
+
+unfoldable pub allBelow : ℕ → List ℕ → Bool
+allBelow limit xs = all (λ n. ltb n limit) xs
+
+-- ---- 3
+
+unfoldable pub bareCounts : SegmentRecord → Bool
+bareCounts r = eqb (r .kind) 0 && (eqb (r .ids) 0 && (eqb (r .offsets) 0 && (eqb (r .values) 0 && eqb (r .terms) 0)))
+
+unfoldable pub fitsCodes : SegmentRecord → Bool
+fitsCodes r = isKnownType (r .type) && (ltb (r .kind) 5 && (ltb (r .flag) 2 && (not (eqb (r .type) noType) || bareCounts r)))
+
+-- ---- 4
+
+unfoldable pub fitsIds : ℕ → List ℕ → Bool
+fitsIds rows ids = rises 1 ids && allBelow rows ids
+
+unfoldable pub fitsOffsets : ℕ → List ℕ → Bool
+fitsOffsets values offsets = eqb (getD offsets 0 1) 0 && eqb (lastOf offsets) values
+
+unfoldable pub fitsEmpty : ℕ → List ℕ → List ℕ → Bool
+fitsEmpty values ids offsets = eqb (length ids) 0 && (eqb (length offsets) 0 && eqb values 0)
+
+unfoldable pub fitsFull : ℕ → ℕ → List ℕ → List ℕ → Bool
+fitsFull rows values ids offsets = eqb (length ids) 0 && (eqb (length offsets) 0 && eqb values rows)
+
+unfoldable pub fitsOptional : ℕ → ℕ → List ℕ → List ℕ → Bool
+fitsOptional rows values ids offsets = eqb (length offsets) 0 && (eqb values (length ids) && fitsIds rows ids)
+
+unfoldable pub fitsOld : ℕ → ℕ → List ℕ → List ℕ → Bool
+fitsOld rows values ids offsets = eqb (length ids) 0 && (eqb (length offsets) (rows + 1) && (fitsOffsets values offsets && rises 0 offsets))
+
+unfoldable pub fitsNew : ℕ → ℕ → List ℕ → List ℕ → Bool
+fitsNew rows values ids offsets = eqb (length offsets) (length ids + 1) && (fitsOffsets values offsets && (rises 1 offsets && fitsIds rows ids))
+
+unfoldable pub fitsLists : SegmentRecord → List ℕ → List ℕ → Bool
+fitsLists r ids offsets =
+    byKind (r .kind)
+    (fitsEmpty (r .values) ids offsets)
+    (fitsFull (r .rows) (r .values) ids offsets)
+    (fitsOptional (r .rows) (r .values) ids offsets)
+    (fitsOld (r .rows) (r .values) ids offsets)
+    (fitsNew (r .rows) (r .values) ids offsets)
+
+-- ---- 5
+
+unfoldable pub termsRise : List ℕ → List ℕ → Bool
+termsRise lengths bytes = termsAscending (cut lengths bytes)
+
+-- the terms from the one before on
+unfoldable pub termsRiseFrom : List ℕ → List ℕ → List ℕ → Bool
+termsRiseFrom t lengths bytes = termsAscendingFrom t (cut lengths bytes)
+
+unfoldable pub fitsWords : ℕ → ℕ → List ℕ → Bool
+fitsWords type terms values = cond (eqb type BoolType) (allBelow 2 values) (cond (hasTerms type) (allBelow terms values) true)
+
+unfoldable pub fitsTerms : ℕ → ℕ → List ℕ → List ℕ → Bool
+fitsTerms type kind lengths bytes = cond (eqb (length lengths) 0) true (hasTerms type && (not (eqb kind 0) && termsRise lengths bytes))
+
+unfoldable pub fitsValues : SegmentRecord → List ℕ → List ℕ → List ℕ → Bool
+fitsValues r values lengths bytes = fitsWords (r .type) (length lengths) values && fitsTerms (r .type) (r .kind) lengths bytes
+
+-- ---- 6
+
+unfoldable pub pastRows : ℕ → List ℕ → Bool
+pastRows rows alive = any (λ r. leb rows r && bitAt alive r) (upTo (64 * length alive))
+
+-- stacked: an alive set is itself wrong
+unfoldable pub fitsAlive : ℕ → SegmentRecord → List ℕ → Bool
+fitsAlive mode r alive = not (eqb mode 0 && eqb (r .flag) 1) && not (pastRows (r .rows) alive)

@@ -1,0 +1,325 @@
+// The checks of one segment, over just the numbers and lists that each reads: 3 codes, 4 lists, 5 values and terms, 6 alive set
+// (columnar/merge/mod.rs; asserts become answers).
+ghost use mathlib.Core.Path.{_≡_};
+ghost use mathlib.Core.Bool.{_&&_};
+ghost use Prim.Native.Nat.{_<_, _≤_};
+ghost use lib.ListN.{length};
+ghost use lib.Dec.{eqb};
+ghost use Rattle.definitions.specs.Lists.{sum, compareBytes, isBelow};
+ghost use Rattle.definitions.specs.Types.{hasTerms};
+ghost use Rattle.segment.specs.Records.{plain};
+ghost use Rattle.segment_fit.specs.Fits.{rises, lastOf, allBelow, fitsCodes, bareCounts, fitsIds, fitsOffsets, fitsEmpty, fitsFull, fitsOptional, fitsOld, fitsNew, fitsLists, termsRise, fitsWords, fitsTerms, fitsValues, pastRows, fitsAlive};
+
+// ---- scans
+
+// Whether each number is at least step above the one before it.
+fn rises(xs: &[u32], step: usize) -> bool
+    requires { ⌜ step ≤ 1 ⌝ }
+    ensures { λ r. ⌜ r ≡ rises step (now (xs .entry)) ⌝ }
+{
+    if xs.len() == 0 {
+        return true;
+    }
+    let mut prev = segment::wide(xs[0]);
+    let mut i: usize = 1;
+    while i < xs.len() {
+        let x = segment::wide(xs[i]);
+        if x < prev + step {
+            return false;
+        }
+        prev = x;
+        i += 1;
+    }
+    true
+}
+
+// The last number.
+fn last_of(xs: &[u32]) -> usize
+    requires { ⌜ 0 < length (now xs) ⌝ }
+    ensures { λ r. ⌜ r ≡ lastOf (now (xs .entry)) ⌝ }
+{
+    let n = xs.len() - 1;
+    segment::wide(xs[n])
+}
+
+// Whether each word is below the limit.
+fn all_below(xs: &[u64], limit: u64) -> bool
+    ensures { λ r. ⌜ r ≡ allBelow limit (now (xs .entry)) ⌝ }
+{
+    let mut i: usize = 0;
+    while i < xs.len() {
+        if limit <= xs[i] {
+            return false;
+        }
+        i += 1;
+    }
+    true
+}
+
+// ---- 3
+
+// Whether there is no kind and no length, as a segment without a column must have.
+fn bare_counts(r: segment::Record) -> bool
+    ensures { λ x. ⌜ x ≡ bareCounts (plain r) ⌝ }
+{
+    if r.kind != 0 {
+        return false;
+    }
+    if r.ids != 0 {
+        return false;
+    }
+    if r.offsets != 0 {
+        return false;
+    }
+    if r.values != 0 {
+        return false;
+    }
+    r.terms == 0
+}
+
+// Check 3 of one segment.
+pub fn codes_fit(r: segment::Record) -> bool
+    ensures { λ x. ⌜ x ≡ fitsCodes (plain r) ⌝ }
+{
+    if !column_type::is_known(r.typ) {
+        return false;
+    }
+    if 5 <= r.kind {
+        return false;
+    }
+    if 2 <= r.flag {
+        return false;
+    }
+    if r.typ != 255 {
+        return true;
+    }
+    bare_counts(r)
+}
+
+// ---- 4
+
+// The ids ascend and are below the rows; the last is the greatest.
+fn ids_fit(ids: &[u32], rows: u32) -> bool
+    ensures { λ r. ⌜ r ≡ fitsIds rows (now (ids .entry)) ⌝ }
+{
+    if !rises(ids, 1) {
+        return false;
+    }
+    if ids.len() == 0 {
+        return true;
+    }
+    last_of(ids) < segment::wide(rows)
+}
+
+// The offsets begin with 0 and end with the number of values.
+fn offsets_fit(offsets: &[u32], values: u32) -> bool
+    ensures { λ r. ⌜ r ≡ fitsOffsets values (now (offsets .entry)) ⌝ }
+{
+    if offsets.len() == 0 {
+        return false;
+    }
+    if offsets[0] != 0 {
+        return false;
+    }
+    last_of(offsets) == segment::wide(values)
+}
+
+fn empty_fits(values: u32, ids: &[u32], offsets: &[u32]) -> bool
+    ensures { λ r. ⌜ r ≡ fitsEmpty values (now (ids .entry)) (now (offsets .entry)) ⌝ }
+{
+    if ids.len() != 0 {
+        return false;
+    }
+    if offsets.len() != 0 {
+        return false;
+    }
+    values == 0
+}
+
+fn full_fits(rows: u32, values: u32, ids: &[u32], offsets: &[u32]) -> bool
+    ensures { λ r. ⌜ r ≡ fitsFull rows values (now (ids .entry)) (now (offsets .entry)) ⌝ }
+{
+    if ids.len() != 0 {
+        return false;
+    }
+    if offsets.len() != 0 {
+        return false;
+    }
+    values == rows
+}
+
+fn optional_fits(rows: u32, values: u32, ids: &[u32], offsets: &[u32]) -> bool
+    ensures { λ r. ⌜ r ≡ fitsOptional rows values (now (ids .entry)) (now (offsets .entry)) ⌝ }
+{
+    if offsets.len() != 0 {
+        return false;
+    }
+    if segment::wide(values) != ids.len() {
+        return false;
+    }
+    ids_fit(ids, rows)
+}
+
+fn old_fits(rows: u32, values: u32, ids: &[u32], offsets: &[u32]) -> bool
+    ensures { λ r. ⌜ r ≡ fitsOld rows values (now (ids .entry)) (now (offsets .entry)) ⌝ }
+{
+    if ids.len() != 0 {
+        return false;
+    }
+    if offsets.len() != segment::wide(rows) + 1 {
+        return false;
+    }
+    if !offsets_fit(offsets, values) {
+        return false;
+    }
+    rises(offsets, 0)
+}
+
+fn new_fits(rows: u32, values: u32, ids: &[u32], offsets: &[u32]) -> bool
+    ensures { λ r. ⌜ r ≡ fitsNew rows values (now (ids .entry)) (now (offsets .entry)) ⌝ }
+{
+    if offsets.len() != ids.len() + 1 {
+        return false;
+    }
+    if !offsets_fit(offsets, values) {
+        return false;
+    }
+    if !rises(offsets, 1) {
+        return false;
+    }
+    ids_fit(ids, rows)
+}
+
+// Check 4 of one segment.
+pub fn lists_fit(r: segment::Record, ids: &[u32], offsets: &[u32]) -> bool
+    ensures { λ x. ⌜ x ≡ fitsLists (plain r) (now (ids .entry)) (now (offsets .entry)) ⌝ }
+{
+    if r.kind == 0 {
+        return empty_fits(r.values, ids, offsets);
+    }
+    if r.kind == 1 {
+        return full_fits(r.rows, r.values, ids, offsets);
+    }
+    if r.kind == 2 {
+        return optional_fits(r.rows, r.values, ids, offsets);
+    }
+    if r.kind == 3 {
+        return old_fits(r.rows, r.values, ids, offsets);
+    }
+    new_fits(r.rows, r.values, ids, offsets)
+}
+
+// ---- 5
+
+// Whether a comes strictly before b.
+fn comes_before(a: &[u8], b: &[u8]) -> bool
+    ensures { λ r. ⌜ r ≡ isBelow (compareBytes (now (a .entry)) (now (b .entry))) ⌝ }
+{
+    match term_order::compare_terms(a, b) {
+        term_order::TermOrder::Before => true,
+        term_order::TermOrder::Same => false,
+        term_order::TermOrder::After => false,
+    }
+}
+
+// Whether the terms, which are runs of bytes of the given lengths, are strictly ascending.
+fn terms_rise(lengths: &[u32], bytes: &[u8]) -> bool
+    requires { ⌜ sum (now lengths) ≤ length (now bytes) ⌝ }
+    ensures { λ r. ⌜ r ≡ termsRise (now (lengths .entry)) (now (bytes .entry)) ⌝ }
+{
+    if lengths.len() == 0 {
+        return true;
+    }
+    let mut from: usize = 0;
+    let mut to = segment::wide(lengths[0]);
+    let mut i: usize = 1;
+    while i < lengths.len() {
+        let end = to + segment::wide(lengths[i]);
+        if !comes_before(&bytes[from..to], &bytes[to..end]) {
+            return false;
+        }
+        from = to;
+        to = end;
+        i += 1;
+    }
+    true
+}
+
+// A Bool is at most 1, and an ordinal is below the terms.
+fn words_fit(t: u32, terms: usize, values: &[u64]) -> bool
+    ensures { λ r. ⌜ r ≡ fitsWords t terms (now (values .entry)) ⌝ }
+{
+    if t == 5 {
+        return all_below(values, 2);
+    }
+    if column_type::has_terms(t) {
+        return all_below(values, terms as u64);
+    }
+    true
+}
+
+// Terms stand only where the type has them and the kind is not Empty, and ascend.
+fn terms_fit(t: u32, kind: u32, lengths: &[u32], bytes: &[u8]) -> bool
+    requires { ⌜ sum (now lengths) ≤ length (now bytes) ⌝ }
+    ensures { λ r. ⌜ r ≡ fitsTerms t kind (now (lengths .entry)) (now (bytes .entry)) ⌝ }
+{
+    if lengths.len() == 0 {
+        return true;
+    }
+    if !column_type::has_terms(t) {
+        return false;
+    }
+    if kind == 0 {
+        return false;
+    }
+    terms_rise(lengths, bytes)
+}
+
+// Check 5 of one segment.
+pub fn values_fit(r: segment::Record, values: &[u64], lengths: &[u32], bytes: &[u8]) -> bool
+    requires { ⌜ sum (now lengths) ≤ length (now bytes) ⌝ }
+    ensures { λ x. ⌜ x ≡ fitsValues (plain r) (now (values .entry)) (now (lengths .entry)) (now (bytes .entry)) ⌝ }
+{
+    if !words_fit(r.typ, lengths.len(), values) {
+        return false;
+    }
+    terms_fit(r.typ, r.kind, lengths, bytes)
+}
+
+// ---- 6
+
+// Whether a bit is set past the rows. There are fewer than 64 such bits where the words are as many as the rows ask.
+fn past_rows(rows: u32, alive: &[u64]) -> bool
+    requires { ⌜ length (now alive) ≤ 67108864 ⌝ }
+    ensures { λ r. ⌜ r ≡ pastRows rows (now (alive .entry)) ⌝ }
+{
+    let end = alive.len() * 64;
+    let mut row = segment::wide(rows);
+    while row < end {
+        if column_index::is_alive(alive, row) {
+            return true;
+        }
+        row += 1;
+    }
+    false
+}
+
+fn has_stacked_set(mode: u32, flag: u32) -> bool
+    ensures { λ x. ⌜ x ≡ eqb mode 0 && eqb flag 1 ⌝ }
+{
+    if mode != 0 {
+        return false;
+    }
+    flag == 1
+}
+
+// Check 6 of one segment: an alive set in a stacked join is wrong, and so is a bit past the rows.
+pub fn alive_fits(mode: u32, r: segment::Record, alive: &[u64]) -> bool
+    requires { ⌜ length (now alive) ≤ 67108864 ⌝ }
+    ensures { λ x. ⌜ x ≡ fitsAlive mode (plain r) (now (alive .entry)) ⌝ }
+{
+    if has_stacked_set(mode, r.flag) {
+        return false;
+    }
+    !past_rows(r.rows, alive)
+}

@@ -1,0 +1,398 @@
+-- The laws of the order of segments and of the heap. Assumes nothing.
+use mathlib.Core.Path.{_≡_, refl, sym, ap, _∙_, subst}
+use mathlib.Core.Logic.{_⊎_, inl, inr, _≢_}
+use mathlib.Core.Bool.{Bool, true, false, false≢true, true≢false}
+use mathlib.Core.List.{List, [], _∷_, _++_}
+use Prim.Native.Nat.{ℕ, zero, suc, _+_, _-_, _/_, _≤_, _<_, compare, Ordering, Ordering·lt, Ordering·eq, Ordering·gt}
+use native.Mathlib.Decide.{ℕ-discrete}
+use native.Mathlib.Nat.{le-of-suc-le-suc}
+use native.Mathlib.Numerals.{add-one}
+use native.Mathlib.Omega.{arith}
+use lib.Arith.{lt-of-le-ne}
+use lib.Dec.{eqb, ltb}
+use lib.ListN.{length, set, getD, take, drop, length-set}
+use lib.Seq.{getD-set-other, getD-set-same, take-set-lt, getD-take, length-take-le, take-suc-set, take-suc}
+use Rattle.definitions.specs.Lists.{andThen, compareBytes, isBelow}
+use Rattle.definitions.proofs.Terms.{Cmp, cmp, Before, CmpBytes, cmp-bytes, after-is, same-is, before-trans, is-eq}
+use borrow.Author.Tests.{lt-ltb, le-ltb}
+use Rattle.term_order.specs.declared.TermOrder.{TermOrder}
+use Rattle.term_order.specs.Order.{orderOf}
+use Rattle.term_order.proofs.Laws.{told-lt, told-eq, told-gt}
+use Rattle.term_merger.specs.Order.{cell, keyOf, tieOf, orderAt, comesBefore, Readable}
+use Rattle.term_merger.specs.Heap.{one, count, Ordered, Sinking, FirstChild, Risen, Pushed, Out}
+use Rattle.term_merger.specs.declared.Heap.{Heap}
+
+-- ---- the order of segments: by k, then by t
+
+abbrev pub LE : List ℕ → List ℕ → List ℕ → List ℕ → Type 0
+LE k t k′ t′ = Before k k′ ⊎ ((k ≡ k′) × (Before t t′ ⊎ (t ≡ t′)))
+
+abbrev below2 : List ℕ → List ℕ → List ℕ → List ℕ → Bool
+below2 k t k′ t′ = isBelow (andThen (compareBytes k k′) (compareBytes t t′))
+
+le-of : (k t k′ t′ : List ℕ) → below2 k′ t′ k t ≡ false → LE k t k′ t′
+le-of k t k′ t′ h = go (compareBytes k′ k) (cmp-bytes k′ k) (compareBytes t′ t) (cmp-bytes t′ t) h
+  where
+    go : (o : Ordering) → CmpBytes o k′ k → (p : Ordering) → CmpBytes p t′ t → isBelow (andThen o p) ≡ false → LE k t k′ t′
+    go Ordering·lt x p y z = absurd (true≢false z)
+    go Ordering·eq x Ordering·lt y z = absurd (true≢false z)
+    go Ordering·eq x Ordering·eq y z = inr (sym x, inr (sym y))
+    go Ordering·eq x Ordering·gt y z = inr (sym x, inl y)
+    go Ordering·gt x p y z = inl x
+
+of-le : (k t k′ t′ : List ℕ) → LE k t k′ t′ → below2 k′ t′ k t ≡ false
+of-le k t k′ t′ (inl b) = rw (after-is b)
+of-le k t k′ t′ (inr (e, inl b)) = rw (e, same-is k′, after-is b)
+of-le k t k′ t′ (inr (e, inr f)) = rw (e, same-is k′, f, same-is t′)
+
+le-trans : (k t k′ t′ k″ t″ : List ℕ) → LE k t k′ t′ → LE k′ t′ k″ t″ → LE k t k″ t″
+le-trans k t k′ t′ k″ t″ (inl b) (inl c) = inl (before-trans b c)
+le-trans k t k′ t′ k″ t″ (inl b) (inr (f, y)) = inl (subst (λ (z : List ℕ). Before k z) f b)
+le-trans k t k′ t′ k″ t″ (inr (e, x)) (inl c) = inl (subst (λ (z : List ℕ). Before z k″) (sym e) c)
+le-trans k t k′ t′ k″ t″ (inr (e, x)) (inr (f, y)) = inr (e ∙ f, ties x y)
+  where
+    ties : Before t t′ ⊎ (t ≡ t′) → Before t′ t″ ⊎ (t′ ≡ t″) → Before t t″ ⊎ (t ≡ t″)
+    ties (inl b) (inl c) = inl (before-trans b c)
+    ties (inl b) (inr g) = inl (subst (λ (z : List ℕ). Before t z) g b)
+    ties (inr g) (inl c) = inl (subst (λ (z : List ℕ). Before z t″) (sym g) c)
+    ties (inr g) (inr h) = inr (g ∙ h)
+
+of-below : (k t k′ t′ : List ℕ) → below2 k t k′ t′ ≡ true → LE k t k′ t′
+of-below k t k′ t′ h = go (compareBytes k k′) (cmp-bytes k k′) (compareBytes t t′) (cmp-bytes t t′) h
+  where
+    go : (o : Ordering) → CmpBytes o k k′ → (p : Ordering) → CmpBytes p t t′ → isBelow (andThen o p) ≡ true → LE k t k′ t′
+    go Ordering·lt x p y z = inl x
+    go Ordering·eq x Ordering·lt y z = inr (x, inl y)
+    go Ordering·eq x Ordering·eq y z = absurd (false≢true z)
+    go Ordering·eq x Ordering·gt y z = absurd (false≢true z)
+    go Ordering·gt x p y z = absurd (false≢true z)
+
+-- a stands at or before b
+abbrev pub AtMost : List ℕ → List (List ℕ) → ℕ → ℕ → Type 0
+AtMost bytes rows a b = comesBefore bytes rows b a ≡ false
+
+module _ (bytes : List ℕ) (rows : List (List ℕ)) where
+  pub at-most-le : (a b : ℕ) → AtMost bytes rows a b → LE (keyOf bytes rows a) (tieOf rows a) (keyOf bytes rows b) (tieOf rows b)
+  unfolding comesBefore orderAt
+  at-most-le a b h = le-of _ _ _ _ h
+
+  le-at-most : (a b : ℕ) → LE (keyOf bytes rows a) (tieOf rows a) (keyOf bytes rows b) (tieOf rows b) → AtMost bytes rows a b
+  unfolding comesBefore orderAt
+  le-at-most a b h = of-le _ _ _ _ h
+
+  pub at-most-refl : (a : ℕ) → AtMost bytes rows a a
+  at-most-refl a = le-at-most a a (inr (refl, inr refl))
+
+  pub at-most-trans : (a b c : ℕ) → AtMost bytes rows a b → AtMost bytes rows b c → AtMost bytes rows a c
+  at-most-trans a b c h k = le-at-most a c (le-trans _ _ _ _ _ _ (at-most-le a b h) (at-most-le b c k))
+
+  before-le : (a b : ℕ) → comesBefore bytes rows a b ≡ true → LE (keyOf bytes rows a) (tieOf rows a) (keyOf bytes rows b) (tieOf rows b)
+  unfolding comesBefore orderAt
+  before-le a b h = of-below _ _ _ _ h
+
+  pub before-at-most : (a b : ℕ) → comesBefore bytes rows a b ≡ true → AtMost bytes rows a b
+  before-at-most a b h = le-at-most a b (before-le a b h)
+
+-- ---- what a list holds
+
+pub count-set : (x : ℕ) (xs : List ℕ) (i v : ℕ) → i < length xs → count x (set xs i v) + one (eqb x (getD xs i 0)) ≡ count x xs + one (eqb x v)
+unfolding count
+count-set x [] i v h = omega arith
+count-set x (y ∷ ys) zero v h = omega arith
+count-set x (y ∷ ys) (suc i) v h = let e = count-set x ys i v (le-of-suc-le-suc h) in omega arith
+
+pub count-append : (x : ℕ) (xs ys : List ℕ) → count x (xs ++ ys) ≡ count x xs + count x ys
+unfolding count
+count-append x [] ys = omega arith
+count-append x (z ∷ zs) ys = let e = count-append x zs ys in omega arith
+
+-- two numbers of the first n change places
+pub count-swap : (seg : List ℕ) (n i p : ℕ) → n ≤ length seg → i < n → p < n → (p ≡ i → ⊥) → (x : ℕ)
+    → count x (take n (set (set seg i (getD seg p 0)) p (getD seg i 0))) ≡ count x (take n seg)
+count-swap seg n i p h hi hp d x =
+    let a : ℕ = getD seg i 0 in
+    let b : ℕ = getD seg p 0 in
+    let l : List ℕ = take n seg in
+    let m : length l ≡ n = length-take-le n seg h in
+    let e₀ : take n (set (set seg i b) p a) ≡ set (set l i b) p a = take-set-lt n (set seg i b) p a hp ∙ ap (λ (z : List ℕ). set z p a) (take-set-lt n seg i b hi) in
+    let ga : getD l i 0 ≡ a = getD-take n seg i 0 hi in
+    let gb : getD l p 0 ≡ b = getD-take n seg p 0 hp in
+    let e₁ : count x (set l i b) + one (eqb x (getD l i 0)) ≡ count x l + one (eqb x b) = count-set x l i b (omega arith) in
+    let e₂ : count x (set (set l i b) p a) + one (eqb x (getD (set l i b) p 0)) ≡ count x (set l i b) + one (eqb x a) = count-set x (set l i b) p a (rw length-set (omega arith)) in
+    let o : getD (set l i b) p 0 ≡ b = getD-set-other l i p b 0 d ∙ gb in
+    let e₃ : one (eqb x (getD (set l i b) p 0)) ≡ one (eqb x b) = ap (λ (z : ℕ). one (eqb x z)) o in
+    let e₄ : one (eqb x (getD l i 0)) ≡ one (eqb x a) = ap (λ (z : ℕ). one (eqb x z)) ga in
+    let e₅ : count x (take n (set (set seg i b) p a)) ≡ count x (set (set l i b) p a) = ap (count x) e₀ in
+    omega arith
+
+-- ---- order kept while a number goes up or down. g j is the number at place j
+
+pub same? : (a b : ℕ) → (a ≡ b) ⊎ (a ≡ b → ⊥)
+same? a b = go (ℕ-discrete a b)
+  where
+    go : Dec (a ≡ b) → (a ≡ b) ⊎ (a ≡ b → ⊥)
+    go (yes e) = inl e
+    go (no n) = inr n
+
+move : (le : ℕ → ℕ → Type 0) {a a′ b b′ : ℕ} → a′ ≡ a → b′ ≡ b → le a b → le a′ b′
+move le {a} {a′} {b} {b′} p q h = subst (λ (x : ℕ). le x b′) (sym p) (subst (λ (y : ℕ). le a y) (sym q) h)
+
+pub record Rising (le : ℕ → ℕ → Type 0) (g : ℕ → ℕ) (i n : ℕ) : Type 0 where
+  pub others : (j : ℕ) → 0 < j → j < n → (j ≡ i → ⊥) → le (g ((j - 1) / 2)) (g j)
+  pub under : (j : ℕ) → 0 < j → j < n → (j - 1) / 2 ≡ i → 0 < i → le (g ((i - 1) / 2)) (g j)
+
+pub rising-start : (le : ℕ → ℕ → Type 0) (g : ℕ → ℕ) (n : ℕ) → ((j : ℕ) → 0 < j → j < n → le (g ((j - 1) / 2)) (g j)) → Rising le g n (n + 1)
+rising-start le g n o = record { others = λ j p l d. o j p (let x : j ≢ n = d in lt-of-le-ne (omega arith) x); under = λ j p l e q. absurd (omega arith) }
+
+pub rising-end : (le : ℕ → ℕ → Type 0) (g : ℕ → ℕ) (i n : ℕ) → Rising le g i n → (0 < i → le (g ((i - 1) / 2)) (g i)) → (j : ℕ) → 0 < j → j < n → le (g ((j - 1) / 2)) (g j)
+rising-end le g i n r h j p l = go (same? j i)
+  where
+    go : (j ≡ i) ⊎ (j ≡ i → ⊥) → le (g ((j - 1) / 2)) (g j)
+    go (inl e) = subst (λ (x : ℕ). le (g ((x - 1) / 2)) (g x)) (sym e) (h (omega arith))
+    go (inr d) = r .others j p l d
+
+module _ (le : ℕ → ℕ → Type 0) (tr : (a b c : ℕ) → le a b → le b c → le a c) (g g′ : ℕ → ℕ) (i n : ℕ) (r : Rising le g i n) (pos : 0 < i) (inside : i < n) (less : le (g i) (g ((i - 1) / 2)))
+    (at-p : g′ ((i - 1) / 2) ≡ g i) (at-i : g′ i ≡ g ((i - 1) / 2)) (rest : (j : ℕ) → (j ≡ (i - 1) / 2 → ⊥) → (j ≡ i → ⊥) → g′ j ≡ g j) where
+  up-others : (j : ℕ) → 0 < j → j < n → (j ≡ (i - 1) / 2 → ⊥) → le (g′ ((j - 1) / 2)) (g′ j)
+  up-others j q l d = go (same? j i) (same? ((j - 1) / 2) i) (same? ((j - 1) / 2) ((i - 1) / 2))
+    where
+      go : (j ≡ i) ⊎ (j ≡ i → ⊥) → ((j - 1) / 2 ≡ i) ⊎ ((j - 1) / 2 ≡ i → ⊥) → ((j - 1) / 2 ≡ (i - 1) / 2) ⊎ ((j - 1) / 2 ≡ (i - 1) / 2 → ⊥) → le (g′ ((j - 1) / 2)) (g′ j)
+      go (inl e) u v = subst (λ (x : ℕ). le (g′ ((x - 1) / 2)) (g′ x)) (sym e) (move le at-p at-i less)
+      go (inr e) (inl u) v = move le (ap g′ u ∙ at-i) (rest j d e) (r .under j q l u pos)
+      go (inr e) (inr u) (inl v) = move le (ap g′ v ∙ at-p) (rest j d e) (tr _ _ _ less (subst (λ (x : ℕ). le (g x) (g j)) v (r .others j q l e)))
+      go (inr e) (inr u) (inr v) = move le (rest ((j - 1) / 2) v u) (rest j d e) (r .others j q l e)
+
+  up-under : (j : ℕ) → 0 < j → j < n → (j - 1) / 2 ≡ (i - 1) / 2 → 0 < (i - 1) / 2 → le (g′ (((i - 1) / 2 - 1) / 2)) (g′ j)
+  up-under j q l e z = go (same? j i)
+    where
+      top : g′ (((i - 1) / 2 - 1) / 2) ≡ g (((i - 1) / 2 - 1) / 2)
+      top = rest (((i - 1) / 2 - 1) / 2) (λ x. omega arith) (λ x. omega arith)
+
+      above : le (g (((i - 1) / 2 - 1) / 2)) (g ((i - 1) / 2))
+      above = r .others ((i - 1) / 2) z (omega arith) (λ x. omega arith)
+
+      go : (j ≡ i) ⊎ (j ≡ i → ⊥) → le (g′ (((i - 1) / 2 - 1) / 2)) (g′ j)
+      go (inl x) = move le top (ap g′ x ∙ at-i) above
+      go (inr x) = move le top (rest j (λ y. omega arith) x) (tr _ _ _ above (subst (λ (y : ℕ). le (g y) (g j)) e (r .others j q l x)))
+
+  pub rising-swap : Rising le g′ ((i - 1) / 2) n
+  rising-swap = record { others = up-others; under = up-under }
+
+module _ (le : ℕ → ℕ → Type 0) (g g′ : ℕ → ℕ) (i c n : ℕ)
+    (others : (j : ℕ) → 0 < j → j < n → ((j - 1) / 2 ≡ i → ⊥) → le (g ((j - 1) / 2)) (g j))
+    (under : (j : ℕ) → 0 < j → j < n → (j - 1) / 2 ≡ i → 0 < i → le (g ((i - 1) / 2)) (g j))
+    (child : (c - 1) / 2 ≡ i) (pos : 0 < c) (inside : c < n) (less : le (g c) (g i))
+    (least : (j : ℕ) → 0 < j → j < n → (j - 1) / 2 ≡ i → le (g c) (g j))
+    (at-c : g′ c ≡ g i) (at-i : g′ i ≡ g c) (rest : (j : ℕ) → (j ≡ i → ⊥) → (j ≡ c → ⊥) → g′ j ≡ g j) where
+  pub down-others : (j : ℕ) → 0 < j → j < n → ((j - 1) / 2 ≡ c → ⊥) → le (g′ ((j - 1) / 2)) (g′ j)
+  down-others j q l d = go (same? j c) (same? j i) (same? ((j - 1) / 2) i)
+    where
+      go : (j ≡ c) ⊎ (j ≡ c → ⊥) → (j ≡ i) ⊎ (j ≡ i → ⊥) → ((j - 1) / 2 ≡ i) ⊎ ((j - 1) / 2 ≡ i → ⊥) → le (g′ ((j - 1) / 2)) (g′ j)
+      go (inl e) u v = move le (ap (λ (x : ℕ). g′ ((x - 1) / 2)) e ∙ ap g′ child ∙ at-i) (ap g′ e ∙ at-c) less
+      go (inr e) (inl u) v =
+          move le (rest ((j - 1) / 2) (λ x. omega arith) d ∙ ap (λ (x : ℕ). g ((x - 1) / 2)) u) (ap g′ u ∙ at-i) (under c pos inside child (omega arith))
+      go (inr e) (inr u) (inl v) = move le (ap g′ v ∙ at-i) (rest j u e) (least j q l v)
+      go (inr e) (inr u) (inr v) = move le (rest ((j - 1) / 2) v d) (rest j u e) (others j q l v)
+
+  pub down-under : (j : ℕ) → 0 < j → j < n → (j - 1) / 2 ≡ c → 0 < c → le (g′ ((c - 1) / 2)) (g′ j)
+  down-under j q l e z =
+      move le (ap g′ child ∙ at-i) (rest j (λ x. omega arith) (λ x. omega arith)) (subst (λ (y : ℕ). le (g y) (g j)) e (others j q l (λ x. omega arith)))
+
+-- the first place has the least
+pub root-least : (le : ℕ → ℕ → Type 0) → ((a : ℕ) → le a a) → ((a b c : ℕ) → le a b → le b c → le a c) → (g : ℕ → ℕ) (n : ℕ)
+    → ((j : ℕ) → 0 < j → j < n → le (g ((j - 1) / 2)) (g j)) → (m j : ℕ) → j ≤ m → j < n → le (g 0) (g j)
+root-least le rf tr g n o zero j h l = subst (λ (x : ℕ). le (g 0) (g x)) (let e : 0 ≡ j = omega arith in e) (rf (g 0))
+root-least le rf tr g n o (suc m) j h l = go (same? j 0) (λ (k : 0 < j). root-least le rf tr g n o m ((j - 1) / 2) (omega arith) (omega arith))
+  where
+    go : (j ≡ 0) ⊎ (j ≡ 0 → ⊥) → (0 < j → le (g 0) (g ((j - 1) / 2))) → le (g 0) (g j)
+    go (inl e) f = subst (λ (x : ℕ). le (g 0) (g x)) (sym e) (rf (g 0))
+    go (inr d) f = let p : 0 < j = omega arith in tr _ _ _ (f p) (o j p l)
+
+-- ---- the same over the heap's array
+
+module _ (bytes : List ℕ) (rows : List (List ℕ)) where
+  abbrev pub Up : List ℕ → ℕ → ℕ → Type 0
+  Up seg i n = Rising (AtMost bytes rows) (λ j. getD seg j 0) i n
+
+  pub up-start : (seg : List ℕ) (n : ℕ) → Ordered bytes rows seg n → Up seg n (n + 1)
+  unfolding Ordered
+  up-start seg n o = rising-start (AtMost bytes rows) (λ j. getD seg j 0) n o
+
+  pub up-end : (seg : List ℕ) (i n : ℕ) → Up seg i n → (0 < i → AtMost bytes rows (getD seg ((i - 1) / 2) 0) (getD seg i 0)) → Ordered bytes rows seg n
+  unfolding Ordered
+  up-end seg i n r h = rising-end (AtMost bytes rows) (λ j. getD seg j 0) i n r h
+
+  pub up-swap : (seg : List ℕ) (i n : ℕ) → 0 < i → i < n → i < length seg → AtMost bytes rows (getD seg i 0) (getD seg ((i - 1) / 2) 0) → Up seg i n
+      → Up (set (set seg i (getD seg ((i - 1) / 2) 0)) ((i - 1) / 2) (getD seg i 0)) ((i - 1) / 2) n
+  up-swap seg i n pos inside len less r =
+      let q : ℕ = (i - 1) / 2 in
+      let s₁ : List ℕ = set seg i (getD seg q 0) in
+      let s₂ : List ℕ = set s₁ q (getD seg i 0) in
+      rising-swap (AtMost bytes rows) (at-most-trans bytes rows) (λ j. getD seg j 0) (λ j. getD s₂ j 0) i n r pos inside less
+      (getD-set-same s₁ q (getD seg i 0) 0 (rw length-set (omega arith)))
+      (getD-set-other s₁ q i (getD seg i 0) 0 (λ e. omega arith) ∙ getD-set-same seg i (getD seg q 0) 0 len)
+      (λ j d e. getD-set-other s₁ q j (getD seg i 0) 0 d ∙ getD-set-other seg i j (getD seg q 0) 0 e)
+
+  pub down-swap : (seg : List ℕ) (i c n : ℕ) → (c - 1) / 2 ≡ i → 0 < c → c < n → c < length seg → AtMost bytes rows (getD seg c 0) (getD seg i 0)
+      → ((j : ℕ) → 0 < j → j < n → (j - 1) / 2 ≡ i → AtMost bytes rows (getD seg c 0) (getD seg j 0)) → Sinking bytes rows seg i n
+      → Sinking bytes rows (set (set seg c (getD seg i 0)) i (getD seg c 0)) c n
+  down-swap seg i c n child pos inside len less least r =
+      let s₁ : List ℕ = set seg c (getD seg i 0) in
+      let s₂ : List ℕ = set s₁ i (getD seg c 0) in
+      let ac : getD s₂ c 0 ≡ getD seg i 0 = getD-set-other s₁ i c (getD seg c 0) 0 (λ e. omega arith) ∙ getD-set-same seg c (getD seg i 0) 0 len in
+      let ai : getD s₂ i 0 ≡ getD seg c 0 = getD-set-same s₁ i (getD seg c 0) 0 (rw length-set (omega arith)) in
+      let rs : (j : ℕ) → (j ≡ i → ⊥) → (j ≡ c → ⊥) → getD s₂ j 0 ≡ getD seg j 0 = λ j d e. getD-set-other s₁ i j (getD seg c 0) 0 d ∙ getD-set-other seg c j (getD seg i 0) 0 e in
+      record {
+        others = down-others (AtMost bytes rows) (λ j. getD seg j 0) (λ j. getD s₂ j 0) i c n (r .others) (r .under) child pos inside less least ac ai rs;
+        under = down-under (AtMost bytes rows) (λ j. getD seg j 0) (λ j. getD s₂ j 0) i c n (r .others) (r .under) child pos inside less least ac ai rs;
+      }
+
+  pub down-end : (seg : List ℕ) (i n : ℕ) → Sinking bytes rows seg i n → ((j : ℕ) → 0 < j → j < n → (j - 1) / 2 ≡ i → AtMost bytes rows (getD seg i 0) (getD seg j 0)) → Ordered bytes rows seg n
+  unfolding Ordered
+  down-end seg i n r h j p l = go (same? ((j - 1) / 2) i)
+    where
+      go : ((j - 1) / 2 ≡ i) ⊎ ((j - 1) / 2 ≡ i → ⊥) → AtMost bytes rows (getD seg ((j - 1) / 2) 0) (getD seg j 0)
+      go (inl e) = subst (λ (x : ℕ). AtMost bytes rows (getD seg x 0) (getD seg j 0)) (sym e) (h j p l e)
+      go (inr d) = r .others j p l d
+
+  -- the last number goes to the first place
+  pub down-start : (seg : List ℕ) (v n : ℕ) → Ordered bytes rows seg (n + 1) → Sinking bytes rows (set seg 0 v) 0 n
+  unfolding Ordered
+  down-start seg v n o =
+      record {
+        others = λ j p l d. move (AtMost bytes rows) (getD-set-other seg 0 ((j - 1) / 2) v 0 d) (getD-set-other seg 0 j v 0 (λ e. omega arith)) (o j p (omega arith));
+        under = λ j p l e q. absurd (omega arith);
+      }
+
+  pub top-least : (seg : List ℕ) (n j : ℕ) → Ordered bytes rows seg n → j < n → AtMost bytes rows (getD seg 0 0) (getD seg j 0)
+  unfolding Ordered
+  top-least seg n j o l = root-least (AtMost bytes rows) (at-most-refl bytes rows) (at-most-trans bytes rows) (λ j. getD seg j 0) n o j j (omega arith) l
+
+-- ---- what the code's comparison says
+
+pub readable-at : (bytes : List ℕ) (rows : List (List ℕ)) (s : ℕ) → Readable bytes rows → s < 256 → (cell rows s 0 ≤ cell rows s 1) × (cell rows s 1 ≤ length bytes)
+unfolding Readable
+readable-at bytes rows s r h = r s h
+
+module _ (bytes : List ℕ) (rows : List (List ℕ)) (a b : ℕ) where
+  abbrev part : ℕ → List ℕ
+  part s = take (cell rows s 1 - cell rows s 0) (drop (cell rows s 0) bytes)
+
+  pub before-lt : TermOrder.Before ≡ orderOf (compareBytes (part a) (part b)) → true ≡ comesBefore bytes rows a b
+  unfolding comesBefore orderAt keyOf
+  before-lt e = rw (told-lt (compareBytes (part a) (part b)) e)
+
+  pub before-gt : TermOrder.After ≡ orderOf (compareBytes (part a) (part b)) → false ≡ comesBefore bytes rows a b
+  unfolding comesBefore orderAt keyOf
+  before-gt e = rw (told-gt (compareBytes (part a) (part b)) e)
+
+  ltb-below : (x y : ℕ) → ltb x y ≡ isBelow (andThen (compare x y) Ordering·eq)
+  ltb-below x y = go (compare x y) (cmp x y)
+    where
+      go : (o : Ordering) → Cmp o x y → ltb x y ≡ isBelow (andThen o Ordering·eq)
+      go Ordering·lt h = lt-ltb x y h
+      go Ordering·eq h = le-ltb x y (omega arith)
+      go Ordering·gt h = le-ltb x y (omega arith)
+
+  pub before-tie : TermOrder.Same ≡ orderOf (compareBytes (part a) (part b)) → (cell rows a 2 ≡ cell rows b 2 → ⊥) → ltb (cell rows a 2) (cell rows b 2) ≡ comesBefore bytes rows a b
+  unfolding comesBefore orderAt keyOf
+  before-tie e d = rw (told-eq (compareBytes (part a) (part b)) e) (go (compare (cell rows a 2) (cell rows b 2)) (cmp (cell rows a 2) (cell rows b 2)))
+    where
+      go : (o : Ordering) → Cmp o (cell rows a 2) (cell rows b 2) → ltb (cell rows a 2) (cell rows b 2) ≡ isBelow (andThen o (andThen (compare a b) Ordering·eq))
+      go Ordering·lt h = lt-ltb (cell rows a 2) (cell rows b 2) h
+      go Ordering·eq h = absurd (d h)
+      go Ordering·gt h = le-ltb (cell rows a 2) (cell rows b 2) (omega arith)
+
+  pub before-number : TermOrder.Same ≡ orderOf (compareBytes (part a) (part b)) → cell rows a 2 ≡ cell rows b 2 → ltb a b ≡ comesBefore bytes rows a b
+  unfolding comesBefore orderAt keyOf
+  before-number e d = rw (told-eq (compareBytes (part a) (part b)) e, d, is-eq (cell rows b 2)) (ltb-below a b)
+
+-- ---- the first child
+
+module _ (bytes : List ℕ) (rows : List (List ℕ)) (seg : List ℕ) (l n : ℕ) where
+  pub child-last : l < n → n ≤ l + 1 → FirstChild bytes rows seg l n l
+  child-last h k =
+      record {
+        low = omega arith;
+        high = omega arith;
+        inside = h;
+        least = λ j p q r. subst (λ (x : ℕ). AtMost bytes rows (getD seg l 0) (getD seg x 0)) (let e : l ≡ j = omega arith in e) (at-most-refl bytes rows (getD seg l 0));
+      }
+
+  pub child-first : l < n → AtMost bytes rows (getD seg l 0) (getD seg (l + 1) 0) → FirstChild bytes rows seg l n l
+  child-first h k = record { low = omega arith; high = omega arith; inside = h; least = λ j p q r. go j p q (same? j l) }
+    where
+      go : (j : ℕ) → l ≤ j → j ≤ l + 1 → (j ≡ l) ⊎ (j ≡ l → ⊥) → AtMost bytes rows (getD seg l 0) (getD seg j 0)
+      go j p q (inl e) = subst (λ (x : ℕ). AtMost bytes rows (getD seg l 0) (getD seg x 0)) (sym e) (at-most-refl bytes rows (getD seg l 0))
+      go j p q (inr d) = subst (λ (x : ℕ). AtMost bytes rows (getD seg l 0) (getD seg x 0)) (let x : j ≢ l = d in let e : l + 1 ≡ j = omega arith in e) k
+
+  pub child-second : l + 1 < n → comesBefore bytes rows (getD seg (l + 1) 0) (getD seg l 0) ≡ true → FirstChild bytes rows seg l n (l + 1)
+  child-second h k = record { low = omega arith; high = omega arith; inside = h; least = λ j p q r. go j p q (same? j l) }
+    where
+      go : (j : ℕ) → l ≤ j → j ≤ l + 1 → (j ≡ l) ⊎ (j ≡ l → ⊥) → AtMost bytes rows (getD seg (l + 1) 0) (getD seg j 0)
+      go j p q (inl e) = subst (λ (x : ℕ). AtMost bytes rows (getD seg (l + 1) 0) (getD seg x 0)) (sym e) (before-at-most bytes rows (getD seg (l + 1) 0) (getD seg l 0) k)
+      go j p q (inr d) =
+          subst (λ (x : ℕ). AtMost bytes rows (getD seg (l + 1) 0) (getD seg x 0)) (let x : j ≢ l = d in let e : l + 1 ≡ j = omega arith in e) (at-most-refl bytes rows (getD seg (l + 1) 0))
+
+-- ---- push and pop
+
+module _ (bytes : List ℕ) (rows : List (List ℕ)) where
+  pub ordered-set : (seg : List ℕ) (n v : ℕ) → Ordered bytes rows seg n → Ordered bytes rows (set seg n v) n
+  unfolding Ordered
+  ordered-set seg n v o j p l = move (AtMost bytes rows) (getD-set-other seg n ((j - 1) / 2) v 0 (λ e. omega arith)) (getD-set-other seg n j v 0 (λ e. omega arith)) (o j p l)
+
+  pub ordered-at : (seg : List ℕ) (n m : ℕ) → n ≡ m → Ordered bytes rows seg n → Ordered bytes rows seg m
+  ordered-at seg n m e o = subst (λ (x : ℕ). Ordered bytes rows seg x) e o
+
+count-one : (x v : ℕ) → count x (v ∷ []) ≡ one (eqb x v)
+unfolding count
+count-one x v = omega arith
+
+count-put : (seg : List ℕ) (n v x : ℕ) → n < length seg → count x (take (n + 1) (set seg n v)) ≡ count x (take n seg) + one (eqb x v)
+count-put seg n v x h =
+    let e : take (n + 1) (set seg n v) ≡ take n seg ++ (v ∷ []) = ap (λ (m : ℕ). take m (set seg n v)) (add-one n) ∙ take-suc-set seg n v h in
+    ap (count x) e ∙ count-append x (take n seg) (v ∷ []) ∙ ap (λ (m : ℕ). count x (take n seg) + m) (count-one x v)
+
+count-more : (seg : List ℕ) (n x : ℕ) → n < length seg → count x (take (n + 1) seg) ≡ count x (take n seg) + one (eqb x (getD seg n 0))
+count-more seg n x h =
+    let e : take (n + 1) seg ≡ take n seg ++ (getD seg n 0 ∷ []) = ap (λ (m : ℕ). take m seg) (add-one n) ∙ take-suc seg n 0 h in
+    ap (count x) e ∙ count-append x (take n seg) (getD seg n 0 ∷ []) ∙ ap (λ (m : ℕ). count x (take n seg) + m) (count-one x (getD seg n 0))
+
+-- the last of n + 1 numbers takes the place of the first
+count-drop : (seg : List ℕ) (n x : ℕ) → n < length seg → count x (take n (set seg 0 (getD seg n 0))) + one (eqb x (getD seg 0 0)) ≡ count x (take (n + 1) seg)
+count-drop seg zero x h = sym (count-more seg 0 x h)
+count-drop seg (suc n) x h =
+    let v : ℕ = getD seg (suc n) 0 in
+    let l : List ℕ = take (suc n) seg in
+    let e : take (suc n) (set seg 0 v) ≡ set l 0 v = take-set-lt (suc n) seg 0 v (omega arith) in
+    let f : count x (set l 0 v) + one (eqb x (getD l 0 0)) ≡ count x l + one (eqb x v) = count-set x l 0 v (rw (length-take-le (suc n) seg (omega arith)) (omega arith)) in
+    let g : one (eqb x (getD l 0 0)) ≡ one (eqb x (getD seg 0 0)) = ap (λ (z : ℕ). one (eqb x z)) (getD-take (suc n) seg 0 0 (omega arith)) in
+    let k : count x (take (suc n + 1) seg) ≡ count x l + one (eqb x v) = count-more seg (suc n) x h in
+    let m : count x (take (suc n) (set seg 0 v)) ≡ count x (set l 0 v) = ap (count x) e in
+    omega arith
+
+module _ (bytes : List ℕ) (rows : List (List ℕ)) where
+  pub pushed : (h m r : Heap) (s : ℕ) → length (h .seg) ≡ 256 → h .len < 256 → m .len ≡ h .len + 1 → m .seg ≡ set (h .seg) (h .len) s
+      → Risen bytes rows m (h .len + 1) r → Pushed bytes rows h s r
+  pushed h m r s l k e f g =
+      let n : r .len ≡ h .len + 1 = g .len ∙ e in
+      record {
+        len = n;
+        ordered = ordered-at bytes rows (r .seg) (h .len + 1) (r .len) (sym n) (g .ordered);
+        holds = λ x.
+            ap (λ (z : ℕ). count x (take z (r .seg))) n ∙ g .holds x ∙ ap (λ (z : List ℕ). count x (take (h .len + 1) z)) f
+            ∙ count-put (h .seg) (h .len) s x (omega arith);
+      }
+
+  pub popped : (h m r : Heap) (n : ℕ) → length (h .seg) ≡ 256 → h .len ≤ 256 → h .len ≡ n + 1 → m .len ≡ n → m .seg ≡ set (h .seg) 0 (getD (h .seg) n 0)
+      → Ordered bytes rows (h .seg) (h .len) → Risen bytes rows m n r → Out bytes rows h r (getD (h .seg) 0 0)
+  popped h m r n l k z e f o g =
+      let q : r .len ≡ n = g .len ∙ e in
+      record {
+        len = omega arith;
+        ordered = ordered-at bytes rows (r .seg) n (r .len) (sym q) (g .ordered);
+        holds = λ x.
+            ap (λ (y : ℕ). y + one (eqb x (getD (h .seg) 0 0))) (ap (λ (y : ℕ). count x (take y (r .seg))) q ∙ g .holds x ∙ ap (λ (y : List ℕ). count x (take n y)) f)
+            ∙ count-drop (h .seg) n x (omega arith) ∙ ap (λ (y : ℕ). count x (take y (h .seg))) (sym z);
+        least = λ j i. top-least bytes rows (h .seg) (h .len) j o i;
+      }

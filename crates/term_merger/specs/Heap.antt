@@ -1,0 +1,59 @@
+-- What a heap of segment numbers holds, and its order. Assumes nothing.
+use Prim.Native.Nat.{ℕ, _+_, _-_, _/_, _≤_, _<_}
+use mathlib.Core.Bool.{Bool, true, false}
+use mathlib.Core.List.{List, [], _∷_}
+use mathlib.Core.Path.{_≡_}
+use lib.Dec.{eqb}
+use lib.ListN.{take, getD, replicate}
+use Rattle.term_merger.specs.declared.Heap.{Heap}
+use Rattle.term_merger.specs.Order.{comesBefore}
+
+abbrev pub emptyHeap : Heap
+emptyHeap = record { seg = replicate 256 0; len = 0 }
+
+-- the segment numbers held, in the array's order
+abbrev pub held : Heap → List ℕ
+held h = take (h .len) (h .seg)
+
+abbrev pub one : Bool → ℕ
+one true = 1
+one false = 0
+
+-- how often x stands in a list
+unfoldable pub count : ℕ → List ℕ → ℕ
+count x [] = 0
+count x (y ∷ ys) = one (eqb x y) + count x ys
+
+-- none of the first n comes before the one above it
+unfoldable pub Ordered : List ℕ → List (List ℕ) → List ℕ → ℕ → Type 0
+Ordered bytes rows seg n = (j : ℕ) → 0 < j → j < n → comesBefore bytes rows (getD seg j 0) (getD seg ((j - 1) / 2) 0) ≡ false
+
+pub record Pushed (bytes : List ℕ) (rows : List (List ℕ)) (h : Heap) (s : ℕ) (r : Heap) : Type 0 where
+  pub len : r .len ≡ h .len + 1
+  pub ordered : Ordered bytes rows (r .seg) (r .len)
+  pub holds : (x : ℕ) → count x (held r) ≡ count x (held h) + one (eqb x s)
+
+-- the top is out, it was the least, and the rest is a heap
+pub record Out (bytes : List ℕ) (rows : List (List ℕ)) (h : Heap) (r : Heap) (top : ℕ) : Type 0 where
+  pub len : r .len + 1 ≡ h .len
+  pub ordered : Ordered bytes rows (r .seg) (r .len)
+  pub holds : (x : ℕ) → count x (held r) + one (eqb x top) ≡ count x (held h)
+  pub least : (j : ℕ) → j < h .len → comesBefore bytes rows (getD (h .seg) j 0) top ≡ false
+
+-- the first n are in order, and are the same numbers as before, each as often
+pub record Risen (bytes : List ℕ) (rows : List (List ℕ)) (h : Heap) (n : ℕ) (r : Heap) : Type 0 where
+  pub len : r .len ≡ h .len
+  pub ordered : Ordered bytes rows (r .seg) n
+  pub holds : (x : ℕ) → count x (take n (r .seg)) ≡ count x (take n (h .seg))
+
+-- c is l or the place after it, and neither of the two comes before the one at c
+pub record FirstChild (bytes : List ℕ) (rows : List (List ℕ)) (seg : List ℕ) (l n c : ℕ) : Type 0 where
+  pub low : l ≤ c
+  pub high : c ≤ l + 1
+  pub inside : c < n
+  pub least : (j : ℕ) → l ≤ j → j ≤ l + 1 → j < n → comesBefore bytes rows (getD seg j 0) (getD seg c 0) ≡ false
+
+-- the first n are in order but for the one at i, which may belong further down
+pub record Sinking (bytes : List ℕ) (rows : List (List ℕ)) (seg : List ℕ) (i n : ℕ) : Type 0 where
+  pub others : (j : ℕ) → 0 < j → j < n → ((j - 1) / 2 ≡ i → ⊥) → comesBefore bytes rows (getD seg j 0) (getD seg ((j - 1) / 2) 0) ≡ false
+  pub under : (j : ℕ) → 0 < j → j < n → (j - 1) / 2 ≡ i → 0 < i → comesBefore bytes rows (getD seg j 0) (getD seg ((i - 1) / 2) 0) ≡ false

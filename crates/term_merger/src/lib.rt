@@ -1,0 +1,165 @@
+// The heap of segments by their current terms (columnar/merge/term_merger.rs, `Ord for TermsWithSegmentOrd`, and the heap of `TermMerger`).
+ghost use mathlib.Core.Path.{_≡_};
+ghost use mathlib.Core.List.{[]};
+ghost use Prim.Native.Nat.{_+_, _-_, _*_, _<_, _≤_};
+ghost use lib.ListN.{length, getD};
+ghost use lib.Dec.{leb};
+ghost use Rattle.term_merger.specs.Order.{comesBefore, Readable};
+ghost use Rattle.term_merger.specs.Heap.{emptyHeap, held, Ordered, Pushed, Out, Risen, FirstChild, Sinking};
+use term_order::TermOrder;
+
+// Segment numbers in an array, each not before the one above it.
+pub struct Heap {
+    pub seg: [u8; 256],
+    pub len: usize,
+}
+
+pub struct Popped {
+    pub heap: Heap,
+    pub top: u8,
+}
+
+impl Heap {
+    pub const CAP: usize = 256;
+
+    pub fn empty() -> Heap
+        ensures { λ h. ⌜ h ≡ emptyHeap ⌝ }
+    {
+        Heap {
+            seg: [0u8; 256],
+            len: 0,
+        }
+    }
+
+    pub fn is_full(self) -> bool
+        ensures { λ b. ⌜ b ≡ leb 256 (self .len) ⌝ }
+    {
+        let n = self.len;
+        Heap::CAP <= n
+    }
+}
+
+// A byte as an index: asks nothing of where the byte came from.
+pub fn wide(b: u8) -> usize
+    ensures { λ r. ⌜ (r ≡ b) × (r < 256) ⌝ }
+{
+    b as usize
+}
+
+// Whether segment a leaves the heap before segment b: by term, then marked terms first, then by number.
+pub fn comes_before(bytes: &[u8], rows: &[[usize; 6]], a: u8, b: u8) -> bool
+    requires { ⌜ (256 ≤ length (now rows)) × Readable (now bytes) (now rows) ⌝ }
+    ensures { λ r. ⌜ r ≡ comesBefore (now (bytes .entry)) (now (rows .entry)) a b ⌝ }
+{
+    let p = wide(a);
+    let q = wide(b);
+    let x = rows[p];
+    let y = rows[q];
+    let xs = x[0];
+    let xe = x[1];
+    let ys = y[0];
+    let ye = y[1];
+    let o = term_order::compare_terms(&bytes[xs..xe], &bytes[ys..ye]);
+    match o {
+        TermOrder::Before => true,
+        TermOrder::Same => {
+            if x[2] != y[2] {
+                return x[2] < y[2];
+            }
+            p < q
+        }
+        TermOrder::After => false,
+    }
+}
+
+// The number at the last place goes up to its place.
+fn sift_up(heap: Heap, bytes: &[u8], rows: &[[usize; 6]], from: usize) -> Heap
+    requires { ⌜ (256 ≤ length (now rows)) × Readable (now bytes) (now rows) ⌝ }
+    requires { ⌜ (from < 256) × Ordered (now bytes) (now rows) (heap .seg) from ⌝ }
+    ensures { λ h. ⌜ Risen (now (bytes .entry)) (now (rows .entry)) heap (from + 1) h ⌝ }
+{
+    let mut h = heap;
+    let mut i = from;
+    while 0 < i {
+        let p = (i - 1) / 2;
+        let a = h.seg[i];
+        let b = h.seg[p];
+        if !comes_before(bytes, rows, a, b) {
+            return h;
+        }
+        h.seg[i] = b;
+        h.seg[p] = a;
+        i = p;
+    }
+    h
+}
+
+pub fn push(heap: Heap, bytes: &[u8], rows: &[[usize; 6]], s: u8) -> Heap
+    requires { ⌜ (256 ≤ length (now rows)) × Readable (now bytes) (now rows) ⌝ }
+    requires { ⌜ (heap .len < 256) × Ordered (now bytes) (now rows) (heap .seg) (heap .len) ⌝ }
+    ensures { λ h. ⌜ Pushed (now (bytes .entry)) (now (rows .entry)) heap s h ⌝ }
+{
+    let n = heap.len;
+    let mut h = heap;
+    h.seg[n] = s;
+    h.len = n + 1;
+    sift_up(h, bytes, rows, n)
+}
+
+// The child of a place that comes first: l is the first child, and n is the number of places.
+fn first_child(seg: &[u8; 256], bytes: &[u8], rows: &[[usize; 6]], l: usize, n: usize) -> usize
+    requires { ⌜ (256 ≤ length (now rows)) × Readable (now bytes) (now rows) ⌝ }
+    requires { ⌜ (l < n) × (n ≤ 256) ⌝ }
+    ensures { λ c. ⌜ FirstChild (now (bytes .entry)) (now (rows .entry)) (now (seg .entry)) l n c ⌝ }
+{
+    let r = l + 1;
+    if n <= r {
+        return l;
+    }
+    let a = seg[r];
+    let b = seg[l];
+    if comes_before(bytes, rows, a, b) {
+        return r;
+    }
+    l
+}
+
+// The number at the first place goes down to its place among the first n.
+fn sift_down(heap: Heap, bytes: &[u8], rows: &[[usize; 6]], n: usize) -> Heap
+    requires { ⌜ (256 ≤ length (now rows)) × Readable (now bytes) (now rows) ⌝ }
+    requires { ⌜ (n ≤ 256) × Sinking (now bytes) (now rows) (heap .seg) 0 n ⌝ }
+    ensures { λ h. ⌜ Risen (now (bytes .entry)) (now (rows .entry)) heap n h ⌝ }
+{
+    let mut h = heap;
+    let mut i: usize = 0;
+    while 2 * i + 1 < n {
+        let c = first_child(&h.seg, bytes, rows, 2 * i + 1, n);
+        let a = h.seg[c];
+        let b = h.seg[i];
+        if !comes_before(bytes, rows, a, b) {
+            return h;
+        }
+        h.seg[c] = b;
+        h.seg[i] = a;
+        i = c;
+    }
+    h
+}
+
+pub fn pop(heap: Heap, bytes: &[u8], rows: &[[usize; 6]]) -> Popped
+    requires { ⌜ (256 ≤ length (now rows)) × Readable (now bytes) (now rows) ⌝ }
+    requires { ⌜ (0 < heap .len) × (heap .len ≤ 256) × Ordered (now bytes) (now rows) (heap .seg) (heap .len) ⌝ }
+    ensures { λ p. ⌜ Out (now (bytes .entry)) (now (rows .entry)) heap (p .heap) (p .top) ⌝ }
+{
+    let n = heap.len - 1;
+    let top = heap.seg[0];
+    let end = heap.seg[n];
+    let mut h = heap;
+    h.seg[0] = end;
+    h.len = n;
+    let down = sift_down(h, bytes, rows, n);
+    Popped {
+        heap: down,
+        top: top,
+    }
+}

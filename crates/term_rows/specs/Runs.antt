@@ -1,0 +1,70 @@
+-- Where each segment's terms stand in the flat runs, and the first rows of the walk. Assumes nothing.
+use Prim.Native.Nat.{ℕ, zero, suc, _+_, _-_, _≤_, _<_}
+use mathlib.Core.Bool.{Bool, false, cond}
+use mathlib.Core.List.{List, [], _++_, map}
+use mathlib.Core.Path.{_≡_}
+use lib.Dec.{eqb}
+use lib.ListN.{length, take, drop, getD, replicate}
+use Rattle.definitions.specs.Lists.{sum}
+use Rattle.definitions.specs.Segment.{SegmentRecord}
+use Rattle.segment.specs.Records.{recordOf}
+use Rattle.term_rows.specs.Rows.{rowAt, termsIn, bytesIn, sumOver}
+
+-- f 0, f 1, .., f (n - 1), one after another
+abbrev pub joinTo : {A : Type 0} → (ℕ → List A) → ℕ → List A
+joinTo f zero = []
+joinTo f (suc n) = joinTo f n ++ f n
+
+-- how many terms a record announces
+abbrev pub countAt : List (List ℕ) → ℕ → ℕ
+countAt records s = recordOf (getD records s []) .terms
+
+-- the same for a held segment, 0 for another
+abbrev pub heldAt : List (List ℕ) → List ℕ → ℕ → ℕ
+heldAt records held s = cond (eqb (getD held s 0) 0) 0 (countAt records s)
+
+-- where a segment's run begins, by how long each segment's run is
+abbrev pub startAt : (SegmentRecord → ℕ) → List (List ℕ) → ℕ → ℕ
+startAt f records zero = 0
+startAt f records (suc s) = startAt f records s + f (recordOf (getD records s []))
+
+-- where a segment's terms begin among the term lengths
+abbrev pub posAt : List (List ℕ) → ℕ → ℕ
+posAt records s = startAt (λ r. r .terms) records s
+
+-- and among the term bytes
+abbrev pub fromAt : List (List ℕ) → List ℕ → ℕ → ℕ
+fromAt records lengths zero = 0
+fromAt records lengths (suc s) = fromAt records lengths s + sum (take (countAt records s) (drop (posAt records s) lengths))
+
+-- and in the map
+abbrev pub toAt : List (List ℕ) → List ℕ → ℕ → ℕ
+toAt records held zero = 0
+toAt records held (suc s) = toAt records held s + heldAt records held s
+
+-- the bytes of the held segments' terms
+abbrev pub textAt : List (List ℕ) → List ℕ → List ℕ → ℕ → ℕ
+textAt records held lengths zero = 0
+textAt records held lengths (suc s) = textAt records held lengths s + sum (take (heldAt records held s) (drop (posAt records s) lengths))
+
+-- ---- what the walk needs of the runs
+
+pub record Runs (records : List (List ℕ)) (held lengths marks : List ℕ) (all : Bool) : Type 0 where
+  pub few : length records ≤ 256
+  pub flags : length records ≤ length held
+  pub inside : posAt records (length records) ≤ length lengths
+  pub marked : all ≡ false → posAt records (length records) ≤ length marks
+  pub small : fromAt records lengths (length records) < 18446744073709551616
+
+-- the first row of each segment
+unfoldable pub firstRow : List (List ℕ) → List ℕ → List ℕ → List ℕ → Bool → ℕ → List ℕ
+firstRow records held lengths marks all s =
+    rowAt lengths marks all (fromAt records lengths s) (posAt records s + countAt records s - heldAt records held s) (posAt records s + countAt records s) (toAt records held s)
+
+pub record Filled (records : List (List ℕ)) (held lengths marks : List ℕ) (all : Bool) (n : ℕ) (rows : List (List ℕ)) : Type 0 where
+  pub size : length rows ≡ 256
+  pub row : (s : ℕ) → s < n → getD rows s [] ≡ firstRow records held lengths marks all s
+  pub rest : (s c : ℕ) → n ≤ s → getD (getD rows s []) c 0 ≡ 0
+  pub blank : (s : ℕ) → n ≤ s → s < 256 → getD rows s [] ≡ replicate 6 0
+  pub terms : sumOver termsIn rows ≡ toAt records held n
+  pub texts : sumOver (bytesIn lengths) rows ≡ textAt records held lengths n

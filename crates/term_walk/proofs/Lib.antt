@@ -1,0 +1,5 @@
+pub mod Merge
+pub mod Heaps
+pub mod Written
+pub mod Begun
+pub mod Going

@@ -1,0 +1,153 @@
+// The walk over the held segments' dictionaries: the least of the current terms is taken again and again
+// (columnar/merge/term_merger.rs, `TermMerger::advance`; merge_dict_column.rs, `merge_dict_and_compute_term_ord_mapping`, `is_term_present`).
+ghost use mathlib.Core.Path.{_≡_};
+ghost use mathlib.Core.List.{List};
+ghost use Prim.Native.Nat.{ℕ, _+_, _-_, _<_, _≤_};
+ghost use lib.ListN.{length, getD};
+ghost use Rattle.definitions.specs.Lists.{compareBytes, isSame};
+ghost use Rattle.term_merger.specs.Order.{Readable};
+ghost use Rattle.term_merger.specs.Heap.{Ordered};
+ghost use Rattle.term_walk.specs.Walk.{Took, Back, Started, Ready, Merged};
+use term_merger::Heap;
+use term_order::TermOrder;
+
+// The last term written: how many there are, how many bytes they have, and where it stands in the term bytes.
+pub struct Last {
+    pub terms: usize,
+    pub bytes: usize,
+    pub from: usize,
+    pub till: usize,
+}
+
+pub struct Taken {
+    pub last: Last,
+    pub ordinal: usize,
+}
+
+fn same_term(a: &[u8], b: &[u8]) -> bool
+    ensures { λ r. ⌜ r ≡ isSame (compareBytes (now (a .entry)) (now (b .entry))) ⌝ }
+{
+    let o = term_order::compare_terms(a, b);
+    match o {
+        TermOrder::Before => false,
+        TermOrder::Same => true,
+        TermOrder::After => false,
+    }
+}
+
+// What becomes of the term at hand: it is the last one written, or another that is not marked, or it is written.
+fn take_term(
+    bytes: &[u8],
+    row: [usize; 6],
+    lengths: &[u32],
+    out_lengths: &mut [u32],
+    out_bytes: &mut [u8],
+    last: Last,
+) -> Taken
+    requires { ⌜ (getD row 0 0 ≤ getD row 1 0) × (getD row 1 0 ≤ length (now bytes)) × (getD row 3 0 < length (now lengths)) ⌝ }
+    requires { ⌜ (last .from ≤ last .till) × (last .till ≤ length (now bytes)) ⌝ }
+    requires { ⌜ (last .terms < length (now «out_lengths»)) × (last .bytes + (getD row 1 0 - getD row 0 0) ≤ length (now «out_bytes»)) ⌝ }
+    ensures { λ t. ⌜ Took (now (bytes .entry)) row (now (lengths .entry)) last (now («out_lengths» .entry)) (now («out_bytes» .entry)) t (now («out_lengths» .exit)) (now («out_bytes» .exit)) ⌝ }
+{
+    let n = last.terms;
+    let at = last.bytes;
+    let a = row[0];
+    let e = row[1];
+    let f = last.from;
+    let t = last.till;
+    if 0 < n {
+        if same_term(&bytes[a..e], &bytes[f..t]) {
+            return Taken {
+                last: last,
+                ordinal: n - 1,
+            };
+        }
+    }
+    if row[2] != 0 {
+        return Taken {
+            last: last,
+            ordinal: 0,
+        };
+    }
+    let p = row[3];
+    out_lengths[n] = lengths[p];
+    runs::append_bytes(&bytes[a..e], out_bytes, at);
+    let next = Last {
+        terms: n + 1,
+        bytes: at + (e - a),
+        from: a,
+        till: e,
+    };
+    Taken {
+        last: next,
+        ordinal: n,
+    }
+}
+
+// A segment goes back into the heap if it has a term left.
+fn push_live(heap: Heap, bytes: &[u8], rows: &[[usize; 6]], s: u8) -> Heap
+    requires { ⌜ (256 ≤ length (now rows)) × Readable (now bytes) (now rows) ⌝ }
+    requires { ⌜ (heap .len < 256) × Ordered (now bytes) (now rows) (heap .seg) (heap .len) ⌝ }
+    ensures { λ h. ⌜ Back (now (bytes .entry)) (now (rows .entry)) heap s h ⌝ }
+{
+    let i = term_merger::wide(s);
+    let row = rows[i];
+    if row[3] < row[4] {
+        return term_merger::push(heap, bytes, rows, s);
+    }
+    heap
+}
+
+// A heap of all segments that have a term.
+pub fn start_heap(bytes: &[u8], rows: &[[usize; 6]]) -> Heap
+    requires { ⌜ (length (now rows) ≡ 256) × Readable (now bytes) (now rows) ⌝ }
+    ensures { λ h. ⌜ Started (now (bytes .entry)) (now (rows .entry)) h ⌝ }
+{
+    let mut h = Heap::empty();
+    let mut s: usize = 0;
+    while s < 256 {
+        h = push_live(h, bytes, rows, s as u8);
+        s += 1;
+    }
+    h
+}
+
+// The walk: the least term of all segments is taken again and again, and its segment goes on to its next one.
+pub fn merge_terms(
+    heap: Heap,
+    rows: &mut [[usize; 6]],
+    lengths: &[u32],
+    bytes: &[u8],
+    marks: &[u8],
+    all: bool,
+    out_lengths: &mut [u32],
+    out_bytes: &mut [u8],
+    map: &mut [u32],
+) -> Last
+    requires { ⌜ Ready (now lengths) (now bytes) (now marks) all (now rows) (now «out_lengths») (now «out_bytes») (now map) ⌝ }
+    requires { ⌜ Started (now bytes) (now rows) heap ⌝ }
+    ensures { λ r. ⌜ ((out : List (List ℕ)) × Merged (now (lengths .entry)) (now (bytes .entry)) (now (marks .entry)) all (now (rows .entry)) (now («out_lengths» .entry)) (now («out_bytes» .entry)) (now (map .entry)) r (now («out_lengths» .exit)) (now («out_bytes» .exit)) (now (map .exit)) out) ⌝ }
+{
+    let mut h = heap;
+    let mut last = Last {
+        terms: 0,
+        bytes: 0,
+        from: 0,
+        till: 0,
+    };
+    while 0 < h.len {
+        let p = term_merger::pop(h, bytes, rows);
+        let top = p.top;
+        let s = term_merger::wide(top);
+        let row = rows[s];
+        let t = take_term(bytes, row, lengths, out_lengths, out_bytes, last);
+        let to = row[5];
+        map[to] = t.ordinal as u32;
+        let next = term_rows::row_at(lengths, marks, all, row[1], row[3] + 1, row[4], to + 1);
+        rows[s] = next;
+        let rest = p.heap;
+        h = push_live(rest, bytes, rows, top);
+        last = t.last;
+    }
+    last
+}
