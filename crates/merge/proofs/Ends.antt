@@ -107,21 +107,21 @@ module _ {mode required : ℕ} {records : List (List ℕ)} {ids offsets values l
   abbrev plan : Plan
   plan =
       planFor mode required records ids offsets values lengths words addresses places alives held
-      (record { ids = length outIds; offsets = length outOffsets; values = length outValues; lengths = length lens; bytes = length outs; map = length ords; })
+      (record { ids = length outIds; offsets = length outOffsets; values = length outValues; lengths = length lens; bytes = length outs; map = length ords })
 
   -- ---- a refusal
 
-  pub refused-end : (k : ℕ) → Refused k ≡ plan → outcomeOf (A.Refused k) b ≡ joinOutcome l
+  pub refused-end : {y : Plan} (k : ℕ) → y ≡ Refused k → y ≡ plan → outcomeOf (A.Refused k) b ≡ joinOutcome l
   unfolding refusedBuffers
-  refused-end k e =
-      let t = turned (typesWrong required ss) (outputTooShort (inputOf l)) k (shape p r) (e ∙ plan-is p r b) in
+  refused-end k q e =
+      let t = turned (typesWrong required ss) (outputTooShort (inputOf l)) k (shape p r) (sym q ∙ e ∙ plan-is p r b) in
       (λ j. record { answer = refused k; buffers = buffersOf outIds outOffsets outValues lens outs ords (p .clean j) })
       ∙ left-refused l k (late mode required records ids offsets values lengths bytes words addresses b (p .nine) ∙ t .0) (t .1)
 
   -- ---- a plan
-  module _ {x : Shape} (e : Planned x ≡ plan) where
+  module _ {x : Shape} {y : Plan} (q : y ≡ Planned x) (e : y ≡ plan) where
     c : Chosen (typesWrong required ss) (outputTooShort (inputOf l)) x (shape p r)
-    c = chosen (typesWrong required ss) (outputTooShort (inputOf l)) x (shape p r) (e ∙ plan-is p r b)
+    c = chosen (typesWrong required ss) (outputTooShort (inputOf l)) x (shape p r) (sym q ∙ e ∙ plan-is p r b)
 
     room : Six (length outIds) (length outOffsets) (length outValues) (length lens) (length outs) (length ords)
         (length (col .ids)) (length (col .offsets)) (length (col .values)) (sumOver termsIn (heldOf ss)) (sumOver bytesIn (heldOf ss)) (sumOver termsIn (heldOf ss))
@@ -145,7 +145,7 @@ module _ {mode required : ℕ} {records : List (List ℕ)} {ids offsets values l
     -- ---- after the dictionary
     module _ {n m : ℕ} {lens′ outs′ ords′ : List ℕ} (d : Joins ss lens outs ords n m lens′ outs′ ords′) where
       map-stands : Mapped ords′ ss
-      map-stands = subst (λ (o : List ℕ). Mapped o ss) (sym (d .map-out)) (mapped ss ords (let q = map-count ss in let h = room .map in omega arith))
+      map-stands = subst (λ (o : List ℕ). Mapped o ss) (sym (d .map-out)) (mapped ss ords (let k = map-count ss in let h = room .map in omega arith))
 
       pub rows-given : Filling mode (x .class) (x .typ) addresses places sources ids offsets values ords′ outIds outOffsets outValues
       unfolding shape
@@ -159,16 +159,16 @@ module _ {mode required : ℕ} {records : List (List ℕ)} {ids offsets values l
           → values′ ≡ put 0 (wordsFor mode (x .typ) addresses places sources ids offsets values ords′) outValues
           → work′ ≡ work
           → outcomeOf
-              (A.Accepted
-                (record { typ = x .typ; class = x .class; rows = x .rows; ids = x .ids; offsets = x .offsets; values = x .values; terms = n; bytes = m; map = x .map; }))
-              (buffersOf ids′ offsets′ values′ lens′ outs′ ords′ work′)
+          (A.Accepted
+          (record { typ = x .typ; class = x .class; rows = x .rows; ids = x .ids; offsets = x .offsets; values = x .values; terms = n; bytes = m; map = x .map }))
+          (buffersOf ids′ offsets′ values′ lens′ outs′ ords′ work′)
           ≡ joinOutcome l
       unfolding numbersOf acceptedBuffers inputOf segmentsOf joinRules shape joinedColumn encode
       accepted-end ids′ offsets′ values′ work′ ei eo ev ew =
           let z : answer (inputOf l) ≡ 0 =
-              late mode required records ids offsets values lengths bytes words addresses b (p .nine)
-              ∙ ap (λ (t : Bool). cond t 10 (cond (outputTooShort (inputOf l)) 11 0)) (c .types)
-              ∙ ap (λ (o : Bool). cond o 11 0) (c .short) in
+          late mode required records ids offsets values lengths bytes words addresses b (p .nine)
+          ∙ ap (λ (t : Bool). cond t 10 (cond (outputTooShort (inputOf l)) 11 0)) (c .types)
+          ∙ ap (λ (o : Bool). cond o 11 0) (c .short) in
           (λ j.
           record {
             answer =

@@ -5,3 +5,4 @@ pub mod Filled
 pub mod Leaves
 pub mod Dictionary
 pub mod Ends
+pub mod InTurn

@@ -75,7 +75,16 @@ fn fill_dictionary(
     ensures { λ r. ⌜ DictionaryLeft (now (records .entry)) (now (ids .entry)) (now (offsets .entry)) (now (values .entry)) (now (lengths .entry)) (now (bytes .entry)) (now (alive .entry)) (now (work .entry)) (now («out_lengths» .entry)) (now («out_bytes» .entry)) (now («out_map» .entry)) (r .terms) (r .bytes) (now (work .exit)) (now («out_lengths» .exit)) (now («out_bytes» .exit)) (now («out_map» .exit)) ⌝ }
 {
     let n = marks_count(mode, lengths.len());
-    mark(mode, records, held, ids, offsets, values, alive, &mut work[..n]);
+    mark(
+        mode,
+        records,
+        held,
+        ids,
+        offsets,
+        values,
+        alive,
+        &mut work[..n],
+    );
     let c = merge_dict_column::merge_dict(
         records,
         held,
@@ -129,16 +138,51 @@ fn join_tables(
         map: out_map.len(),
     };
     let p = merge_column::measure(
-        mode, required, records, ids, offsets, values, lengths, alive, addresses, places, alives, held, space,
+        mode,
+        required,
+        records,
+        ids,
+        offsets,
+        values,
+        lengths,
+        alive,
+        addresses,
+        places,
+        alives,
+        held,
+        space,
     );
     match p {
         merge_column::Plan::Refused(k) => Answer::Refused(k),
         merge_column::Plan::Column(x) => {
             let c = fill_dictionary(
-                mode, records, held, ids, offsets, values, lengths, bytes, alive, work, out_lengths, out_bytes, out_map,
+                mode,
+                records,
+                held,
+                ids,
+                offsets,
+                values,
+                lengths,
+                bytes,
+                alive,
+                work,
+                out_lengths,
+                out_bytes,
+                out_map,
             );
             merge_column::fill_rows(
-                mode, x.class, x.typ, addresses, places, sources, ids, offsets, values, out_map, out_ids, out_offsets,
+                mode,
+                x.class,
+                x.typ,
+                addresses,
+                places,
+                sources,
+                ids,
+                offsets,
+                values,
+                out_map,
+                out_ids,
+                out_offsets,
                 out_values,
             );
             Answer::Accepted(Numbers {
@@ -233,7 +277,17 @@ pub fn join(
     ensures { λ r. ⌜ outcomeOf r (buffersOf (now («out_ids» .exit)) (now («out_offsets» .exit)) (now («out_values» .exit)) (now («out_lengths» .exit)) (now («out_bytes» .exit)) (now («out_map» .exit)) (now (work .exit))) ≡ joinOutcome (lentOf mode required (now (records .entry)) (now (ids .entry)) (now (offsets .entry)) (now (values .entry)) (now (lengths .entry)) (now (bytes .entry)) (now (alive .entry)) (now (addresses .entry)) (buffersOf (now («out_ids» .entry)) (now («out_offsets» .entry)) (now («out_values» .entry)) (now («out_lengths» .entry)) (now («out_bytes» .entry)) (now («out_map» .entry)) (now (work .entry)))) ⌝ }
 {
     let first = merge_mapping::verdict(
-        mode, required, records, ids, offsets, values, lengths, bytes, alive, addresses, work,
+        mode,
+        required,
+        records,
+        ids,
+        offsets,
+        values,
+        lengths,
+        bytes,
+        alive,
+        addresses,
+        work,
     );
     if first != 0 {
         return Answer::Refused(first);

@@ -231,9 +231,12 @@ pub fn measure(
     requires { ⌜ Planning mode (now records) (now ids) (now offsets) (now values) (now lengths) (now alive) (now addresses) (now places) (now alives) (now held) ⌝ }
     ensures { λ r. ⌜ r ≡ planFor mode required (now (records .entry)) (now (ids .entry)) (now (offsets .entry)) (now (values .entry)) (now (lengths .entry)) (now (alive .entry)) (now (addresses .entry)) (now (places .entry)) (now (alives .entry)) (now (held .entry)) space ⌝ }
 {
-    let merge_type::TypeAnswer::Joined(typ) =
-        merge_type::check_types(required, records, values, held)
-    else {
+    let merge_type::TypeAnswer::Joined(typ) = merge_type::check_types(
+        required,
+        records,
+        values,
+        held,
+    ) else {
         return Plan::Refused(10);
     };
     let class = joined_class(typ, places, alives, ids, offsets, alive);

@@ -42,7 +42,7 @@ slice-aggregate-join-tables-4 c = sym (length-take-le _ _ (few-records (checked 
 join-tables-requires : tie.Need-join-tables-requires
 join-tables-requires c κs =
     let the-pre = c .before .before .before .before .before .before .before .before .before .before .before .before .before .before .before .before .before .before .before .before .before .before .before .before .pre in
-    (the-pre, record { places-long = length-take-le _ _ (few-records (checked (the-pre))); alives-long = length-take-le _ _ (few-records (checked (the-pre))); held-long = length-take-le _ _ (few-records (checked (the-pre))); sources-long = length-take-le _ _ (few-records (checked (the-pre))); })
+    (the-pre, record { places-long = length-take-le _ _ (few-records (checked (the-pre))); alives-long = length-take-le _ _ (few-records (checked (the-pre))); held-long = length-take-le _ _ (few-records (checked (the-pre))); sources-long = length-take-le _ _ (few-records (checked (the-pre))) })
 
 -- src/lib.rt:160:1
 same-length : tie.Need-same-length

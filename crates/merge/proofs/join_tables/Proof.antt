@@ -1,4 +1,3 @@
-use mathlib.Core.Path.{sym, _∙_}
 use borrow.Author.Needs.{needs}
 use Rattle.merge.proofs.Given.{checked}
 use Rattle.merge.proofs.Parts.{planning}
@@ -29,13 +28,13 @@ enum-known-p-2 c = search needs
 fill-dictionary-requires : tie.Need-fill-dictionary-requires
 fill-dictionary-requires c κs =
     let the-args = c .before .before .before .before .before .before .before .before .before .before .before .before .before .before .before .before .before .before .before .before .before .before .before .before .before .before .before .before .before .before .before .before .before .before .before .before .args in
-    dictionary-given (c .before .before .before .before .before .before .before .before .before .before .before .before .before .before .before .before .before .before .before .before .before .before .before .before .before .before .before .before .before .before .before .before .before .before .before .before .pre .0) (c .before .before .before .before .before .before .before .before .before .before .before .before .before .before .before .before .before .prepare .ensures) (the-args .out-ids .now) (the-args .out-offsets .now) (the-args .out-values .now) (the-args .out-lengths .now) (the-args .out-bytes .now) (the-args .out-map .now) (sym (c .before .before .before .before .before .before .p2 .given .1) ∙ c .before .before .before .before .before .before .before .before .measure .ensures)
+    dictionary-given (c .before .before .before .before .before .before .before .before .before .before .before .before .before .before .before .before .before .before .before .before .before .before .before .before .before .before .before .before .before .before .before .before .before .before .before .before .pre .0) (c .before .before .before .before .before .before .before .before .before .before .before .before .before .before .before .before .before .prepare .ensures) (the-args .out-ids .now) (the-args .out-offsets .now) (the-args .out-values .now) (the-args .out-lengths .now) (the-args .out-bytes .now) (the-args .out-map .now) (c .before .before .before .before .before .before .p2 .given .1) (c .before .before .before .before .before .before .before .before .measure .ensures)
 
 -- src/lib.rt:140:13
 fill-rows-requires : tie.Need-fill-rows-requires
 fill-rows-requires c κs =
     let the-args = c .before .before .before .before .before .before .before .before .before .before .before .before .before .before .before .before .before .before .before .before .before .before .before .before .before .before .before .before .before .before .before .before .before .before .before .before .before .before .before .before .before .before .before .before .before .before .before .before .before .before .before .args in
-    rows-given (c .before .before .before .before .before .before .before .before .before .before .before .before .before .before .before .before .before .before .before .before .before .before .before .before .before .before .before .before .before .before .before .before .before .before .before .before .before .before .before .before .before .before .before .before .before .before .before .before .before .before .before .pre .0) (c .before .before .before .before .before .before .before .before .before .before .before .before .before .before .before .before .before .before .before .before .before .before .before .before .before .before .before .before .before .before .before .before .prepare .ensures) (the-args .out-ids .now) (the-args .out-offsets .now) (the-args .out-values .now) (the-args .out-lengths .now) (the-args .out-bytes .now) (the-args .out-map .now) (sym (c .before .before .before .before .before .before .before .before .before .before .before .before .before .before .before .before .before .before .before .before .before .p2 .given .1) ∙ c .before .before .before .before .before .before .before .before .before .before .before .before .before .before .before .before .before .before .before .before .before .before .before .measure .ensures) (c .before .before .before .before .before .before .before .before .before .before .before .before .before .before .fill-dictionary .ensures .joins)
+    rows-given (c .before .before .before .before .before .before .before .before .before .before .before .before .before .before .before .before .before .before .before .before .before .before .before .before .before .before .before .before .before .before .before .before .before .before .before .before .before .before .before .before .before .before .before .before .before .before .before .before .before .before .before .pre .0) (c .before .before .before .before .before .before .before .before .before .before .before .before .before .before .before .before .before .before .before .before .before .before .before .before .before .before .before .before .before .before .before .before .prepare .ensures) (the-args .out-ids .now) (the-args .out-offsets .now) (the-args .out-values .now) (the-args .out-lengths .now) (the-args .out-bytes .now) (the-args .out-map .now) (c .before .before .before .before .before .before .before .before .before .before .before .before .before .before .before .before .before .before .before .before .before .p2 .given .1) (c .before .before .before .before .before .before .before .before .before .before .before .before .before .before .before .before .before .before .before .before .before .before .before .measure .ensures) (c .before .before .before .before .before .before .before .before .before .before .before .before .before .before .fill-dictionary .ensures .joins)
 
 -- src/lib.rt:95:1
 same-length : tie.Need-same-length
@@ -57,7 +56,7 @@ same-length-4 c = search needs
 returns : tie.Need-returns
 returns c =
     let the-args = c .before .before .before .before .before .before .before .before .before .before .before .before .before .before .before .before .before .before .before .before .before .before .before .before .before .before .before .before .before .before .before .args in
-    refused-end (c .before .before .before .before .before .before .before .before .before .before .before .before .before .before .before .before .before .before .before .before .before .before .before .before .before .before .before .before .before .before .before .pre .0) (c .before .before .before .before .before .before .before .before .before .before .before .before .prepare .ensures) (the-args .out-ids .now) (the-args .out-offsets .now) (the-args .out-values .now) (the-args .out-lengths .now) (the-args .out-bytes .now) (the-args .out-map .now) _ (sym (c .before .p .given .1) ∙ c .before .before .before .measure .ensures)
+    refused-end (c .before .before .before .before .before .before .before .before .before .before .before .before .before .before .before .before .before .before .before .before .before .before .before .before .before .before .before .before .before .before .before .pre .0) (c .before .before .before .before .before .before .before .before .before .before .before .before .prepare .ensures) (the-args .out-ids .now) (the-args .out-offsets .now) (the-args .out-values .now) (the-args .out-lengths .now) (the-args .out-bytes .now) (the-args .out-map .now) _ (c .before .p .given .1) (c .before .before .before .measure .ensures)
 
 -- src/lib.rt:95:1
 same-length-5 : tie.Need-same-length-5
@@ -109,7 +108,7 @@ returns-2 c =
     let the-args = c .before .before .before .before .before .before .before .before .before .before .before .before .before .before .before .before .before .before .before .before .before .before .before .before .before .before .before .before .before .before .before .before .before .before .before .before .before .before .before .before .before .before .before .before .before .before .before .before .before .before .before .before .before .before .before .before .before .before .args in
     let the-fill-dictionary = c .before .before .before .before .before .before .before .before .before .before .before .before .before .before .before .before .before .before .before .before .before .fill-dictionary in
     let the-fill-rows = c .before .before .before .before .before .before .fill-rows in
-    accepted-end (c .before .before .before .before .before .before .before .before .before .before .before .before .before .before .before .before .before .before .before .before .before .before .before .before .before .before .before .before .before .before .before .before .before .before .before .before .before .before .before .before .before .before .before .before .before .before .before .before .before .before .before .before .before .before .before .before .before .before .pre .0) (c .before .before .before .before .before .before .before .before .before .before .before .before .before .before .before .before .before .before .before .before .before .before .before .before .before .before .before .before .before .before .before .before .before .before .before .before .before .before .before .prepare .ensures) (the-args .out-ids .now) (the-args .out-offsets .now) (the-args .out-values .now) (the-args .out-lengths .now) (the-args .out-bytes .now) (the-args .out-map .now) (sym (c .before .before .before .before .before .before .before .before .before .before .before .before .before .before .before .before .before .before .before .before .before .before .before .before .before .before .before .before .p2 .given .1) ∙ c .before .before .before .before .before .before .before .before .before .before .before .before .before .before .before .before .before .before .before .before .before .before .before .before .before .before .before .before .before .before .measure .ensures) (the-fill-dictionary .ensures .joins) _ _ _ _ (the-fill-rows .ensures .0) (the-fill-rows .ensures .1 .0) (the-fill-rows .ensures .1 .1) (the-fill-dictionary .ensures .clean)
+    accepted-end (c .before .before .before .before .before .before .before .before .before .before .before .before .before .before .before .before .before .before .before .before .before .before .before .before .before .before .before .before .before .before .before .before .before .before .before .before .before .before .before .before .before .before .before .before .before .before .before .before .before .before .before .before .before .before .before .before .before .before .pre .0) (c .before .before .before .before .before .before .before .before .before .before .before .before .before .before .before .before .before .before .before .before .before .before .before .before .before .before .before .before .before .before .before .before .before .before .before .before .before .before .before .prepare .ensures) (the-args .out-ids .now) (the-args .out-offsets .now) (the-args .out-values .now) (the-args .out-lengths .now) (the-args .out-bytes .now) (the-args .out-map .now) (c .before .before .before .before .before .before .before .before .before .before .before .before .before .before .before .before .before .before .before .before .before .before .before .before .before .before .before .before .p2 .given .1) (c .before .before .before .before .before .before .before .before .before .before .before .before .before .before .before .before .before .before .before .before .before .before .before .before .before .before .before .before .before .before .measure .ensures) (the-fill-dictionary .ensures .joins) _ _ _ _ (the-fill-rows .ensures .0) (the-fill-rows .ensures .1 .0) (the-fill-rows .ensures .1 .1) (the-fill-dictionary .ensures .clean)
 
 pub join-tables-spec : {M : Type 1} → statement M
 join-tables-spec =
