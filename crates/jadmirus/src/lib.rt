@@ -1,0 +1,76 @@
+// The joiner for callers in C or Rust: a run of numbers is handed over as a pointer and its length.
+ghost use mathlib.Core.Path.{_≡_};
+ghost use Rattle.definitions.specs.Outcome.{numberOf, joinOutcome};
+ghost use Rattle.merge.specs.Whole.{buffersOf, lentOf, answerOf};
+ghost use Rattle.jadmirus.specs.Told.{listOf, numbersAfter};
+
+// The nine numbers of an acceptance in their order.
+fn numbers_of(n: merge::Numbers) -> [u64; 9]
+    ensures { λ r. ⌜ r ≡ listOf n ⌝ }
+{
+    [
+        n.typ as u64,
+        n.class as u64,
+        n.rows as u64,
+        n.ids as u64,
+        n.offsets as u64,
+        n.values as u64,
+        n.terms as u64,
+        n.bytes as u64,
+        n.map as u64,
+    ]
+}
+
+// Returns the answer's number. The numbers that come with acceptance are written to `out_numbers`, which a refusal leaves as it was.
+#[no_mangle]
+pub extern "C" fn jadmirus_join(
+    mode: u32,
+    required: u32,
+    records: &[[u32; 8]],
+    ids: &[u32],
+    offsets: &[u32],
+    values: &[u64],
+    lengths: &[u32],
+    bytes: &[u8],
+    alive: &[u64],
+    addresses: &[[u32; 2]],
+    work: &mut [u8],
+    out_ids: &mut [u32],
+    out_offsets: &mut [u32],
+    out_values: &mut [u64],
+    out_lengths: &mut [u32],
+    out_bytes: &mut [u8],
+    out_map: &mut [u32],
+    out_numbers: &mut [u64; 9],
+) -> u32
+    ensures { λ r. ⌜ r ≡ numberOf (joinOutcome (lentOf mode required (now (records .entry)) (now (ids .entry)) (now (offsets .entry)) (now (values .entry)) (now (lengths .entry)) (now (bytes .entry)) (now (alive .entry)) (now (addresses .entry)) (buffersOf (now («out_ids» .entry)) (now («out_offsets» .entry)) (now («out_values» .entry)) (now («out_lengths» .entry)) (now («out_bytes» .entry)) (now («out_map» .entry)) (now (work .entry)))) .answer) ⌝ }
+    ensures { λ _. ⌜ buffersOf (now («out_ids» .exit)) (now («out_offsets» .exit)) (now («out_values» .exit)) (now («out_lengths» .exit)) (now («out_bytes» .exit)) (now («out_map» .exit)) (now (work .exit)) ≡ joinOutcome (lentOf mode required (now (records .entry)) (now (ids .entry)) (now (offsets .entry)) (now (values .entry)) (now (lengths .entry)) (now (bytes .entry)) (now (alive .entry)) (now (addresses .entry)) (buffersOf (now («out_ids» .entry)) (now («out_offsets» .entry)) (now («out_values» .entry)) (now («out_lengths» .entry)) (now («out_bytes» .entry)) (now («out_map» .entry)) (now (work .entry)))) .buffers ⌝ }
+    ensures { λ _. ⌜ now («out_numbers» .exit) ≡ numbersAfter (joinOutcome (lentOf mode required (now (records .entry)) (now (ids .entry)) (now (offsets .entry)) (now (values .entry)) (now (lengths .entry)) (now (bytes .entry)) (now (alive .entry)) (now (addresses .entry)) (buffersOf (now («out_ids» .entry)) (now («out_offsets» .entry)) (now («out_values» .entry)) (now («out_lengths» .entry)) (now («out_bytes» .entry)) (now («out_map» .entry)) (now (work .entry)))) .answer) (now («out_numbers» .entry)) ⌝ }
+{
+    let a = merge::join(
+        mode,
+        required,
+        records,
+        ids,
+        offsets,
+        values,
+        lengths,
+        bytes,
+        alive,
+        addresses,
+        work,
+        out_ids,
+        out_offsets,
+        out_values,
+        out_lengths,
+        out_bytes,
+        out_map,
+    );
+    match a {
+        merge::Answer::Refused(k) => k,
+        merge::Answer::Accepted(n) => {
+            *out_numbers = numbers_of(n);
+            0
+        }
+    }
+}

@@ -1,0 +1,160 @@
+//! Document 01's log sheets C1 to C12: input, listing (document 01's; C5 is the corner).
+use crate::wire::{Input, from_words};
+
+const SHEETS: &[(&str, &str, &str)] = &[
+    (
+        "C1",
+        "0 255 4/2/2/ids=1/val=0/terms=b 4/1/2/val=1,0/terms=a,b",
+        "answer 0\ntype 4\nclass 1\nrows 4\nids 3 1 2 3\noffsets 0\nvalues 3 1 1 0\nterms 2 61 62\nmaps 3 1 0 1\n",
+    ),
+    ("C2", "0 255", "answer 0\ntype 255\nclass 0\nrows 0\nids 0\noffsets 0\nvalues 0\nterms 0\nmaps 0\n"),
+    ("C3", "0 1", "answer 0\ntype 1\nclass 0\nrows 0\nids 0\noffsets 0\nvalues 0\nterms 0\nmaps 0\n"),
+    ("C4", "0 1 255/0/3", "answer 0\ntype 1\nclass 1\nrows 3\nids 0\noffsets 0\nvalues 0\nterms 0\nmaps 0\n"),
+    (
+        "C5",
+        "0 255 1/3/3/off=0,2,2,3/val=7,8,9",
+        "answer 0\ntype 1\nclass 2\nrows 3\nids 2 0 2\noffsets 3 0 2 3\nvalues 3 7 8 9\nterms 0\nmaps 0\n",
+    ),
+    (
+        "C6",
+        "1 255 1/3/3/off=0,2,2,3/val=7,8,9/alive=5 addr=0:2,0:0",
+        "answer 0\ntype 1\nclass 2\nrows 2\nids 2 0 1\noffsets 3 0 1 3\nvalues 3 9 7 8\nterms 0\nmaps 0\n",
+    ),
+    (
+        "C7",
+        "1 255 1/3/3/off=0,2,2,3/val=7,8,9/alive=4 addr=0:2",
+        "answer 0\ntype 1\nclass 0\nrows 1\nids 0\noffsets 0\nvalues 1 9\nterms 0\nmaps 0\n",
+    ),
+    (
+        "C8",
+        "1 255 1/3/3/off=0,2,2,3/val=7,8,9/alive=2 addr=0:1",
+        "answer 0\ntype 255\nclass 0\nrows 1\nids 0\noffsets 0\nvalues 0\nterms 0\nmaps 0\n",
+    ),
+    (
+        "C9, without an alive set",
+        "1 255 1/2/2/ids=0,1/val=5,6 addr=0:1,0:0",
+        "answer 0\ntype 1\nclass 1\nrows 2\nids 2 0 1\noffsets 0\nvalues 2 6 5\nterms 0\nmaps 0\n",
+    ),
+    (
+        "C9, with one",
+        "1 255 1/2/2/ids=0,1/val=5,6/alive=3 addr=0:1,0:0",
+        "answer 0\ntype 1\nclass 0\nrows 2\nids 0\noffsets 0\nvalues 2 6 5\nterms 0\nmaps 0\n",
+    ),
+    (
+        "C10, 9223372036854775806",
+        "0 255 0/1/1/val=-1 1/1/1/val=9223372036854775806",
+        "answer 0\ntype 0\nclass 0\nrows 2\nids 0\noffsets 0\nvalues 2 18446744073709551615 9223372036854775806\nterms 0\nmaps 0\n",
+    ),
+    (
+        // bits BFF0000000000000 and 43E0000000000000
+        "C10, 9223372036854775807",
+        "0 255 0/1/1/val=-1 1/1/1/val=9223372036854775807",
+        "answer 0\ntype 2\nclass 0\nrows 2\nids 0\noffsets 0\nvalues 2 13830554455654793216 4890909195324358656\nterms 0\nmaps 0\n",
+    ),
+    (
+        "C11, 9223372036854775807",
+        "0 0 1/1/1/val=9223372036854775807",
+        "answer 0\ntype 0\nclass 0\nrows 1\nids 0\noffsets 0\nvalues 1 9223372036854775807\nterms 0\nmaps 0\n",
+    ),
+    ("C11, 9223372036854775808", "0 0 1/1/1/val=9223372036854775808", "answer 10\n"),
+    (
+        "C12",
+        "1 255 4/1/2/val=0,1/terms=a,b/alive=2 addr=0:1",
+        "answer 0\ntype 4\nclass 0\nrows 1\nids 0\noffsets 0\nvalues 1 0\nterms 1 62\nmaps 2 0 0\n",
+    ),
+];
+
+pub fn input(words: &str) -> Input {
+    let words: Vec<String> = words.split_whitespace().map(String::from).collect();
+    from_words(&words).unwrap()
+}
+
+/// Name, input, listing.
+pub fn sheets() -> impl Iterator<Item = (&'static str, Input, &'static str)> {
+    SHEETS.iter().map(|&(name, words, listing)| (name, input(words), listing))
+}
+
+#[cfg(test)]
+mod tests {
+    use super::*;
+    use crate::run;
+    use crate::table;
+    use crate::wire::{Sections, Seg, to_words};
+
+    #[test]
+    fn log_sheets() {
+        assert_eq!(0xBFF0000000000000u64, 13830554455654793216);
+        assert_eq!(0x43E0000000000000u64, 4890909195324358656);
+        for (name, input, expected) in sheets() {
+            let sections = input.sections();
+            let bytes = sections.encode();
+            assert_eq!(Sections::decode(&bytes).unwrap(), sections, "{name}");
+            assert_eq!(sections.cut(), input, "{name}");
+            let words: Vec<String> = to_words(&input).split(' ').map(String::from).collect();
+            assert_eq!(from_words(&words).unwrap(), input, "{name}");
+            assert_eq!(table::program(&bytes).print(), expected, "model {name}");
+            match run::column(&input) {
+                Err(text) => {
+                    assert_eq!(expected, "answer 10\n", "{name}");
+                    assert!(text.starts_with("error: "), "{name}");
+                }
+                // document 01: "Rust 0 2 2 3"
+                Ok(l) if name == "C5" => {
+                    assert!(run::corner(&input));
+                    assert_eq!(l.print(), expected.replace("offsets 3 0 2 3", "offsets 4 0 2 2 3"));
+                }
+                Ok(l) => {
+                    assert!(!run::corner(&input));
+                    assert_eq!(l.print(), expected, "{name}");
+                }
+            }
+        }
+    }
+
+    /// Full, sparse and several blocks of the stand-ins for row ids.
+    #[test]
+    fn blocks() {
+        for step in [1u32, 2, 3, 11, 40, 1000] {
+            let rows = 200_000;
+            let ids: Vec<u32> = (0..rows).filter(|r| r % step == 0 || r / 65536 == 1).collect();
+            let values: Vec<u64> = ids.iter().map(|&i| i as u64 * 3).collect();
+            let s = Seg { ty: 1, kind: 2, rows, ids: ids.clone(), values: values.clone(), ..Seg::default() };
+            let none = Seg { ty: 255, rows: 5, ..Seg::default() };
+            let mut input = Input { mode: 0, required: 255, ..Input::default() };
+            input.segs = vec![s.clone(), none, s.clone()];
+            let l = run::column(&input).unwrap();
+            let mut expected = ids.clone();
+            expected.extend(ids.iter().map(|i| i + rows + 5));
+            assert_eq!(l.ids, expected);
+            assert_eq!(l.values, [&values[..], &values[..]].concat());
+            // ordered, backwards
+            input.mode = 1;
+            input.segs = vec![s];
+            input.addresses = (0..rows).rev().map(|r| [0, r]).collect();
+            let l = run::column(&input).unwrap();
+            let expected: Vec<u32> = ids.iter().rev().map(|i| rows - 1 - i).collect();
+            assert_eq!(l.ids, expected);
+            let mut back = values.clone();
+            back.reverse();
+            assert_eq!(l.values, back);
+        }
+    }
+
+    /// The differences that docs/DIFFERENCES.md names, as the crate shows them.
+    #[test]
+    fn differences() {
+        // Two categories under one name: a column for each.
+        let two = input("0 255 4/1/1/val=0/terms=a 5/1/1/val=1");
+        assert!(table::two_categories(&two));
+        assert_eq!(run::column(&two), Err("2 columns".to_string()));
+        // Very many rows.
+        let many = input("0 255 1/2/4294901761/ids=0/val=7");
+        assert!(run::beyond_the_crate(&many));
+        assert!(run::column(&many).unwrap_err().starts_with("panic: "));
+        let less = input("0 255 1/2/4294901760/ids=0/val=7");
+        assert!(!run::beyond_the_crate(&less));
+        assert_eq!(run::column(&less).unwrap().ids, [0]);
+        // Nothing held, nothing required: no column.
+        assert_eq!(run::column(&input("0 255 255/0/3")).unwrap().ty, 255);
+    }
+}

@@ -1,0 +1,217 @@
+//! Damaged copies of good inputs. Which number they are answered with, if any, is the table's.
+use crate::rng::Rng;
+use crate::table::Lent;
+use crate::wire::{Input, Sections};
+
+const ODD: &[u32] = &[5, 6, 8, 9, 100, 254, 256, 257, 511, 65_535, 1 << 31, u32::MAX - 1, u32::MAX];
+const TYPES: &[u32] = &[0, 1, 2, 3, 4, 5, 7, 255];
+
+/// Changes one thing in a segment or in the addresses; record numbers stay those of the runs.
+fn segments(rng: &mut Rng, input: &mut Input) {
+    if rng.one_in(6) || input.segs.is_empty() {
+        let n = input.segs.len();
+        let list = &mut input.addresses;
+        match rng.below(8) {
+            0 => list.push([rng.below(n as u64 + 2) as u32, rng.below(8) as u32]),
+            1 => drop(list.pop()),
+            2 if !list.is_empty() => list.push(list[rng.index(list.len())]),
+            3 if !list.is_empty() => {
+                let i = rng.index(list.len());
+                list[i][0] = rng.below(n as u64 + 1) as u32;
+            }
+            4 if !list.is_empty() => {
+                let i = rng.index(list.len());
+                list[i][1] = list[i][1].wrapping_add(rng.pick(&[1, u32::MAX, 1 << 31]));
+            }
+            5 if !list.is_empty() => drop(list.remove(rng.index(list.len()))),
+            6 if !list.is_empty() => {
+                let (i, j) = (rng.index(list.len()), rng.index(list.len()));
+                list[i] = list[j];
+            }
+            _ => input.mode ^= 1,
+        }
+        return;
+    }
+    let i = rng.index(input.segs.len());
+    let ordered = input.mode == 1;
+    let s = &mut input.segs[i];
+    let step = rng.pick(&[1, u32::MAX, 2]);
+    fn at<T>(rng: &mut Rng, list: &[T]) -> Option<usize> {
+        if list.is_empty() { None } else { Some(rng.index(list.len())) }
+    }
+    match rng.below(24) {
+        0 => s.ty = rng.pick(TYPES),
+        1 => s.kind = rng.below(5) as u32,
+        2 => s.rows = s.rows.wrapping_add(step),
+        3 => s.rows = rng.pick(&[0, 65_536, 65_537, 1 << 31, u32::MAX - 1, u32::MAX]),
+        4 => s.ids.push(rng.below(s.rows as u64 + 2) as u32),
+        5 => drop(s.ids.pop()),
+        6 => {
+            if let Some(j) = at(rng, &s.ids) {
+                s.ids[j] = s.ids[j].wrapping_add(step);
+            }
+        }
+        7 => s.offsets.push(s.offsets.last().copied().unwrap_or(0).wrapping_add(rng.below(2) as u32)),
+        8 => drop(s.offsets.pop()),
+        9 | 10 => {
+            if let Some(j) = at(rng, &s.offsets) {
+                s.offsets[j] = s.offsets[j].wrapping_add(step);
+            }
+        }
+        11 => s.values.push(0),
+        12 => drop(s.values.pop()),
+        13 | 14 => {
+            if let Some(j) = at(rng, &s.values) {
+                s.values[j] = rng.pick(&[2, s.terms.len() as u64, 1 << 32, 1 << 63, u64::MAX]);
+            }
+        }
+        15 => s.terms.push(s.terms.last().cloned().unwrap_or_default()),
+        16 => drop(s.terms.pop()),
+        17 => s.terms.reverse(),
+        18 => {
+            if let Some(j) = at(rng, &s.terms) {
+                match rng.below(3) {
+                    0 => s.terms[j].push(0),
+                    1 => drop(s.terms[j].pop()),
+                    _ => s.terms[j].clear(),
+                }
+            }
+        }
+        19 => s.terms.push(vec![255; 30]),
+        // An alive set where none was, or none where one was.
+        20 => {
+            s.alive = match &s.alive {
+                Some(_) => None,
+                None => Some(vec![0; (s.rows.div_ceil(64) as usize).min(100)]),
+            }
+        }
+        21 | 22 => {
+            if let Some(word) = s.alive.as_mut().and_then(|words| words.last_mut()) {
+                *word |= 1 << rng.pick(&[63, s.rows % 64, s.rows.wrapping_sub(1) % 64, 0]);
+            } else if !ordered {
+                s.alive = Some(vec![0; (s.rows.div_ceil(64) as usize).min(100)]);
+            }
+        }
+        _ => {
+            s.kind = 2;
+            s.ids.clear();
+            s.offsets.clear();
+            s.values.clear();
+        }
+    }
+}
+
+/// Changes one thing in the sections: lengths, and numbers that nobody knows.
+fn sections(rng: &mut Rng, s: &mut Sections) {
+    let n = s.records.len();
+    match rng.below(20) {
+        0 => s.mode = rng.pick(&[0, 1, 2, 3, 255, 256, u32::MAX]),
+        1 => s.required = rng.pick(ODD),
+        2..5 if n > 0 => s.records[rng.index(n)][rng.pick(&[0, 0, 1, 7])] = rng.pick(ODD),
+        5..8 if n > 0 => {
+            let number = &mut s.records[rng.index(n)][rng.index(5) + 3];
+            *number = number.wrapping_add(rng.pick(&[1, u32::MAX, 1 << 31]));
+        }
+        // Errors of two records that cancel.
+        8 | 9 if n > 1 => {
+            let (i, j, k) = (rng.index(n), rng.index(n), rng.index(4) + 3);
+            s.records[i][k] = s.records[i][k].wrapping_add(1);
+            s.records[j][k] = s.records[j][k].wrapping_sub(1);
+        }
+        10 => s.ids.push(0),
+        11 => s.offsets.push(0),
+        12 => s.values.push(0),
+        13 => s.alive.push(0),
+        14 => s.term_lengths.push(0),
+        15 => s.term_bytes.push(0),
+        16 => match rng.below(6) {
+            0 => drop(s.ids.pop()),
+            1 => drop(s.offsets.pop()),
+            2 => drop(s.values.pop()),
+            3 => drop(s.alive.pop()),
+            4 => drop(s.term_lengths.pop()),
+            _ => drop(s.term_bytes.pop()),
+        },
+        17 if !s.term_lengths.is_empty() => {
+            let i = rng.index(s.term_lengths.len());
+            s.term_lengths[i] = s.term_lengths[i].wrapping_add(rng.pick(&[1, u32::MAX, 1 << 31]));
+        }
+        // Two lengths whose errors cancel.
+        18 if s.term_lengths.len() > 1 => {
+            let (i, j) = (rng.index(s.term_lengths.len()), rng.index(s.term_lengths.len()));
+            s.term_lengths[i] = s.term_lengths[i].wrapping_add(1);
+            s.term_lengths[j] = s.term_lengths[j].wrapping_sub(1);
+        }
+        // Too many segments, or as many as may be.
+        _ if rng.one_in(4) => {
+            let many = rng.pick(&[255, 256, 256, 257, 257, 300]);
+            while s.records.len() < many {
+                s.records.push([255, 0, 0, 0, 0, 0, 0, 0]);
+            }
+        }
+        _ => s.required = rng.pick(TYPES),
+    }
+}
+
+/// Lends less, mostly one element less than is needed.
+fn space(rng: &mut Rng, lent: &mut Lent) {
+    let place = match rng.below(7) {
+        0 => &mut lent.working,
+        1 => &mut lent.ids,
+        2 => &mut lent.offsets,
+        3 => &mut lent.values,
+        4 => &mut lent.term_lengths,
+        5 => &mut lent.term_bytes,
+        _ => &mut lent.map,
+    };
+    *place = if rng.one_in(4) { 0 } else { place.saturating_sub(1) };
+}
+
+/// A copy with one to three damages. `needed`: what an accepted input needs at least.
+pub fn copy(rng: &mut Rng, good: &Input, needed: Lent, lent: Lent) -> (Sections, Lent) {
+    let mut input = good.clone();
+    let mut lent = lent;
+    let times = rng.pick(&[1, 1, 1, 2, 2, 3]);
+    let mut in_sections = 0;
+    for _ in 0..times {
+        match rng.below(10) {
+            0..6 => segments(rng, &mut input),
+            6..8 => in_sections += 1,
+            _ => {
+                lent = needed;
+                space(rng, &mut lent);
+            }
+        }
+    }
+    let mut s = input.sections();
+    for _ in 0..in_sections {
+        sections(rng, &mut s);
+    }
+    (s, lent)
+}
+
+/// Damages of the wire form itself.
+pub fn wire(rng: &mut Rng, bytes: &mut Vec<u8>) {
+    let words = bytes.len() / 8;
+    match rng.below(8) {
+        0 => bytes.truncate(rng.index(bytes.len() + 1)),
+        1 => bytes.truncate(8 * rng.index(words + 1)),
+        2 => bytes.extend(vec![0; rng.index(17)]),
+        3 if words > 0 => bytes[..8].copy_from_slice(&rng.pick(&[0u64, 1, 3, 1 << 32]).to_le_bytes()),
+        // One word, counts among them, made wide, or as wide as 8, 16 or 64 times it wraps.
+        4..7 if words > 0 => {
+            let at = 8 * rng.index(words);
+            let wide = rng.pick(&[256u64, 1 << 32, 1 << 58, 1 << 60, 1 << 61, 1 << 63, u64::MAX]);
+            let word = u64::from_le_bytes(bytes[at..at + 8].try_into().unwrap());
+            let word = if rng.one_in(2) { word.wrapping_add(wide) } else { wide };
+            bytes[at..at + 8].copy_from_slice(&word.to_le_bytes());
+        }
+        _ if words > 0 => {
+            let at = 8 * rng.index(words);
+            let word = u64::from_le_bytes(bytes[at..at + 8].try_into().unwrap());
+            let word = word.wrapping_add(rng.pick(&[1, u64::MAX]));
+            bytes[at..at + 8].copy_from_slice(&word.to_le_bytes());
+        }
+        _ => bytes.push(0),
+    }
+}

@@ -1,0 +1,100 @@
+//! The joiner's static library, called as C would call it: each run as a pointer and a number of
+//! elements, in the order of document 01's sections.
+use crate::ours::{Element, Joiner, Lists, Run};
+use crate::wire::Sections;
+
+unsafe extern "C" {
+    fn jadmirus_join(
+        mode: u32,
+        required: u32,
+        records: *const [u32; 8],
+        records_len: usize,
+        ids: *const u32,
+        ids_len: usize,
+        offsets: *const u32,
+        offsets_len: usize,
+        values: *const u64,
+        values_len: usize,
+        term_lengths: *const u32,
+        term_lengths_len: usize,
+        term_bytes: *const u8,
+        term_bytes_len: usize,
+        alive: *const u64,
+        alive_len: usize,
+        addresses: *const [u32; 2],
+        addresses_len: usize,
+        out_working: *mut u8,
+        out_working_len: usize,
+        out_ids: *mut u32,
+        out_ids_len: usize,
+        out_offsets: *mut u32,
+        out_offsets_len: usize,
+        out_values: *mut u64,
+        out_values_len: usize,
+        out_term_lengths: *mut u32,
+        out_term_lengths_len: usize,
+        out_term_bytes: *mut u8,
+        out_term_bytes_len: usize,
+        out_map: *mut u32,
+        out_map_len: usize,
+        // nine
+        out_numbers: *mut u64,
+    ) -> u32;
+}
+
+pub struct Library;
+
+impl Joiner for Library {
+    fn join(&mut self, s: &Sections, lists: &mut Lists) -> u32 {
+        fn run<T: Element>(run: &mut Run<T>) -> (*mut T, usize) {
+            let lent = run.lent();
+            (lent.as_mut_ptr(), lent.len())
+        }
+        let working = run(&mut lists.working);
+        let ids = run(&mut lists.ids);
+        let offsets = run(&mut lists.offsets);
+        let values = run(&mut lists.values);
+        let term_lengths = run(&mut lists.term_lengths);
+        let term_bytes = run(&mut lists.term_bytes);
+        let map = run(&mut lists.map);
+        let numbers = run(&mut lists.numbers);
+        // The pointers are of live runs of those lengths, and no two writable ones overlap.
+        unsafe {
+            jadmirus_join(
+                s.mode,
+                s.required,
+                s.records.as_ptr(),
+                s.records.len(),
+                s.ids.as_ptr(),
+                s.ids.len(),
+                s.offsets.as_ptr(),
+                s.offsets.len(),
+                s.values.as_ptr(),
+                s.values.len(),
+                s.term_lengths.as_ptr(),
+                s.term_lengths.len(),
+                s.term_bytes.as_ptr(),
+                s.term_bytes.len(),
+                s.alive.as_ptr(),
+                s.alive.len(),
+                s.addresses.as_ptr(),
+                s.addresses.len(),
+                working.0,
+                working.1,
+                ids.0,
+                ids.1,
+                offsets.0,
+                offsets.1,
+                values.0,
+                values.1,
+                term_lengths.0,
+                term_lengths.1,
+                term_bytes.0,
+                term_bytes.1,
+                map.0,
+                map.1,
+                numbers.0,
+            )
+        }
+    }
+}

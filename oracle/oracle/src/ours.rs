@@ -1,0 +1,168 @@
+//! The joiner's side of the comparison: one call with lent outputs. Back ends: the static library
+//! (library.rs), and stand-ins made of the model, right and wrong (slips.rs). The joining program
+//! is compared by its listings instead (compare.rs).
+use crate::table::Lent;
+use crate::wire::{Listing, Outcome, Sections};
+
+pub trait Element: Copy + PartialEq + std::fmt::Debug {
+    fn from_word(word: u64) -> Self;
+}
+impl Element for u8 {
+    fn from_word(word: u64) -> u8 {
+        word as u8
+    }
+}
+impl Element for u32 {
+    fn from_word(word: u64) -> u32 {
+        word as u32
+    }
+}
+impl Element for u64 {
+    fn from_word(word: u64) -> u64 {
+        word
+    }
+}
+
+const GUARD: usize = 4;
+
+/// A lent run of elements between guards, all filled with a pattern before the call.
+pub struct Run<T> {
+    all: Vec<T>,
+    salt: u64,
+}
+
+impl<T: Element> Run<T> {
+    pub fn new(length: usize, salt: u64) -> Run<T> {
+        let mut run = Run { all: Vec::with_capacity(length + 2 * GUARD), salt };
+        for i in 0..length + 2 * GUARD {
+            run.all.push(run.pattern(i));
+        }
+        run
+    }
+    fn pattern(&self, i: usize) -> T {
+        let word = (i as u64).wrapping_add(self.salt).wrapping_mul(0x9E3779B97F4A7C15);
+        T::from_word(word ^ word >> 29)
+    }
+    pub fn lent(&mut self) -> &mut [T] {
+        let end = self.all.len() - GUARD;
+        &mut self.all[GUARD..end]
+    }
+    /// A slip of slips.rs.
+    pub fn past_the_end(&mut self, element: T) {
+        let end = self.all.len() - GUARD;
+        self.all[end] = element;
+    }
+    pub fn len(&self) -> usize {
+        self.all.len() - 2 * GUARD
+    }
+    /// What is wrong, if the run must begin with `list` and be as before beyond it.
+    pub fn fault(&self, name: &str, list: &[T]) -> Option<String> {
+        for i in 0..self.all.len() {
+            let place = i.wrapping_sub(GUARD);
+            let (expected, what) = match list.get(place) {
+                Some(&element) => (element, "is"),
+                None if place < self.len() => (self.pattern(i), "beyond the list, is"),
+                None => (self.pattern(i), "outside what was lent, is"),
+            };
+            if self.all[i] != expected {
+                let (place, is) = (place as isize, self.all[i]);
+                return Some(format!("{name}[{place}] {what} {is:?}, must be {expected:?}"));
+            }
+        }
+        None
+    }
+}
+
+/// All that a call is lent to write to.
+pub struct Lists {
+    pub working: Run<u8>,
+    pub ids: Run<u32>,
+    pub offsets: Run<u32>,
+    pub values: Run<u64>,
+    pub term_lengths: Run<u32>,
+    pub term_bytes: Run<u8>,
+    pub map: Run<u32>,
+    /// Type, class, rows, then how many row ids, offsets, values, terms, term bytes and map
+    /// entries.
+    pub numbers: Run<u64>,
+}
+
+impl Lists {
+    pub fn new(lent: Lent, salt: u64) -> Lists {
+        Lists {
+            working: Run::new(lent.working, salt),
+            ids: Run::new(lent.ids, salt + 1),
+            offsets: Run::new(lent.offsets, salt + 2),
+            values: Run::new(lent.values, salt + 3),
+            term_lengths: Run::new(lent.term_lengths, salt + 4),
+            term_bytes: Run::new(lent.term_bytes, salt + 5),
+            map: Run::new(lent.map, salt + 6),
+            numbers: Run::new(9, salt + 7),
+        }
+    }
+
+    /// How many elements are lent.
+    pub fn lengths(&self) -> Lent {
+        Lent {
+            working: self.working.len(),
+            ids: self.ids.len(),
+            offsets: self.offsets.len(),
+            values: self.values.len(),
+            term_lengths: self.term_lengths.len(),
+            term_bytes: self.term_bytes.len(),
+            map: self.map.len(),
+        }
+    }
+
+    /// Writes a column as an accepted join does.
+    pub fn write(&mut self, l: &Listing) {
+        self.ids.lent()[..l.ids.len()].copy_from_slice(&l.ids);
+        self.offsets.lent()[..l.offsets.len()].copy_from_slice(&l.offsets);
+        self.values.lent()[..l.values.len()].copy_from_slice(&l.values);
+        let bytes = l.terms.concat();
+        self.term_bytes.lent()[..bytes.len()].copy_from_slice(&bytes);
+        for (length, term) in self.term_lengths.lent().iter_mut().zip(&l.terms) {
+            *length = term.len() as u32;
+        }
+        self.map.lent()[..l.map.len()].copy_from_slice(&l.map);
+        self.numbers.lent().copy_from_slice(&numbers(l));
+    }
+
+    /// What is wrong, if the call must have had this outcome. A refusal changes no output, the
+    /// numbers among them; output beyond the lists keeps its bytes; the working bytes are zero.
+    pub fn fault(&self, outcome: &Outcome) -> Option<String> {
+        let nothing = Listing::default();
+        let (l, numbers) = match outcome {
+            Outcome::Accepted(l) => (l, numbers(l).to_vec()),
+            Outcome::Refused(_) => (&nothing, vec![]),
+        };
+        let lengths: Vec<u32> = l.terms.iter().map(|t| t.len() as u32).collect();
+        None.or_else(|| self.numbers.fault("numbers", &numbers))
+            .or_else(|| self.ids.fault("ids", &l.ids))
+            .or_else(|| self.offsets.fault("offsets", &l.offsets))
+            .or_else(|| self.values.fault("values", &l.values))
+            .or_else(|| self.term_lengths.fault("term lengths", &lengths))
+            .or_else(|| self.term_bytes.fault("term bytes", &l.terms.concat()))
+            .or_else(|| self.map.fault("map", &l.map))
+            .or_else(|| self.working.fault("working bytes", &vec![0; self.working.len()]))
+    }
+}
+
+pub fn numbers(l: &Listing) -> [u64; 9] {
+    [
+        l.ty as u64,
+        l.class as u64,
+        l.rows as u64,
+        l.ids.len() as u64,
+        l.offsets.len() as u64,
+        l.values.len() as u64,
+        l.terms.len() as u64,
+        l.terms.iter().map(|t| t.len() as u64).sum(),
+        l.map.len() as u64,
+    ]
+}
+
+/// A joiner: the answer's number; the column goes to the lists.
+pub trait Joiner {
+    fn join(&mut self, sections: &Sections, lists: &mut Lists) -> u32;
+}

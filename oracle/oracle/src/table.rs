@@ -1,0 +1,468 @@
+//! Document 01's table of answers ("Answers of the joiner"), 1 to 11, and what its joining program
+//! does with standard input: written from the document's words alone.
+use std::cell::OnceCell;
+use std::cmp::Ordering;
+use std::collections::HashSet;
+
+use crate::model;
+use crate::wire::{Input, Listing, Outcome, Sections, Seg};
+
+/// How many elements are lent.
+#[derive(Clone, Copy, Debug, Default, PartialEq, Eq)]
+pub struct Lent {
+    pub working: usize,
+    pub ids: usize,
+    pub offsets: usize,
+    pub values: usize,
+    pub term_lengths: usize,
+    pub term_bytes: usize,
+    pub map: usize,
+}
+
+/// "It lends 65,536 working bytes and 8,192 elements of each output list."
+pub const PROGRAM: Lent = Lent {
+    working: 65_536,
+    ids: 8_192,
+    offsets: 8_192,
+    values: 8_192,
+    term_lengths: 8_192,
+    term_bytes: 8_192,
+    map: 8_192,
+};
+pub const PROGRAM_BYTES: usize = 65_536;
+
+/// One call: what is lent. The cut and the join are made when first asked for.
+pub struct Call<'a> {
+    pub sections: &'a Sections,
+    pub lent: Lent,
+    cut: OnceCell<Input>,
+    joined: OnceCell<Listing>,
+}
+
+impl<'a> Call<'a> {
+    pub fn new(sections: &'a Sections, lent: Lent) -> Call<'a> {
+        Call { sections, lent, cut: OnceCell::new(), joined: OnceCell::new() }
+    }
+    /// The segments with their runs: to be asked only once check 2 has passed.
+    pub fn input(&self) -> &Input {
+        self.cut.get_or_init(|| self.sections.cut())
+    }
+    /// The join: to be asked only once check 10 has passed.
+    pub fn joined(&self) -> &Listing {
+        self.joined.get_or_init(|| model::join(self.input()))
+    }
+    fn any_segment(&self, fails: impl Fn(&Seg) -> bool) -> bool {
+        self.input().segs.iter().any(fails)
+    }
+}
+
+pub type Check = fn(&Call) -> bool;
+
+/// Check number n is entry n - 1: true where the number is to be given.
+pub const CHECKS: [Check; 11] = [
+    segments,
+    section_lengths,
+    unknown,
+    runs,
+    contents,
+    alive_sets,
+    sums,
+    working_bytes,
+    addresses,
+    types,
+    space,
+];
+
+/// "Checks run in number order, each over all segments. 0 is acceptance."
+pub fn answer_by(checks: &[(u32, Check)], call: &Call) -> u32 {
+    checks.iter().find(|(_, fails)| fails(call)).map_or(0, |(number, _)| *number)
+}
+
+pub fn answer(call: &Call) -> u32 {
+    let numbered: Vec<(u32, Check)> = (1..).zip(CHECKS).collect();
+    answer_by(&numbered, call)
+}
+
+pub fn outcome(sections: &Sections, lent: Lent) -> Outcome {
+    let call = Call::new(sections, lent);
+    match answer(&call) {
+        0 => Outcome::Accepted(call.joined().clone()),
+        number => Outcome::Refused(number),
+    }
+}
+
+/// "A cut input, a first count other than 2, bytes after the last section, a number too wide or
+/// more than 65,536 bytes gives 2, before all other checks." None there; the sections else.
+pub fn program_sections(bytes: &[u8]) -> Option<Sections> {
+    if bytes.len() > PROGRAM_BYTES { None } else { Sections::decode(bytes).ok() }
+}
+
+/// The joining program on what it reads.
+pub fn program(bytes: &[u8]) -> Outcome {
+    match program_sections(bytes) {
+        None => Outcome::Refused(2),
+        Some(sections) => outcome(&sections, PROGRAM),
+    }
+}
+
+/// 1: more than 256 segments
+pub fn segments(call: &Call) -> bool {
+    call.sections.records.len() > 256
+}
+
+/// 2: section lengths differ from the records' sums (only flag 1 adds alive words), or term bytes
+/// from the term lengths' sum
+pub fn section_lengths(call: &Call) -> bool {
+    let s = call.sections;
+    let sum = |of: &dyn Fn(&[u32; 8]) -> u32| s.records.iter().map(|r| of(r) as u128).sum::<u128>();
+    sum(&|r| r[3]) != s.ids.len() as u128
+        || sum(&|r| r[4]) != s.offsets.len() as u128
+        || sum(&|r| r[5]) != s.values.len() as u128
+        || sum(&|r| r[6]) != s.term_lengths.len() as u128
+        || sum(&|r| if r[7] == 1 { r[2].div_ceil(64) } else { 0 }) != s.alive.len() as u128
+        || s.term_lengths.iter().map(|&n| n as u128).sum::<u128>() != s.term_bytes.len() as u128
+}
+
+/// 3: unknown mode, type, required type, kind or flag; type 255 with a kind or lengths
+pub fn unknown(call: &Call) -> bool {
+    let known_type = |ty: u32| matches!(ty, 0 | 1 | 2 | 3 | 4 | 5 | 7 | 255);
+    !matches!(call.sections.mode, 0 | 1)
+        || !known_type(call.sections.required)
+        || call.sections.records.iter().any(|&[ty, kind, _rows, ids, offsets, values, terms, flag]| {
+            !known_type(ty)
+                || kind > 4
+                || flag > 1
+                || ty == 255 && (kind, ids, offsets, values, terms) != (0, 0, 0, 0, 0)
+        })
+}
+
+/// 4: ids not ascending or not below rows; wrong number of ids, offsets or values; offsets not from
+/// 0, falling (kind 3) or not rising (kind 4)
+///
+/// "Kind 1 has a value for each row; 2 a value for each id; 3 rows + 1 offsets; 4 one offset more
+/// than ids; the last offset is the number of values. Lists not named here are empty, and kind 0
+/// has none."
+pub fn runs(call: &Call) -> bool {
+    call.any_segment(|s| {
+        let (ids, offsets, values) = (s.ids.len() as u64, s.offsets.len() as u64, s.values.len() as u64);
+        let rows = s.rows as u64;
+        let right_numbers = match s.kind {
+            0 => ids == 0 && offsets == 0 && values == 0,
+            1 => ids == 0 && offsets == 0 && values == rows,
+            2 => offsets == 0 && values == ids,
+            3 => ids == 0 && offsets == rows + 1,
+            _ => offsets == ids + 1,
+        };
+        let ids_right = s.ids.windows(2).all(|w| w[0] < w[1]) && s.ids.iter().all(|&id| id < s.rows);
+        let offsets_right = s.kind < 3
+            || s.offsets.first() == Some(&0)
+                && s.offsets.windows(2).all(|w| if s.kind == 3 { w[0] <= w[1] } else { w[0] < w[1] })
+                && s.offsets.last().map(|&o| o as u64) == Some(values);
+        !(right_numbers && ids_right && offsets_right)
+    })
+}
+
+/// 5: Bool above 1, ordinal not below the terms, terms not strictly ascending, terms on another
+/// type or on kind 0
+pub fn contents(call: &Call) -> bool {
+    let bytewise = |a: &[u8], b: &[u8]| {
+        for (x, y) in a.iter().zip(b) {
+            if x != y {
+                return x.cmp(y);
+            }
+        }
+        a.len().cmp(&b.len())
+    };
+    call.any_segment(|s| {
+        let words = s.ty == 3 || s.ty == 4;
+        s.ty == 5 && s.values.iter().any(|&v| v > 1)
+            || words && s.values.iter().any(|&v| v >= s.terms.len() as u64)
+            || s.terms.windows(2).any(|w| bytewise(&w[0], &w[1]) != Ordering::Less)
+            || !s.terms.is_empty() && (!words || s.kind == 0)
+    })
+}
+
+/// 6: an alive bit past the rows, or an alive set in a stacked join
+pub fn alive_sets(call: &Call) -> bool {
+    call.any_segment(|s| {
+        s.alive.as_ref().is_some_and(|words| {
+            call.sections.mode == 0
+                || words.iter().enumerate().any(|(i, word)| {
+                    (0..64).any(|bit| word >> bit & 1 == 1 && i as u64 * 64 + bit >= s.rows as u64)
+                })
+        })
+    })
+}
+
+/// 7: rows, values or term bytes sum above 4294967294
+pub fn sums(call: &Call) -> bool {
+    let s = call.sections;
+    s.records.iter().map(|r| r[2] as u128).sum::<u128>() > 4294967294
+        || s.values.len() as u128 > 4294967294
+        || s.term_bytes.len() as u128 > 4294967294
+}
+
+/// 8: ordered, working bytes fewer than all rows plus all terms
+pub fn working_bytes(call: &Call) -> bool {
+    let rows: u128 = call.sections.records.iter().map(|r| r[2] as u128).sum();
+    let terms = call.sections.term_lengths.len() as u128;
+    call.sections.mode == 1 && (call.lent.working as u128) < rows + terms
+}
+
+/// 9: an address absent from the segments, withdrawn or repeated; an alive row not listed; any
+/// address when stacked
+pub fn addresses(call: &Call) -> bool {
+    let list = &call.sections.addresses;
+    if call.sections.mode == 0 {
+        return !list.is_empty();
+    }
+    let segs = &call.input().segs;
+    let mut listed: HashSet<[u32; 2]> = HashSet::new();
+    for &[segment, row] in list {
+        let Some(s) = segs.get(segment as usize) else { return true };
+        if row >= s.rows || !s.is_alive(row) || !listed.insert([segment, row]) {
+            return true;
+        }
+    }
+    // Each address is another alive row: all alive rows are listed if there are no more of them.
+    let alive_rows = |s: &Seg| match &s.alive {
+        None => s.rows as u64,
+        Some(_) => (0..s.rows).filter(|&r| s.is_alive(r)).count() as u64,
+    };
+    segs.iter().map(alive_rows).sum::<u64>() != listed.len() as u64
+}
+
+/// Numbers (0, 1, 2) are one category, each other type is one alone.
+fn category(ty: u32) -> u32 {
+    if ty <= 2 { 0 } else { ty }
+}
+
+/// Present or required types of two categories.
+pub fn two_categories(input: &Input) -> bool {
+    let types = input.segs.iter().map(|s| s.ty).chain([input.required]);
+    types.filter(|&ty| ty != 255).map(category).collect::<HashSet<u32>>().len() > 1
+}
+
+/// 10: present or required types of two categories, or a held column that can't be coerced
+pub fn types(call: &Call) -> bool {
+    let input = call.input();
+    let to = model::joined_type(input);
+    two_categories(input)
+        || call.any_segment(|s| {
+            model::held(s) && s.values.iter().any(|&v| model::coerced(s.ty, to, v).is_none())
+        })
+}
+
+/// What the outputs must hold: the lists, and for terms and map the held columns' sums.
+pub fn needed(call: &Call) -> Lent {
+    let joined = call.joined();
+    let held = || call.input().segs.iter().filter(|s| model::held(s));
+    let terms = held().map(|s| s.terms.len()).sum();
+    Lent {
+        working: match call.sections.mode {
+            0 => 0,
+            _ => {
+                let rows: usize = call.sections.records.iter().map(|r| r[2] as usize).sum();
+                rows + call.sections.term_lengths.len()
+            }
+        },
+        ids: joined.ids.len(),
+        offsets: joined.offsets.len(),
+        values: joined.values.len(),
+        term_lengths: terms,
+        term_bytes: held().flat_map(|s| &s.terms).map(|t| t.len()).sum(),
+        map: terms,
+    }
+}
+
+/// 11: an output shorter than its list; for terms and map, than the held columns' sums
+pub fn space(call: &Call) -> bool {
+    let (needed, lent) = (needed(call), call.lent);
+    lent.ids < needed.ids
+        || lent.offsets < needed.offsets
+        || lent.values < needed.values
+        || lent.term_lengths < needed.term_lengths
+        || lent.term_bytes < needed.term_bytes
+        || lent.map < needed.map
+}
+
+#[cfg(test)]
+mod tests {
+    use super::*;
+    use crate::wire::from_words;
+
+    const PLENTY: Lent = PROGRAM;
+
+    fn input(text: &str) -> Input {
+        let words: Vec<String> = text.split_whitespace().map(String::from).collect();
+        from_words(&words).unwrap()
+    }
+    fn number(text: &str, lent: Lent) -> u32 {
+        outcome(&input(text).sections(), lent).number()
+    }
+
+    /// The table's column of examples, and the readings of its words.
+    #[test]
+    fn examples() {
+        let refused = |n: u32, text: &str| assert_eq!(number(text, PLENTY), n, "{text}");
+        // 1
+        refused(0, &format!("0 255{}", " 255/0/0".repeat(256)));
+        refused(1, &format!("0 255{}", " 255/0/0".repeat(257)));
+        refused(1, &format!("9 9{}", " 9/9/9".repeat(257)));
+        // 2: one value announced, none there
+        let mut s = input("0 255 1/1/1/val=7").sections();
+        s.values.clear();
+        assert_eq!(outcome(&s, PLENTY), Outcome::Refused(2));
+        // Errors of two records can cancel: the sums are compared. Here 4 finds them.
+        let mut s = input("0 255 1/1/1/val=7 1/1/1/val=8").sections();
+        (s.records[0][5], s.records[1][5]) = (0, 2);
+        assert_eq!(outcome(&s, PLENTY), Outcome::Refused(4));
+        // Only flag 1 adds alive words.
+        let mut s = input("1 255 255/0/3/alive=0").sections();
+        assert_eq!(outcome(&s, PLENTY).number(), 0);
+        s.records[0][7] = 2;
+        assert_eq!(outcome(&s, PLENTY), Outcome::Refused(2));
+        s.alive.clear();
+        assert_eq!(outcome(&s, PLENTY), Outcome::Refused(3));
+        // 3: type 6
+        for text in [
+            "0 255 6/1/1/val=0",
+            "2 255",
+            "0 6",
+            "0 8",
+            "0 254",
+            "0 256",
+            "0 255 8/0/0",
+            "0 255 1/5/0",
+            "0 255 255/1/0",
+            "0 255 255/1/1/val=0",
+            "0 255 255/0/1/val=0",
+            "0 255 255/0/0/terms=a",
+            "0 255 255/0/0/off=0",
+            "0 255 255/2/1/ids=0/val=0",
+        ] {
+            refused(3, text);
+        }
+        // 4: ids 1 1
+        for text in [
+            "0 255 1/2/3/ids=1,1/val=0,0",
+            "0 255 1/2/3/ids=2,1/val=0,0",
+            "0 255 1/2/1/ids=1/val=0",
+            "0 255 1/2/1/ids=0",
+            "0 255 1/2/1/val=0",
+            "0 255 1/1/2/val=0",
+            "0 255 1/1/0/val=0",
+            "0 255 1/0/1/val=0",
+            "0 255 1/0/1/ids=0",
+            "0 255 1/0/1/off=0",
+            "0 255 1/1/1/val=0/off=0",
+            "0 255 1/1/1/val=0/ids=0",
+            "0 255 1/2/1/ids=0/val=0/off=0,1",
+            "0 255 1/3/0",
+            "0 255 1/3/1/off=0",
+            "0 255 1/3/1/off=1,1/val=0",
+            "0 255 1/3/2/off=0,2,1/val=0",
+            "0 255 1/3/1/off=0,1/val=0,0",
+            "0 255 1/3/1/off=0,1/val=0/ids=0",
+            "0 255 1/4/0",
+            "0 255 1/4/1/ids=0/off=0,0",
+            "0 255 1/4/2/ids=0,1/off=0,1,1/val=0",
+            "0 255 1/4/0/off=1",
+            "0 255 1/4/1/off=0,1/val=0",
+            "0 255 1/3/4294967295/off=0",
+        ] {
+            refused(4, text);
+        }
+        refused(0, "0 255 1/3/0/off=0");
+        refused(0, "0 255 1/4/0/off=0");
+        // 5: terms b a
+        for text in [
+            "0 255 4/1/1/val=0/terms=b,a",
+            "0 255 4/1/1/val=0/terms=a,a",
+            "0 255 4/1/1/val=0/terms=aa,b,ab",
+            "0 255 4/1/1/val=1/terms=a",
+            "0 255 3/1/1/val=0",
+            "0 255 5/1/1/val=2",
+            "0 255 1/1/1/val=0/terms=a",
+            "0 255 4/0/1/terms=a",
+            "0 255 1/0/1/terms=a",
+        ] {
+            refused(5, text);
+        }
+        refused(0, "0 255 4/1/1/val=0/terms=-,0x00,a,aa,b");
+        // 6: 1 row, word 2
+        refused(6, "1 255 1/1/1/val=0/alive=2");
+        refused(6, "0 255 1/1/1/val=0/alive=1");
+        refused(6, "0 255 255/0/0/alive=");
+        refused(0, "1 255 255/0/0/alive=");
+        // 7: one no-column segment of 4294967295 rows
+        refused(7, "0 255 255/0/4294967295");
+        refused(0, "0 255 255/0/4294967294");
+        refused(7, "1 255 255/0/4294967294 255/0/1");
+        refused(8, "1 255 255/0/4294967294");
+        // 8: 3 rows, 2 bytes
+        let working = |working: usize| Lent { working, ..PLENTY };
+        let text = "1 255 255/0/3 addr=0:0,0:1,0:2";
+        assert_eq!((number(text, working(2)), number(text, working(3))), (8, 0));
+        let text = "1 255 4/2/1/terms=a,b,c addr=0:0";
+        assert_eq!((number(text, working(3)), number(text, working(4))), (8, 0));
+        // 9: (0,0) twice
+        for text in [
+            "1 255 255/0/1 addr=0:0,0:0",
+            "1 255 255/0/1 addr=0:1",
+            "1 255 255/0/1 addr=1:0",
+            "1 255 255/0/1/alive=0 addr=0:0",
+            "1 255 255/0/2/alive=3 addr=0:1",
+            "1 255 255/0/1",
+            "0 255 255/0/1 addr=0:0",
+            "1 255 addr=0:0",
+        ] {
+            refused(9, text);
+        }
+        refused(0, "1 255 255/0/2/alive=2 addr=0:1");
+        // 10: Str with Bool
+        for text in [
+            "0 255 4/1/1/val=0/terms=a 5/1/1/val=1",
+            "0 255 4/0/1 5/1/1/val=1",
+            "0 5 4/0/1",
+            "0 0 1/1/1/val=9223372036854775808",
+            "0 1 0/1/1/val=-1",
+            "0 0 2/1/1/val=0",
+            "0 1 2/1/1/val=0",
+            "1 0 1/1/2/val=1,9223372036854775808/alive=1 addr=0:0",
+        ] {
+            refused(10, text);
+        }
+        refused(0, "0 0 2/0/1");
+        refused(0, "1 0 1/1/1/val=9223372036854775808/alive=0");
+        // 11: 2 values, space for 1
+        let text = "0 255 1/1/2/val=7,8";
+        assert_eq!(number(text, Lent { values: 1, ..PLENTY }), 11);
+        let text = "1 255 4/1/2/val=0,1/terms=ab,cd/alive=2 addr=0:1";
+        let exact = Lent { working: 4, values: 1, term_lengths: 2, term_bytes: 4, map: 2, ..Lent::default() };
+        assert_eq!(number(text, exact), 0);
+        assert_eq!(number(text, Lent { term_lengths: 1, ..exact }), 11);
+        assert_eq!(number(text, Lent { term_bytes: 3, ..exact }), 11);
+        assert_eq!(number(text, Lent { map: 1, ..exact }), 11);
+        let text = "0 255 1/3/2/off=0,2,2/val=7,8";
+        let exact = Lent { ids: 1, offsets: 2, values: 2, ..Lent::default() };
+        assert_eq!(number(text, exact), 0);
+        assert_eq!(number(text, Lent { ids: 0, ..exact }), 11);
+        assert_eq!(number(text, Lent { offsets: 1, ..exact }), 11);
+    }
+
+    #[test]
+    fn program_form() {
+        let bytes = |values: usize| {
+            let mut s = input("0 255 1/1/0").sections();
+            (s.records[0][2], s.records[0][5]) = (values as u32, values as u32);
+            s.values = vec![7; values];
+            s.encode()
+        };
+        // 8 + 11 words without the values
+        assert_eq!(bytes(8_173).len(), 65_536);
+        assert_eq!(program(&bytes(8_173)).number(), 0);
+        assert_eq!(program(&bytes(8_174)), Outcome::Refused(2));
+        assert_eq!(program(&[]), Outcome::Refused(2));
+    }
+}

@@ -1,0 +1,388 @@
+//! Document 01's sections, cut into segments or in one run each, their wire form (64-bit
+//! little-endian words), and the listing.
+
+/// The sections as they are lent: each kind of element in one run.
+#[derive(Clone, Debug, Default, PartialEq, Eq)]
+pub struct Sections {
+    pub mode: u32,
+    pub required: u32,
+    /// type, kind, rows, numbers of row ids, offsets, values and terms, alive flag
+    pub records: Vec<[u32; 8]>,
+    pub ids: Vec<u32>,
+    pub offsets: Vec<u32>,
+    pub values: Vec<u64>,
+    pub term_lengths: Vec<u32>,
+    pub term_bytes: Vec<u8>,
+    pub alive: Vec<u64>,
+    /// segment, row
+    pub addresses: Vec<[u32; 2]>,
+}
+
+/// One segment with its runs.
+#[derive(Clone, Debug, Default, PartialEq, Eq)]
+pub struct Seg {
+    pub ty: u32,
+    pub kind: u32,
+    pub rows: u32,
+    pub ids: Vec<u32>,
+    pub offsets: Vec<u32>,
+    pub values: Vec<u64>,
+    pub terms: Vec<Vec<u8>>,
+    pub alive: Option<Vec<u64>>,
+}
+
+/// The sections cut into segments.
+#[derive(Clone, Debug, Default, PartialEq, Eq)]
+pub struct Input {
+    /// 0 stacked, 1 ordered
+    pub mode: u32,
+    /// 255 none
+    pub required: u32,
+    pub segs: Vec<Seg>,
+    pub addresses: Vec<[u32; 2]>,
+}
+
+impl Seg {
+    pub fn is_alive(&self, row: u32) -> bool {
+        match &self.alive {
+            None => true,
+            Some(words) => words[(row / 64) as usize] >> (row % 64) & 1 == 1,
+        }
+    }
+}
+
+impl Input {
+    pub fn sections(&self) -> Sections {
+        let mut s = Sections {
+            mode: self.mode,
+            required: self.required,
+            addresses: self.addresses.clone(),
+            ..Sections::default()
+        };
+        for seg in &self.segs {
+            s.records.push([
+                seg.ty,
+                seg.kind,
+                seg.rows,
+                seg.ids.len() as u32,
+                seg.offsets.len() as u32,
+                seg.values.len() as u32,
+                seg.terms.len() as u32,
+                seg.alive.is_some() as u32,
+            ]);
+            s.ids.extend(&seg.ids);
+            s.offsets.extend(&seg.offsets);
+            s.values.extend(&seg.values);
+            for term in &seg.terms {
+                s.term_lengths.push(term.len() as u32);
+                s.term_bytes.extend(term);
+            }
+            s.alive.extend(seg.alive.iter().flatten());
+        }
+        s
+    }
+}
+
+impl Sections {
+    /// For sections whose lengths are as the records say (check 2 passed).
+    pub fn cut(&self) -> Input {
+        fn take<'a, T>(run: &mut &'a [T], n: usize) -> &'a [T] {
+            let (part, rest) = run.split_at(n);
+            *run = rest;
+            part
+        }
+        let (mut ids, mut offsets, mut values) = (&self.ids[..], &self.offsets[..], &self.values[..]);
+        let (mut lengths, mut bytes) = (&self.term_lengths[..], &self.term_bytes[..]);
+        let mut alive = &self.alive[..];
+        let mut segs = Vec::with_capacity(self.records.len());
+        for r in &self.records {
+            segs.push(Seg {
+                ty: r[0],
+                kind: r[1],
+                rows: r[2],
+                ids: take(&mut ids, r[3] as usize).to_vec(),
+                offsets: take(&mut offsets, r[4] as usize).to_vec(),
+                values: take(&mut values, r[5] as usize).to_vec(),
+                terms: take(&mut lengths, r[6] as usize)
+                    .iter()
+                    .map(|&n| take(&mut bytes, n as usize).to_vec())
+                    .collect(),
+                alive: (r[7] == 1).then(|| take(&mut alive, r[2].div_ceil(64) as usize).to_vec()),
+            });
+        }
+        Input { mode: self.mode, required: self.required, segs, addresses: self.addresses.clone() }
+    }
+
+    pub fn encode(&self) -> Vec<u8> {
+        let mut bytes = Vec::new();
+        let mut word = |w: u64| bytes.extend(w.to_le_bytes());
+        word(2);
+        word(self.mode as u64);
+        word(self.required as u64);
+        word(self.records.len() as u64);
+        self.records.iter().flatten().for_each(|&x| word(x as u64));
+        word(self.ids.len() as u64);
+        self.ids.iter().for_each(|&x| word(x as u64));
+        word(self.offsets.len() as u64);
+        self.offsets.iter().for_each(|&x| word(x as u64));
+        word(self.values.len() as u64);
+        self.values.iter().for_each(|&x| word(x));
+        word(self.term_lengths.len() as u64);
+        self.term_lengths.iter().for_each(|&x| word(x as u64));
+        word(self.term_bytes.len() as u64);
+        self.term_bytes.iter().for_each(|&x| word(x as u64));
+        word(self.alive.len() as u64);
+        self.alive.iter().for_each(|&x| word(x));
+        word(self.addresses.len() as u64);
+        self.addresses.iter().flatten().for_each(|&x| word(x as u64));
+        bytes
+    }
+
+    /// The wire form read back. An error where the joining program answers 2 before all other
+    /// checks, but for the limit of 65,536 bytes, which is the program's (table::program).
+    pub fn decode(bytes: &[u8]) -> Result<Sections, &'static str> {
+        const CUT: &str = "a cut input";
+        const WIDE: &str = "a number too wide";
+        struct Words<'a>(&'a [u8]);
+        impl Words<'_> {
+            fn word(&mut self) -> Result<u64, &'static str> {
+                let (word, rest) = self.0.split_first_chunk::<8>().ok_or(CUT)?;
+                self.0 = rest;
+                Ok(u64::from_le_bytes(*word))
+            }
+            /// A section of `count` times `unit` words, after the count.
+            fn section(&mut self, unit: u128) -> Result<Vec<u64>, &'static str> {
+                let words = self.word()? as u128 * unit;
+                if words * 8 > self.0.len() as u128 {
+                    return Err(CUT);
+                }
+                (0..words).map(|_| self.word()).collect()
+            }
+        }
+        fn narrow<T: TryFrom<u64>>(words: Vec<u64>) -> Result<Vec<T>, &'static str> {
+            words.into_iter().map(|w| T::try_from(w).map_err(|_| WIDE)).collect()
+        }
+        let mut words = Words(bytes);
+        let head = words.section(1)?;
+        if head.len() != 2 {
+            return Err("a first count other than 2");
+        }
+        let head: Vec<u32> = narrow(head)?;
+        let s = Sections {
+            mode: head[0],
+            required: head[1],
+            records: narrow(words.section(8)?)?.as_chunks().0.to_vec(),
+            ids: narrow(words.section(1)?)?,
+            offsets: narrow(words.section(1)?)?,
+            values: words.section(1)?,
+            term_lengths: narrow(words.section(1)?)?,
+            term_bytes: narrow(words.section(1)?)?,
+            alive: words.section(1)?,
+            addresses: narrow(words.section(2)?)?.as_chunks().0.to_vec(),
+        };
+        if !words.0.is_empty() {
+            return Err("bytes after the last section");
+        }
+        Ok(s)
+    }
+}
+
+/// A joined column with its map.
+#[derive(Clone, Debug, Default, PartialEq, Eq)]
+pub struct Listing {
+    pub ty: u32,
+    pub class: u32,
+    pub rows: u32,
+    pub ids: Vec<u32>,
+    pub offsets: Vec<u32>,
+    pub values: Vec<u64>,
+    pub terms: Vec<Vec<u8>>,
+    pub map: Vec<u32>,
+}
+
+/// The joiner's answer.
+#[derive(Clone, Debug, PartialEq, Eq)]
+pub enum Outcome {
+    Accepted(Listing),
+    Refused(u32),
+}
+
+impl Outcome {
+    pub fn number(&self) -> u32 {
+        match self {
+            Outcome::Accepted(_) => 0,
+            Outcome::Refused(n) => *n,
+        }
+    }
+
+    /// The program's listing.
+    pub fn print(&self) -> String {
+        match self {
+            Outcome::Refused(n) => format!("answer {n}\n"),
+            Outcome::Accepted(l) => l.print(),
+        }
+    }
+}
+
+impl Listing {
+    pub fn print(&self) -> String {
+        use std::fmt::{Display, Write};
+        fn list<T: Display>(s: &mut String, name: &str, elements: impl ExactSizeIterator<Item = T>) {
+            write!(s, "{name} {}", elements.len()).unwrap();
+            for element in elements {
+                write!(s, " {element}").unwrap();
+            }
+            s.push('\n');
+        }
+        let term = |t: &Vec<u8>| match t.is_empty() {
+            true => "-".to_string(),
+            false => t.iter().map(|b| format!("{b:02x}")).collect(),
+        };
+        let mut s = format!("answer 0\ntype {}\nclass {}\nrows {}\n", self.ty, self.class, self.rows);
+        list(&mut s, "ids", self.ids.iter());
+        list(&mut s, "offsets", self.offsets.iter());
+        list(&mut s, "values", self.values.iter());
+        list(&mut s, "terms", self.terms.iter().map(term));
+        list(&mut s, "maps", self.map.iter());
+        s
+    }
+}
+
+/// An input from words on a command line: MODE REQUIRED SEG.. [addr=s:r,s:r..] with
+/// SEG = type/kind/rows[/ids=1,2][/off=0,1][/val=7,-8][/terms=a,b (or 0x61, a lone - empty)][/alive=5]
+pub fn from_words(words: &[String]) -> Result<Input, String> {
+    fn number(text: &str) -> Result<u64, String> {
+        let parsed = match (text.strip_prefix("0x"), text.starts_with('-')) {
+            (Some(hex), _) => u64::from_str_radix(hex, 16).ok(),
+            (None, true) => text.parse::<i64>().ok().map(|x| x as u64),
+            (None, false) => text.parse().ok(),
+        };
+        parsed.ok_or_else(|| format!("no number: {text}"))
+    }
+    fn narrow(text: &str) -> Result<u32, String> {
+        u32::try_from(number(text)?).map_err(|_| format!("too wide: {text}"))
+    }
+    fn list<T>(text: &str, f: impl Fn(&str) -> Result<T, String>) -> Result<Vec<T>, String> {
+        text.split(',').filter(|t| !t.is_empty()).map(f).collect()
+    }
+    fn term(text: &str) -> Result<Vec<u8>, String> {
+        match (text, text.strip_prefix("0x")) {
+            ("-", _) => Ok(vec![]),
+            (_, None) => Ok(text.as_bytes().to_vec()),
+            (_, Some(hex)) => (0..hex.len() / 2)
+                .map(|i| u8::from_str_radix(&hex[2 * i..2 * i + 2], 16))
+                .collect::<Result<_, _>>()
+                .map_err(|e| format!("{text}: {e}")),
+        }
+    }
+    let [mode, required, rest @ ..] = words else { return Err("MODE REQUIRED SEG..".into()) };
+    let mut input = Input { mode: narrow(mode)?, required: narrow(required)?, ..Input::default() };
+    for word in rest {
+        if let Some(pairs) = word.strip_prefix("addr=") {
+            input.addresses = list(pairs, |pair| {
+                let (s, r) = pair.split_once(':').ok_or_else(|| format!("no address: {pair}"))?;
+                Ok([narrow(s)?, narrow(r)?])
+            })?;
+            continue;
+        }
+        let mut parts = word.split('/');
+        let mut next = || narrow(parts.next().unwrap_or(""));
+        let mut seg = Seg { ty: next()?, kind: next()?, rows: next()?, ..Seg::default() };
+        for part in parts {
+            match part.split_once('=') {
+                Some(("ids", l)) => seg.ids = list(l, narrow)?,
+                Some(("off", l)) => seg.offsets = list(l, narrow)?,
+                Some(("val", l)) => seg.values = list(l, number)?,
+                Some(("terms", l)) => seg.terms = list(l, term)?,
+                Some(("alive", l)) => seg.alive = Some(list(l, number)?),
+                _ => return Err(format!("what is {part}?")),
+            }
+        }
+        input.segs.push(seg);
+    }
+    Ok(input)
+}
+
+/// The same words for an input, to show it.
+pub fn to_words(input: &Input) -> String {
+    fn list<T>(name: &str, list: &[T], show: impl Fn(&T) -> String) -> String {
+        match list.is_empty() {
+            true => String::new(),
+            false => format!("/{name}={}", list.iter().map(show).collect::<Vec<_>>().join(",")),
+        }
+    }
+    let term = |t: &Vec<u8>| match t.is_empty() {
+        true => "-".to_string(),
+        false => t.iter().fold("0x".to_string(), |s, b| format!("{s}{b:02x}")),
+    };
+    let mut words = format!("{} {}", input.mode, input.required);
+    for s in &input.segs {
+        words += &format!(" {}/{}/{}", s.ty, s.kind, s.rows);
+        words += &list("ids", &s.ids, u32::to_string);
+        words += &list("off", &s.offsets, u32::to_string);
+        words += &list("val", &s.values, u64::to_string);
+        words += &list("terms", &s.terms, term);
+        if let Some(alive) = &s.alive {
+            words += "/alive=";
+            words += &alive.iter().map(u64::to_string).collect::<Vec<_>>().join(",");
+        }
+    }
+    if !input.addresses.is_empty() {
+        let pairs = input.addresses.iter().map(|[s, r]| format!("{s}:{r}"));
+        words += &format!(" addr={}", pairs.collect::<Vec<_>>().join(","));
+    }
+    words
+}
+
+#[cfg(test)]
+mod tests {
+    use super::*;
+
+    fn words(list: &[u64]) -> Vec<u8> {
+        list.iter().flat_map(|w| w.to_le_bytes()).collect()
+    }
+
+    #[test]
+    fn refused_wire_forms() {
+        let empty = words(&[2, 0, 255, 0, 0, 0, 0, 0, 0, 0, 0]);
+        assert_eq!(Sections::decode(&empty).unwrap(), Sections { required: 255, ..Sections::default() });
+        for cut in 0..empty.len() {
+            assert_eq!(Sections::decode(&empty[..cut]), Err("a cut input"));
+        }
+        for more in 1..20 {
+            let longer = [&empty[..], &vec![0; more]].concat();
+            assert_eq!(Sections::decode(&longer), Err("bytes after the last section"));
+        }
+        for count in [0, 1, 3, 5] {
+            let mut w = vec![0; 20];
+            w[0] = count;
+            assert_eq!(Sections::decode(&words(&w)), Err("a first count other than 2"));
+        }
+        // Counts whose product with 8, 16 or 64 wraps at 2^64.
+        for place in 3..11 {
+            for count in [1, 1 << 58, 1 << 60, 1 << 61, 1 << 63, u64::MAX] {
+                let mut w = [2, 0, 255, 0, 0, 0, 0, 0, 0, 0, 0];
+                w[place] = count;
+                assert_eq!(Sections::decode(&words(&w)), Err("a cut input"), "{place} {count}");
+            }
+        }
+        let wide = |w: &[u64]| Sections::decode(&words(w)) == Err("a number too wide");
+        assert!(wide(&[2, 1 << 32, 255, 0, 0, 0, 0, 0, 0, 0, 0]));
+        assert!(!wide(&[2, (1 << 32) - 1, 255, 0, 0, 0, 0, 0, 0, 0, 0]));
+        assert!(wide(&[2, 0, 1 << 32, 0, 0, 0, 0, 0, 0, 0, 0]));
+        for i in 0..8 {
+            let mut w = vec![2, 0, 255, 1, 0, 0, 0, 0, 0, 0, 0, 0, 0, 0, 0, 0, 0, 0, 0];
+            w[4 + i] = 1 << 32;
+            assert!(wide(&w));
+        }
+        assert!(wide(&[2, 0, 255, 0, 1, 1 << 32, 0, 0, 0, 0, 0, 0]));
+        assert!(wide(&[2, 0, 255, 0, 0, 1, 1 << 32, 0, 0, 0, 0, 0]));
+        assert!(!wide(&[2, 0, 255, 0, 0, 0, 1, u64::MAX, 0, 0, 0, 0]));
+        assert!(wide(&[2, 0, 255, 0, 0, 0, 0, 1, 1 << 32, 0, 0, 0]));
+        assert!(wide(&[2, 0, 255, 0, 0, 0, 0, 0, 1, 256, 0, 0]));
+        assert!(!wide(&[2, 0, 255, 0, 0, 0, 0, 0, 1, 255, 0, 0]));
+        assert!(!wide(&[2, 0, 255, 0, 0, 0, 0, 0, 0, 1, u64::MAX, 0]));
+        assert!(wide(&[2, 0, 255, 0, 0, 0, 0, 0, 0, 0, 1, 1 << 32, 0]));
+        assert!(wide(&[2, 0, 255, 0, 0, 0, 0, 0, 0, 0, 1, 0, 1 << 32]));
+    }
+}
