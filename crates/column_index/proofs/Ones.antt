@@ -18,7 +18,7 @@ use Rattle.column_index.specs.Lookup.{aliveCount}
 -- ---- counts over numbers in sequence
 
 -- tests that agree on the numbers count the same
-count-same : (p q : ℕ → Bool) (s n : ℕ) → ((r : ℕ) → r < s + n → p r ≡ q r) → count p (upFrom s n) ≡ count q (upFrom s n)
+pub count-same : (p q : ℕ → Bool) (s n : ℕ) → ((r : ℕ) → r < s + n → p r ≡ q r) → count p (upFrom s n) ≡ count q (upFrom s n)
 count-same p q s zero h = refl
 count-same p q s (suc n) h =
     ap (λ (b : Bool). cond b (suc (count p (upFrom (suc s) n))) (count p (upFrom (suc s) n))) (h s (omega arith))
@@ -30,7 +30,7 @@ count-moved p k s zero = refl
 count-moved p k s (suc n) =
     ap (λ (c : ℕ). cond (p (k + s)) (suc c) c) (ap (λ (m : ℕ). count p (upFrom m n)) (sym (add-suc k s)) ∙ count-moved p k (suc s) n)
 
-count-split : (p : ℕ → Bool) (s a b : ℕ) → count p (upFrom s (a + b)) ≡ count p (upFrom s a) + count p (upFrom (s + a) b)
+pub count-split : (p : ℕ → Bool) (s a b : ℕ) → count p (upFrom s (a + b)) ≡ count p (upFrom s a) + count p (upFrom (s + a) b)
 count-split p s zero b = rw (zero-add b, add-zero s) (sym (zero-add (count p (upFrom s b))))
 count-split p s (suc a) b =
     rw (suc-add a b)

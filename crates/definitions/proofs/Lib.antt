@@ -14,3 +14,4 @@ pub mod Demand
 pub mod Double
 pub mod Pattern
 pub mod Rounded
+pub mod TimeOrder

@@ -1,4 +1,4 @@
-// The log sheets C1 to C12, the slips to shut out and the example of each answer, through the library: the answer with its numbers, and all that stands in the lent memory
+// The log sheets C1 to C13, the slips to shut out and the example of each answer, through the library: the answer with its numbers, and all that stands in the lent memory
 // afterwards. Every element is 9 before a call, so what stands beyond a list is 9, and so is everything after a refusal but the working bytes. Spaces that the joining program
 // can't lend are among them. The file `stdout` was made apart from this program, by a script that has the expected columns from document 01's log sheets and table of answers.
 
@@ -155,6 +155,52 @@ fn sheet(
         &mut b,
         &mut m,
     );
+}
+
+fn put_addresses(xs: &[[u32; 2]]) {
+    io::write_all(1, b"  addresses");
+    let mut k: usize = 0;
+    while k < xs.len() {
+        let a = xs[k];
+        put_word(b" ", small(a[0]));
+        put_word(b",", small(a[1]));
+        k += 1;
+    }
+    io::write_all(1, b"\n");
+}
+
+fn put_times(a: time_order::TimeAnswer) {
+    match a {
+        time_order::TimeAnswer::Refused(k) => put_word(b": answer ", k as u64),
+        time_order::TimeAnswer::Ordered(n) => put_word(b": answer 0, addresses ", n as u64),
+    }
+}
+
+fn times(
+    name: &[u8],
+    records: &[[u32; 8]],
+    ids: &[u32],
+    values: &[u64],
+    alive: &[u64],
+    out: &mut [[u32; 2]],
+) {
+    let offsets = [0u32; 1];
+    let lengths = [0u32; 1];
+    let bytes = [0u8; 1];
+    let a = time_order::time_order(
+        records,
+        ids,
+        &offsets[..0],
+        values,
+        &lengths[..0],
+        &bytes[..0],
+        alive,
+        out,
+    );
+    io::write_all(1, name);
+    put_times(a);
+    io::write_all(1, b"\n");
+    put_addresses(out);
 }
 
 // ---- the sheets
@@ -1111,6 +1157,63 @@ fn enough() {
     );
 }
 
+fn c13() {
+    let records = [[7u32, 2, 3, 2, 0, 2, 0, 0], [7, 2, 2, 1, 0, 1, 0, 0]];
+    let ids = [0u32, 2, 1];
+    let values = [10u64, 30, 20];
+    let alive = [0u64; 1];
+    let mut out = [[9u32; 2]; 6];
+    times(b"C13", &records, &ids, &values, &alive[..0], &mut out);
+}
+
+fn withdrawn_time() {
+    let records = [[7u32, 1, 1, 0, 0, 1, 0, 0], [7, 2, 2, 1, 0, 1, 0, 1]];
+    let ids = [0u32];
+    let values = [0u64, 18446744073709551615];
+    let alive = [2u64];
+    let mut out = [[9u32; 2]; 6];
+    times(
+        b"a withdrawn row gives its time, and times are signed",
+        &records,
+        &ids,
+        &values,
+        &alive,
+        &mut out,
+    );
+}
+
+fn answer_11_time() {
+    let records = [[7u32, 2, 3, 2, 0, 2, 0, 0], [7, 2, 2, 1, 0, 1, 0, 0]];
+    let ids = [0u32, 2, 1];
+    let values = [10u64, 30, 20];
+    let alive = [0u64; 1];
+    let mut out = [[9u32; 2]; 4];
+    times(
+        b"answer 11 of the time order",
+        &records,
+        &ids,
+        &values,
+        &alive[..0],
+        &mut out,
+    );
+}
+
+fn answer_12() {
+    let records = [[7u32, 1, 2, 0, 0, 2, 0, 0]];
+    let ids = [0u32; 1];
+    let values = [5u64, 4];
+    let alive = [0u64; 1];
+    let mut out = [[9u32; 2]; 2];
+    times(
+        b"answer 12",
+        &records,
+        &ids[..0],
+        &values,
+        &alive[..0],
+        &mut out,
+    );
+}
+
 fn log_sheets() {
     c1();
     c2();
@@ -1155,4 +1258,8 @@ fn slips_and_answers() {
 fn main() {
     log_sheets();
     slips_and_answers();
+    c13();
+    withdrawn_time();
+    answer_11_time();
+    answer_12();
 }

@@ -27,7 +27,7 @@ pub fn merge_dict(
 {
     let mut rows = [[0usize; 6]; 256];
     term_rows::fill_rows(records, held, lengths, marks, all, &mut rows);
-    let heap = term_walk::start_heap(bytes, &rows);
+    let heap = term_merger::start_heap(bytes, &rows);
     let l = term_walk::merge_terms(
         heap,
         &mut rows,

@@ -25,11 +25,12 @@ use Rattle.runs.specs.Put.{looked, Below}
 use Rattle.places.specs.Place.{run, valuesAt}
 use Rattle.places.specs.Places.{table, isSet, recordAt, termsIf, termsBefore, sourceAt}
 use Rattle.places.proofs.Cells.{drop-take}
+use Rattle.places.proofs.Raw.{sums-are, before-is, run-fits}
 use Rattle.places.proofs.Fill.{table-at}
 use Rattle.column_values_merge.specs.Word.{mapAt, coercedAll, wordsFor, Worded}
 use Rattle.placed.specs.Checked.{segmentsIn, Checked, Flagged, Mapped, placesOf, sourcesOf}
-use Rattle.placed.proofs.Totals.{all-at, sums-are, before-is, run-fits}
-use Rattle.placed.proofs.Stand.{set-byte, count-is, sums-right, segment-is, stands}
+use Rattle.placed.proofs.Totals.{all-at}
+use Rattle.placed.proofs.Stand.{set-byte, count-is, terms-held, segment-is, stands}
 
 -- ---- parts of a list of parts
 
@@ -166,7 +167,7 @@ module _ {records : List (List ℕ)} {ids offsets values lengths bytes words : L
     terms-length : length (getD ss k absent .terms) ≡ recordAt records k .terms
     unfolding firstSegment sectionsAt
     terms-length =
-        let a = run-fits records (λ r. r .terms) (length lengths) k (sums-right c .3) h′ in
+        let a = run-fits records (λ r. r .terms) (length lengths) k (terms-held c) h′ in
         let b = before-is records (λ r. r .terms) k (omega (arith, h′)) in
         ap (λ (s : Segment). length (s .terms)) (segment-is c k h′)
         ∙ cut-length (take (recordAt records k .terms) (drop (total (λ (r : SegmentRecord). r .terms) (take k (recordsOf records))) lengths)) _

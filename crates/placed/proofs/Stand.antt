@@ -1,15 +1,15 @@
 -- The places that the passes leave are where the input's segments stand, as they count in the join, and the bytes say which are held. Assumes nothing.
-use Prim.Native.Nat.{ℕ, suc, _+_, _-_, _*_, _/_, _≤_, _<_}
-use native.Mathlib.Nat.{le-refl, add-sub-cancel-left}
+use Prim.Native.Nat.{ℕ, _+_, _-_, _*_, _/_, _≤_, _<_}
+use native.Mathlib.Nat.{le-refl, le-of-eq}
 use native.Mathlib.Omega.{arith}
 use mathlib.Core.Path.{_≡_, refl, sym, ap, ap₂, _∙_, subst}
-use mathlib.Core.List.{List, [], _∷_}
+use mathlib.Core.List.{List, []}
 use mathlib.Core.Bool.{Bool, true, false, _&&_, _||_, not, cond, false≢true}
-use lib.ListN.{length, getD, take, drop}
-use lib.Dec.{T, eqb, ltb}
+use lib.ListN.{length, getD}
+use lib.Dec.{T, eqb, ltb, eqb→eq}
 use borrow.Author.Tests.{eqb-true, eq-eqb, ltb-false}
 use Rattle.definitions.specs.Lists.{sum, all}
-use Rattle.definitions.specs.Segment.{Segment, SegmentRecord, Sections, aliveWords, wordsFor, firstSegment, afterFirst, segmentsFrom}
+use Rattle.definitions.specs.Segment.{Segment, SegmentRecord, Sections, aliveWords, wordsFor, firstSegment}
 use Rattle.definitions.specs.Row.{isHeld, asEmpty, effective}
 use Rattle.definitions.specs.Class.{greatestClass}
 use Rattle.definitions.specs.Join.{absent}
@@ -17,30 +17,24 @@ use Rattle.definitions.specs.Answer.{total, sumOver, bytesIn, greatestSum, tooM
 use Rattle.definitions.proofs.Accept.{not-false}
 use Rattle.definitions.proofs.Group.{empty-fits}
 use Rattle.definitions.proofs.Cell.{either}
-use Rattle.segment.specs.Records.{recordOf, recordsOf, sectionsIn}
-use Rattle.segment.proofs.At.{sectionsAt, segment-at}
+use Rattle.segment.specs.Records.{recordsOf, sectionsIn}
+use Rattle.segment.proofs.At.{sectionsAt}
 use Rattle.runs.specs.Put.{put}
 use Rattle.runs.proofs.Laws.{put-at}
 use Rattle.places.specs.Place.{run}
-use Rattle.places.specs.Places.{table, isSet, recordAt, idsBefore, offsetsBefore, valuesBefore, wordsBefore, rawAt, placeIf, keptAt, aliveAt}
+use Rattle.places.specs.Places.{table, isSet, recordAt, wordsBefore, rawAt, placeIf, keptAt, aliveAt}
 use Rattle.places.specs.Stack.{AllSound}
 use Rattle.places.proofs.Bridge.{Stands, sound-stands}
+use Rattle.places.proofs.Raw.{Held, records-length, segments-many, segment-there, stands-there, flag-there, words-there, words-end}
 use Rattle.places.proofs.Fill.{table-length, table-at}
 use Rattle.column_index_merge.specs.Class.{Classed, AllClassed, classIn, greatestIn}
 use Rattle.column_index_merge.specs.Held.{heldIn, byteOf, heldAt}
 use Rattle.column_index_merge.proofs.Rules.{class-is, held-is, greatest-is}
 use Rattle.placed.specs.Checked.{segmentsIn, Checked, Flagged, rawPlaces, placesOf, alivesOf}
-use Rattle.placed.proofs.Totals.{neither, all-at, sum-at, record-is, records-length, before-is, run-fits}
-
-run-of : (a n : ℕ) (whole left : List ℕ) → left ≡ drop a whole → run a (a + n) whole ≡ take n left
-run-of a n whole left e = rw (add-sub-cancel-left a n, e)
+use Rattle.placed.proofs.Totals.{neither, all-at, sum-at}
 
 none-of : (a : ℕ) (whole : List ℕ) → run a a whole ≡ []
 none-of a whole = let k : a - a ≡ 0 = omega arith in rw k
-
-segments-length : (rs : List SegmentRecord) (s : Sections) → length (segmentsFrom rs s) ≡ length rs
-segments-length [] s = refl
-segments-length (r ∷ rs) s = ap suc (segments-length rs (afterFirst r s))
 
 pub effective-rows : (s : Segment) → effective s .rows ≡ s .rows
 unfolding effective asEmpty
@@ -91,6 +85,9 @@ six true true true false e f h = absurd (false≢true (sym h))
 six true true true true false f h = absurd (false≢true (sym h))
 six true true true true true false h = absurd (false≢true (sym h))
 
+at-most : {m n : ℕ} → T (eqb m n) → m ≤ n
+at-most {m} {n} h = le-of-eq (eqb→eq m n h)
+
 enough-words : (flag rows n : ℕ) → n ≡ cond (eqb flag 1) (wordsFor rows) 0 → flag ≡ 1 → rows ≤ 64 * n
 enough-words flag rows n e f = let k : n ≡ (rows + 63) / 64 = e ∙ ap (λ (b : Bool). cond b (wordsFor rows) 0) (eq-eqb flag 1 f) in omega arith
 
@@ -102,43 +99,33 @@ module _ {records : List (List ℕ)} {ids offsets values lengths bytes words : L
   sections = sectionsIn ids offsets values lengths bytes words
 
   pub count-is : length ss ≡ length records
-  count-is = segments-length (recordsOf records) sections ∙ records-length records
+  count-is = segments-many records ids offsets values lengths bytes words
 
   pub few-records : length records ≤ 256
   unfolding tooManySegments
   few-records = omega (arith, ltb-false 256 (length (recordsOf records)) (c .few), records-length records)
 
-  pub sums-right : T (eqb (total (λ (r : SegmentRecord). r .ids) (recordsOf records)) (length ids)) × T (eqb (total (λ (r : SegmentRecord). r .offsets) (recordsOf records)) (length offsets)) × T (eqb (total (λ (r : SegmentRecord). r .values) (recordsOf records)) (length values)) × T (eqb (total (λ (r : SegmentRecord). r .terms) (recordsOf records)) (length lengths)) × T (eqb (total aliveWords (recordsOf records)) (length words))
+  -- check 2: the sections hold what the records announce
+  sums-right : Held records ids offsets values words × (total (λ (r : SegmentRecord). r .terms) (recordsOf records) ≤ length lengths)
   unfolding lengthsWrong
   sums-right =
-      let p = six (eqb (total (λ (r : SegmentRecord). r .ids) (recordsOf records)) (length ids)) (eqb (total (λ (r : SegmentRecord). r .offsets) (recordsOf records)) (length offsets)) (eqb (total (λ (r : SegmentRecord). r .values) (recordsOf records)) (length values)) (eqb (total (λ (r : SegmentRecord). r .terms) (recordsOf records)) (length lengths)) (eqb (sum lengths) (length bytes)) (eqb (total aliveWords (recordsOf records)) (length words)) (c .whole) in
-      (p .0, p .1, p .2, p .3, p .5)
+      let p = six (eqb (total (λ (r : SegmentRecord). r .ids) (recordsOf records)) (length ids)) (eqb (total (λ (r : SegmentRecord). r .offsets) (recordsOf records)) (length offsets)) (eqb (total (λ (r : SegmentRecord). r .values) (recordsOf records)) (length values)) (eqb (total (λ (r : SegmentRecord). r .terms) (recordsOf records)) (length lengths)) (eqb (sum lengths) (length bytes)) (eqb (total aliveWords (recordsOf records)) (length words)) (c .whole) in (
+        record { ids = at-most (p .0); offsets = at-most (p .1); values = at-most (p .2); words = at-most (p .5) },
+        at-most (p .3),
+      )
+
+  runs-held : Held records ids offsets values words
+  runs-held = sums-right .0
+
+  pub terms-held : total (λ (r : SegmentRecord). r .terms) (recordsOf records) ≤ length lengths
+  terms-held = sums-right .1
 
   module _ (k : ℕ) (h : k < length records) where
     pub segment-is : getD ss k absent ≡ firstSegment (recordAt records k) (sectionsAt k (recordsOf records) sections)
-    segment-is =
-        segment-at k (recordsOf records) sections absent (recordOf []) (omega (arith, records-length records))
-        ∙ ap (λ (r : SegmentRecord). firstSegment r (sectionsAt k (recordsOf records) sections)) (record-is records k)
-
-    at-stands : Stands (rawAt records k) ids offsets values (firstSegment (recordAt records k) (sectionsAt k (recordsOf records) sections))
-    unfolding rawAt firstSegment sectionsAt idsBefore offsetsBefore valuesBefore
-    at-stands =
-        record {
-          kind = refl;
-          rows = refl;
-          ids-are = run-of (idsBefore records k) (recordAt records k .ids) ids _ (ap (λ (m : ℕ). drop m ids) (sym (before-is records (λ r. r .ids) k (omega arith))));
-          offsets-are = run-of (offsetsBefore records k) (recordAt records k .offsets) offsets _ (ap (λ (m : ℕ). drop m offsets) (sym (before-is records (λ r. r .offsets) k (omega arith))));
-          values-are = run-of (valuesBefore records k) (recordAt records k .values) values _ (ap (λ (m : ℕ). drop m values) (sym (before-is records (λ r. r .values) k (omega arith))));
-          ids-run = omega arith;
-          ids-end = run-fits records (λ r. r .ids) (length ids) k (sums-right .0) h;
-          offsets-run = omega arith;
-          offsets-end = run-fits records (λ r. r .offsets) (length offsets) k (sums-right .1) h;
-          values-run = omega arith;
-          values-end = run-fits records (λ r. r .values) (length values) k (sums-right .2) h;
-        }
+    segment-is = segment-there records ids offsets values lengths bytes words runs-held k h
 
     pub raw-stands : Stands (rawAt records k) ids offsets values (getD ss k absent)
-    raw-stands = subst (λ (s : Segment). Stands (rawAt records k) ids offsets values s) (sym segment-is) at-stands
+    raw-stands = stands-there records ids offsets values lengths bytes words runs-held k h
 
     pub fits-at : T (listsFit (getD ss k absent))
     unfolding listsWrong
@@ -155,14 +142,10 @@ module _ {records : List (List ℕ)} {ids offsets values lengths bytes words : L
     -- ---- the alive set
 
     alive-flag : getD (aliveAt records k) 0 0 ≡ getD ss k absent .flag
-    unfolding aliveAt firstSegment
-    alive-flag = ap (λ (s : Segment). s .flag) (sym segment-is)
+    alive-flag = flag-there records ids offsets values lengths bytes words runs-held k h
 
     alive-run : run (getD (aliveAt records k) 1 0) (getD (aliveAt records k) 2 0) words ≡ getD ss k absent .alive
-    unfolding aliveAt firstSegment sectionsAt wordsBefore
-    alive-run =
-        run-of (wordsBefore records k) (aliveWords (recordAt records k)) words _ (ap (λ (m : ℕ). drop m words) (sym (before-is records aliveWords k (omega arith))))
-        ∙ ap (λ (s : Segment). s .alive) (sym segment-is)
+    alive-run = words-there records ids offsets values lengths bytes words runs-held k h
 
     classed-at : {p : List ℕ} {s : Segment} → Stands p ids offsets values s → T (listsFit s) → s .rows ≡ getD ss k absent .rows → Classed p (aliveAt records k) ids offsets words
     unfolding rawAt aliveAt wordsBefore aliveWords
@@ -171,7 +154,7 @@ module _ {records : List (List ℕ)} {ids offsets values lengths bytes words : L
           sound = sound-stands st fit;
           rows = let a = st .rows in let b = rows-at in omega arith;
           words-run = omega arith;
-          words-end = run-fits records aliveWords (length words) k (sums-right .4) h;
+          words-end = words-end records ids offsets values lengths bytes words runs-held k h;
           enough = λ q.
               let w = enough-words (recordAt records k .flag) (recordAt records k .rows) (aliveWords (recordAt records k)) refl (eqb-true (recordAt records k .flag) 1 q) in
               let a = st .rows in

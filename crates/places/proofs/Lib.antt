@@ -4,3 +4,4 @@ pub mod Stack
 pub mod Bulk
 pub mod Bridge
 pub mod Fill
+pub mod Raw

@@ -6,6 +6,7 @@ ghost use lib.ListN.{length, getD};
 ghost use lib.Dec.{leb};
 ghost use Rattle.term_merger.specs.Order.{comesBefore, Readable};
 ghost use Rattle.term_merger.specs.Heap.{emptyHeap, held, Ordered, Pushed, Out, Risen, FirstChild, Sinking};
+ghost use Rattle.term_merger.specs.Live.{Back, Started};
 use term_order::TermOrder;
 
 // Segment numbers in an array, each not before the one above it.
@@ -162,4 +163,32 @@ pub fn pop(heap: Heap, bytes: &[u8], rows: &[[usize; 6]]) -> Popped
         heap: down,
         top: top,
     }
+}
+
+// A segment goes back into the heap if its row has something left.
+pub fn push_live(heap: Heap, bytes: &[u8], rows: &[[usize; 6]], s: u8) -> Heap
+    requires { ⌜ (256 ≤ length (now rows)) × Readable (now bytes) (now rows) ⌝ }
+    requires { ⌜ (heap .len < 256) × Ordered (now bytes) (now rows) (heap .seg) (heap .len) ⌝ }
+    ensures { λ h. ⌜ Back (now (bytes .entry)) (now (rows .entry)) heap s h ⌝ }
+{
+    let i = wide(s);
+    let row = rows[i];
+    if row[3] < row[4] {
+        return push(heap, bytes, rows, s);
+    }
+    heap
+}
+
+// A heap of all segments whose rows have something left.
+pub fn start_heap(bytes: &[u8], rows: &[[usize; 6]]) -> Heap
+    requires { ⌜ (length (now rows) ≡ 256) × Readable (now bytes) (now rows) ⌝ }
+    ensures { λ h. ⌜ Started (now (bytes .entry)) (now (rows .entry)) h ⌝ }
+{
+    let mut h = Heap::empty();
+    let mut s: usize = 0;
+    while s < 256 {
+        h = push_live(h, bytes, rows, s as u8);
+        s += 1;
+    }
+    h
 }

@@ -19,12 +19,14 @@ use Rattle.term_walk.specs.declared.Last.{Last}
 use Rattle.term_walk.specs.declared.Taken.{Taken}
 use Rattle.runs.specs.Put.{put}
 use Rattle.term_rows.specs.Rows.{rowAt, lengthAt, rowOf, sizeOf, dictOf, termAt, markAt, termsIn, bytesIn, sumOver}
-use Rattle.term_walk.specs.Walk.{Ready, termOf, lastOf, partOf, Again, Skipped, Added, Took, Back, Started, Merged}
+use Rattle.term_walk.specs.Walk.{Ready, termOf, lastOf, partOf, Again, Skipped, Added, Took, Merged}
+use Rattle.term_merger.specs.Live.{Back, Started}
 use Rattle.term_walk.proofs.Written.{written-one, written-more, written-length}
 use Rattle.term_rows.proofs.Rows.{le-lt, over-set, dict-length, row-2, row-3, row-4, row-5, row-readable, row-term, row-length, row-more, row-fits, left-bytes}
 use Rattle.term_walk.proofs.Merge.{bump, bump-there, bump-at, Merging, keep, add, unlike, strictly, Mapped, mapped-add, mapped-keep, LastIs, last-hit, last-miss, last-added, has-self, ordinal-none, ordinal-new}
 use Rattle.term_merger.proofs.Laws.{same?}
-use Rattle.term_walk.proofs.Heaps.{one-pos, ordered-rows, out-least, top-held, asc-next, asc-count, map-length-snoc, concat-snoc}
+use Rattle.term_walk.proofs.Heaps.{out-least, asc-next, asc-count, map-length-snoc, concat-snoc}
+use Rattle.term_merger.proofs.Heaps.{one-pos, ordered-rows, top-held}
 
 count-nil : (x : ℕ) → count x [] ≡ 0
 unfolding count

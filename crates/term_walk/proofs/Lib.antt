@@ -1,5 +1,4 @@
 pub mod Merge
 pub mod Heaps
 pub mod Written
-pub mod Begun
 pub mod Going

@@ -4,12 +4,10 @@ use mathlib.Core.Bool.{Bool, true, false}
 use mathlib.Core.List.{List, [], map}
 use mathlib.Core.Logic.{_⊎_}
 use mathlib.Core.Path.{_≡_}
-use lib.Dec.{ltb, T}
+use lib.Dec.{T}
 use lib.ListN.{length, take, drop, getD, set}
 use Rattle.term_walk.specs.declared.Last.{Last}
 use Rattle.term_walk.specs.declared.Taken.{Taken}
-use Rattle.term_merger.specs.declared.Heap.{Heap}
-use Rattle.term_merger.specs.Heap.{Pushed, Ordered, held, count, one}
 use Rattle.term_merger.specs.Order.{cell}
 use Rattle.runs.specs.Put.{put}
 use Rattle.term_rows.specs.Rows.{sizeOf, lensOf, dictOf, rowOf, termAt, markAt, termsIn, bytesIn, sumOver}
@@ -59,17 +57,6 @@ pub record Added (bytes row given : List ℕ) (l : Last) (lens outs : List ℕ) 
 abbrev pub Took : List ℕ → List ℕ → List ℕ → Last → List ℕ → List ℕ → Taken → List ℕ → List ℕ → Type 0
 Took bytes row given l lens outs t lens′ outs′ =
     Again bytes row l lens outs t lens′ outs′ ⊎ (Skipped bytes row l lens outs t lens′ outs′ ⊎ Added bytes row given l lens outs t lens′ outs′)
-
--- a segment with a term left is pushed
-pub record Back (bytes : List ℕ) (rows : List (List ℕ)) (h : Heap) (s : ℕ) (r : Heap) : Type 0 where
-  pub live : cell rows s 3 < cell rows s 4 → Pushed bytes rows h s r
-  pub done : cell rows s 4 ≤ cell rows s 3 → r ≡ h
-
--- the heap holds each segment that has a term, once
-pub record Started (bytes : List ℕ) (rows : List (List ℕ)) (h : Heap) : Type 0 where
-  pub len : h .len ≤ 256
-  pub ordered : Ordered bytes rows (h .seg) (h .len)
-  pub holds : (x : ℕ) → count x (held h) ≡ one (ltb 0 (sizeOf rows x))
 
 -- the first rows of up to 256 segments: their terms lie in the runs, ascend, and have room in the outputs
 pub record Ready (lengths bytes marks : List ℕ) (all : Bool) (rows : List (List ℕ)) (lens outs map : List ℕ) : Type 0 where

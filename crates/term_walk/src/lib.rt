@@ -5,9 +5,8 @@ ghost use mathlib.Core.List.{List};
 ghost use Prim.Native.Nat.{ℕ, _+_, _-_, _<_, _≤_};
 ghost use lib.ListN.{length, getD};
 ghost use Rattle.definitions.specs.Lists.{compareBytes, isSame};
-ghost use Rattle.term_merger.specs.Order.{Readable};
-ghost use Rattle.term_merger.specs.Heap.{Ordered};
-ghost use Rattle.term_walk.specs.Walk.{Took, Back, Started, Ready, Merged};
+ghost use Rattle.term_merger.specs.Live.{Started};
+ghost use Rattle.term_walk.specs.Walk.{Took, Ready, Merged};
 use term_merger::Heap;
 use term_order::TermOrder;
 
@@ -84,34 +83,6 @@ fn take_term(
     }
 }
 
-// A segment goes back into the heap if it has a term left.
-fn push_live(heap: Heap, bytes: &[u8], rows: &[[usize; 6]], s: u8) -> Heap
-    requires { ⌜ (256 ≤ length (now rows)) × Readable (now bytes) (now rows) ⌝ }
-    requires { ⌜ (heap .len < 256) × Ordered (now bytes) (now rows) (heap .seg) (heap .len) ⌝ }
-    ensures { λ h. ⌜ Back (now (bytes .entry)) (now (rows .entry)) heap s h ⌝ }
-{
-    let i = term_merger::wide(s);
-    let row = rows[i];
-    if row[3] < row[4] {
-        return term_merger::push(heap, bytes, rows, s);
-    }
-    heap
-}
-
-// A heap of all segments that have a term.
-pub fn start_heap(bytes: &[u8], rows: &[[usize; 6]]) -> Heap
-    requires { ⌜ (length (now rows) ≡ 256) × Readable (now bytes) (now rows) ⌝ }
-    ensures { λ h. ⌜ Started (now (bytes .entry)) (now (rows .entry)) h ⌝ }
-{
-    let mut h = Heap::empty();
-    let mut s: usize = 0;
-    while s < 256 {
-        h = push_live(h, bytes, rows, s as u8);
-        s += 1;
-    }
-    h
-}
-
 // The walk: the least term of all segments is taken again and again, and its segment goes on to its next one.
 pub fn merge_terms(
     heap: Heap,
@@ -146,7 +117,7 @@ pub fn merge_terms(
         let next = term_rows::row_at(lengths, marks, all, row[1], row[3] + 1, row[4], to + 1);
         rows[s] = next;
         let rest = p.heap;
-        h = push_live(rest, bytes, rows, top);
+        h = term_merger::push_live(rest, bytes, rows, top);
         last = t.last;
     }
     last

@@ -6,7 +6,7 @@ use lib.ListN.{length, getD, set, length-set}
 use borrow.Author.Needs.{needs}
 use Rattle.term_merger.specs.Heap.{Out}
 use Rattle.term_rows.specs.Rows.{rowAt, termsIn, sumOver}
-use Rattle.term_walk.specs.Walk.{Back}
+use Rattle.term_merger.specs.Live.{Back}
 use Rattle.term_walk.proofs.Going.{Going, going-start, going-end, going-readable, going-more, row-in, terms-room, texts-room, place-in, end-s, fits-s, stepped, small-ordinal, readable-new, len-new, ordered-new, fewer}
 use Rattle.term_walk.proofs.merge_terms.Statement.{statement}
 use Rattle.term_walk.proofs.merge_terms.Tie as tie

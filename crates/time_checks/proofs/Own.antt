@@ -1,0 +1,192 @@
+-- The answers of the time order as the code finds them are the definitions' own. Assumes nothing.
+use Prim.Native.Nat.{ℕ, zero, suc, _+_, _-_, _*_, _/_, _≤_, _<_}
+use native.Mathlib.Nat.{add-zero, zero-add}
+use native.Mathlib.Omega.{arith}
+use mathlib.Core.Path.{_≡_, refl, sym, ap, ap₂, _∙_, subst}
+use mathlib.Core.List.{List, [], _∷_, map}
+use mathlib.Core.Bool.{Bool, true, false, cond, not, _&&_, _||_, true≢false}
+use lib.ListN.{length, take, drop, length-drop}
+use lib.Seq.{length-take-le}
+use lib.Dec.{T, eqb, ltb, leb}
+use lib.Ieee.Fits.{and-l, and-r}
+use borrow.Author.Tests.{le-leb, lt-ltb, le-ltb, not-false}
+use Rattle.definitions.specs.Lists.{all, any, count, upFrom, upTo, sum, notFalling}
+use Rattle.definitions.specs.Segment.{Segment, SegmentRecord, Sections, Input, wordsFor, aliveWords, firstSegment, afterFirst, segmentsFrom, segmentsOf}
+use Rattle.definitions.specs.Row.{bitAt, isAlive, aliveRows, rowValues, isPresent, noType}
+use Rattle.definitions.specs.Types.{isKnownType, DateTime}
+use Rattle.definitions.specs.Answer.{total, codesWrong, aliveWrong, listsFit, listsWrong, bitPastRows, aliveAddresses}
+use Rattle.definitions.specs.TimeOrder.{TimeInput, timeOf, timeSegments, timesWrong, timeAnswer}
+use Rattle.definitions.proofs.Fit.{mem-upTo}
+use Rattle.definitions.proofs.Group.{any-false}
+use Rattle.definitions.proofs.TimeOrder.{filter-count, alive-total}
+use Rattle.segment.specs.Lent.{workingOnly}
+use Rattle.sections_fit.specs.Walks.{Exact, firstSeven}
+use Rattle.sections_fit.proofs.Seven.{Passed, Ready, passed, ready, seven-stop, seven-go}
+use Rattle.segment.proofs.Tests.{hit, miss}
+use Rattle.column_index.specs.Lookup.{aliveCount}
+use Rattle.column_index.proofs.Ones.{count-same, count-split}
+use Rattle.time_checks.specs.Times.{singles, timesRise, fitsTimes, timesFrom, aliveIn, aliveFrom}
+use Rattle.time_checks.proofs.Several.{several}
+
+-- ---- 1 to 7
+
+-- the time order's input as that of an ordered join with no required type
+abbrev pub asOrdered : TimeInput → Input
+asOrdered i = record { mode = 1; required = noType; records = i .records; sections = i .sections; addresses = []; space = workingOnly 0 }
+
+-- what the checks after the seventh answer
+unfoldable pub laterAnswer : TimeInput → ℕ
+laterAnswer i = cond (ltb (i .space) (length (aliveAddresses (timeSegments i)))) 11 (cond (timesWrong (timeSegments i)) 12 0)
+
+or-none : (b : Bool) → b || false ≡ b
+or-none true = refl
+or-none false = refl
+
+pub time-seven : (i : TimeInput) → timeAnswer i ≡ firstSeven (asOrdered i) (laterAnswer i)
+unfolding timeAnswer firstSeven laterAnswer codesWrong aliveWrong segmentsOf timeSegments isKnownType
+time-seven i = rw (or-none (any bitPastRows (segmentsFrom (i .records) (i .sections))))
+
+-- ---- 12
+
+-- p: present, d: of times, a: some row has several, b: times don't fall
+wrong-right : (n d a b : Bool) → (not n && not d) || not a || not b ≡ not ((n || d) && (a && b))
+wrong-right true d true true = refl
+wrong-right true d true false = refl
+wrong-right true d false b = refl
+wrong-right false true true true = refl
+wrong-right false true true false = refl
+wrong-right false true false b = refl
+wrong-right false false a b = refl
+
+times-wrong : (s : Segment) → T (listsFit s)
+    → (isPresent s && not (eqb (s .type) DateTime)) || any (λ r. ltb 1 (length (rowValues s r))) (upTo (s .rows)) || not (notFalling (map timeOf (s .values)))
+    ≡ not ((eqb (s .type) noType || eqb (s .type) DateTime) && (singles (s .offsets) && timesRise (s .values)))
+unfolding timesRise
+times-wrong s fit =
+    ap (λ (b : Bool). (isPresent s && not (eqb (s .type) DateTime)) || b || not (notFalling (map timeOf (s .values)))) (several s fit)
+    ∙ wrong-right (eqb (s .type) noType) (eqb (s .type) DateTime) (singles (s .offsets)) (notFalling (map timeOf (s .values)))
+
+not-and : (a b : Bool) → not a || not b ≡ not (a && b)
+not-and true b = refl
+not-and false b = refl
+
+pub times-all : (rs : List SegmentRecord) (s : Sections) → T (all listsFit (segmentsFrom rs s)) → timesWrong (segmentsFrom rs s) ≡ not (timesFrom rs (s .offsets) (s .values))
+unfolding timesWrong timesFrom fitsTimes firstSegment afterFirst
+times-all [] s h = refl
+times-all (r ∷ rs) s h =
+    let f = firstSegment r s in
+    ap₂ (λ (a b : Bool). a || b) (times-wrong f (and-l (listsFit f) (all listsFit (segmentsFrom rs (afterFirst r s))) h)) (times-all rs (afterFirst r s) (and-r (listsFit f) (all listsFit (segmentsFrom rs (afterFirst r s))) h))
+    ∙ not-and ((eqb (r .type) noType || eqb (r .type) DateTime) && (singles (take (r .offsets) (s .offsets)) && timesRise (take (r .values) (s .values)))) (timesFrom rs (drop (r .offsets) (s .offsets)) (drop (r .values) (s .values)))
+
+-- ---- 11
+
+count-none : (p : ℕ → Bool) (s n : ℕ) → ((r : ℕ) → s ≤ r → r < s + n → p r ≡ false) → count p (upFrom s n) ≡ 0
+count-none p s zero h = refl
+count-none p s (suc n) h = rw (h s (omega arith) (omega arith)) (count-none p (suc s) n (λ r l k. h r (omega arith) (omega arith)))
+
+count-every : (p : ℕ → Bool) (s n : ℕ) → ((r : ℕ) → p r ≡ true) → count p (upFrom s n) ≡ n
+count-every p s zero h = refl
+count-every p s (suc n) h = rw (h s) (ap suc (count-every p (suc s) n h))
+
+module _ (s : Segment) (words : length (s .alive) ≡ cond (eqb (s .flag) 1) (wordsFor (s .rows)) 0) (inside : bitPastRows s ≡ false) where
+  bit-past : (r : ℕ) → s .rows ≤ r → r < 64 * length (s .alive) → bitAt (s .alive) r ≡ false
+  unfolding bitPastRows
+  bit-past r l h =
+      rw (le-leb (s .rows) r l) at (any-false (λ r. leb (s .rows) r && bitAt (s .alive) r) (upTo (64 * length (s .alive))) inside (mem-upTo (64 * length (s .alive)) r h))
+
+  pub alive-is : length (aliveRows s) ≡ cond (eqb (s .flag) 1) (aliveCount (s .alive)) (s .rows)
+  unfolding aliveRows isAlive aliveCount
+  alive-is = filter-count (isAlive s) (upTo (s .rows)) ∙ go (eqb (s .flag) 1) refl
+    where
+      go : (b : Bool) → eqb (s .flag) 1 ≡ b → count (isAlive s) (upTo (s .rows)) ≡ cond b (count (bitAt (s .alive)) (upTo (64 * length (s .alive)))) (s .rows)
+      go true e =
+          let w : length (s .alive) ≡ (s .rows + 63) / 64 = words ∙ ap (λ (b : Bool). cond b (wordsFor (s .rows)) 0) e in
+          let n = 64 * length (s .alive) - s .rows in
+          let m : 64 * length (s .alive) ≡ s .rows + n = omega arith in
+          let z : count (bitAt (s .alive)) (upFrom (s .rows) n) ≡ 0 = count-none (bitAt (s .alive)) (s .rows) n (λ r l k. bit-past r l (omega arith)) in
+          count-same (isAlive s) (bitAt (s .alive)) 0 (s .rows) (λ r l. ap (λ (b : Bool). cond b (bitAt (s .alive) r) true) e)
+          ∙ sym (ap (λ (k : ℕ). count (bitAt (s .alive)) (upFrom 0 k)) m
+          ∙ count-split (bitAt (s .alive)) 0 (s .rows) n
+          ∙ ap (λ (k : ℕ). count (bitAt (s .alive)) (upFrom 0 (s .rows)) + k) (ap (λ (k : ℕ). count (bitAt (s .alive)) (upFrom k n)) (zero-add (s .rows)) ∙ z)
+          ∙ add-zero (count (bitAt (s .alive)) (upFrom 0 (s .rows))))
+      go false e = count-every (isAlive s) 0 (s .rows) (λ r. ap (λ (b : Bool). cond b (bitAt (s .alive) r) true) e)
+
+or-false : (a b : Bool) → a || b ≡ false → (a ≡ false) × (b ≡ false)
+or-false true b e = absurd (true≢false e)
+or-false false b e = (refl, e)
+
+alive-sum : (rs : List SegmentRecord) (s : Sections) → total aliveWords rs ≤ length (s .alive) → any bitPastRows (segmentsFrom rs s) ≡ false
+    → sum (map (λ x. length (aliveRows x)) (segmentsFrom rs s)) ≡ aliveFrom rs (s .alive)
+unfolding aliveFrom aliveIn firstSegment afterFirst aliveWords
+alive-sum [] s h e = refl
+alive-sum (r ∷ rs) s h e =
+    let t = or-false (bitPastRows (firstSegment r s)) (any bitPastRows (segmentsFrom rs (afterFirst r s))) e in
+    ap₂ (λ (a b : ℕ). a + b)
+    (alive-is (firstSegment r s) (length-take-le (aliveWords r) (s .alive) (omega arith)) (t .0))
+    (alive-sum rs (afterFirst r s) (rw (length-drop (aliveWords r) (s .alive)) (omega arith)) (t .1))
+
+pub alive-number : (rs : List SegmentRecord) (s : Sections) → total aliveWords rs ≤ length (s .alive) → any bitPastRows (segmentsFrom rs s) ≡ false
+    → aliveFrom rs (s .alive) ≡ length (aliveAddresses (segmentsFrom rs s))
+alive-number rs s h e = sym (alive-total (segmentsFrom rs s) ∙ alive-sum rs s h e)
+
+-- ---- what the first seven leave
+
+pub record Checked (i : TimeInput) : Type 0 where
+  pub lists : T (all listsFit (timeSegments i))
+  pub bits : any bitPastRows (timeSegments i) ≡ false
+
+pub checked : (i : TimeInput) → Passed (asOrdered i) → Checked i
+unfolding timeSegments segmentsOf listsWrong aliveWrong
+checked i p =
+    record {
+      lists = subst T (sym (not-false (all listsFit (segmentsFrom (i .records) (i .sections))) (p .lists))) tt;
+      bits = or-false (any bitPastRows (segmentsFrom (i .records) (i .sections))) false (p .alive) .0;
+    }
+
+module _ (i : TimeInput) (p : Passed (asOrdered i)) (x : Exact (i .records) (i .sections)) where
+  pub number-is : aliveFrom (i .records) (i .sections .alive) ≡ length (aliveAddresses (timeSegments i))
+  unfolding timeSegments
+  number-is = alive-number (i .records) (i .sections) (omega (arith, x .alive)) (checked i p .bits)
+
+  pub times-is : timesWrong (timeSegments i) ≡ not (timesFrom (i .records) (i .sections .offsets) (i .sections .values))
+  unfolding timeSegments
+  times-is = times-all (i .records) (i .sections) (checked i p .lists)
+
+-- ---- the answers, one after another
+
+module _ (i : TimeInput) where
+  pub stopped : (firstSeven (asOrdered i) 0 ≡ 0 → ⊥) → firstSeven (asOrdered i) 0 ≡ timeAnswer i
+  stopped d = seven-stop (asOrdered i) (laterAnswer i) d ∙ sym (time-seven i)
+
+  module _ (e : firstSeven (asOrdered i) 0 ≡ 0) where
+    pub first-passed : Passed (asOrdered i)
+    first-passed = passed (asOrdered i) 0 e .0
+
+    pub first-ready : Ready (asOrdered i)
+    first-ready = ready (asOrdered i) first-passed
+
+    later : timeAnswer i ≡ laterAnswer i
+    later = time-seven i ∙ seven-go (asOrdered i) (laterAnswer i) first-passed
+
+    module _ {n : ℕ} (m : n ≡ aliveFrom (i .records) (i .sections .alive)) where
+      alive-is-n : length (aliveAddresses (timeSegments i)) ≡ n
+      alive-is-n = sym (m ∙ number-is i first-passed (first-ready .exact))
+
+      pub too-short : i .space < n → 11 ≡ timeAnswer i
+      unfolding laterAnswer
+      too-short h = hit 11 _ (lt-ltb (i .space) (length (aliveAddresses (timeSegments i))) (rw alive-is-n h)) ∙ sym later
+
+      module _ (h : n ≤ i .space) {b : Bool} (t : b ≡ timesFrom (i .records) (i .sections .offsets) (i .sections .values)) where
+        fits : ltb (i .space) (length (aliveAddresses (timeSegments i))) ≡ false
+        fits = le-ltb (i .space) (length (aliveAddresses (timeSegments i))) (rw alive-is-n h)
+
+        wrong : timesWrong (timeSegments i) ≡ not b
+        wrong = times-is i first-passed (first-ready .exact) ∙ ap not (sym t)
+
+        pub unfit-times : not b ≡ true → 12 ≡ timeAnswer i
+        unfolding laterAnswer
+        unfit-times k = miss 11 fits (hit 12 0 (wrong ∙ k)) ∙ sym later
+
+        pub accepted : not b ≡ false → 0 ≡ timeAnswer i
+        unfolding laterAnswer
+        accepted k = miss 11 fits (miss 12 (wrong ∙ k) refl) ∙ sym later

@@ -1,0 +1,4 @@
+pub mod Standing
+pub mod Keyed
+pub mod Going
+pub mod Filled

@@ -1,0 +1,4 @@
+pub mod Tables
+pub mod Bare
+pub mod Lent
+pub mod Outcomes

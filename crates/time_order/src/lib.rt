@@ -1,0 +1,89 @@
+// The time order (added by document 01, "Time order"; no Rust file has it): the alive rows of columns of times, sorted by key, segment and row.
+ghost use mathlib.Core.Path.{_≡_};
+ghost use lib.ListN.{length};
+ghost use Rattle.definitions.specs.TimeOrder.{timeOrder, timeOutcome};
+ghost use Rattle.segment.specs.Lent.{addressesOf};
+ghost use Rattle.time_checks.specs.Lent.{lentTimes};
+ghost use Rattle.time_merge.specs.Order.{segmentsAt, placesOf, setsOf, ordered, Ready, Rising};
+ghost use Rattle.time_order.specs.Outcome.{outcomeOf, outputOf};
+
+pub enum TimeAnswer {
+    Ordered(usize),
+    Refused(u32),
+}
+
+// The time order of segments that have passed the checks.
+fn order_rows(
+    records: &[[u32; 8]],
+    ids: &[u32],
+    offsets: &[u32],
+    values: &[u64],
+    alive: &[u64],
+    out: &mut [[u32; 2]],
+) -> usize
+    requires { ⌜ Ready (placesOf (now records)) (setsOf (now records)) (now ids) (now offsets) (now values) (now alive) ⌝ }
+    requires { ⌜ Rising (placesOf (now records)) (setsOf (now records)) (now ids) (now offsets) (now values) (now alive) (now out) ⌝ }
+    ensures { λ r. ⌜ r ≡ length (timeOrder (segmentsAt (placesOf (now (records .entry))) (setsOf (now (records .entry))) (now (ids .entry)) (now (offsets .entry)) (now (values .entry)) (now (alive .entry)))) ⌝ }
+    ensures { λ r. ⌜ now (out .exit) ≡ ordered (segmentsAt (placesOf (now (records .entry))) (setsOf (now (records .entry))) (now (ids .entry)) (now (offsets .entry)) (now (values .entry)) (now (alive .entry))) (now (out .entry)) ⌝ }
+{
+    let n = records.len();
+    let mut places = [[0usize; 8]; 256];
+    places::fill_places(records, &mut places);
+    let mut sets = [[0usize; 3]; 256];
+    places::fill_alives(records, &mut sets);
+    let mut rows = [[0usize; 6]; 256];
+    time_merge::fill_rows(
+        &places[..n],
+        &sets[..n],
+        ids,
+        offsets,
+        values,
+        alive,
+        &mut rows,
+    );
+    let first = [0u8; 1];
+    let heap = term_merger::start_heap(&first, &rows);
+    time_merge::merge(
+        heap,
+        &first,
+        &places[..n],
+        &sets[..n],
+        ids,
+        offsets,
+        values,
+        alive,
+        &mut rows,
+        out,
+    )
+}
+
+// The alive rows of segments of times, sorted by key, segment and row, as addresses (segment, row) from the start of the output.
+pub fn time_order(
+    records: &[[u32; 8]],
+    ids: &[u32],
+    offsets: &[u32],
+    values: &[u64],
+    lengths: &[u32],
+    bytes: &[u8],
+    alive: &[u64],
+    out: &mut [[u32; 2]],
+) -> TimeAnswer
+    ensures { λ r. ⌜ outcomeOf r (now (out .exit)) ≡ timeOutcome (lentTimes (now (records .entry)) (now (ids .entry)) (now (offsets .entry)) (now (values .entry)) (now (lengths .entry)) (now (bytes .entry)) (now (alive .entry)) (length (now (out .entry)))) (addressesOf (now (out .entry))) ⌝ }
+    ensures { λ _. ⌜ now (out .exit) ≡ outputOf (lentTimes (now (records .entry)) (now (ids .entry)) (now (offsets .entry)) (now (values .entry)) (now (lengths .entry)) (now (bytes .entry)) (now (alive .entry)) (length (now (out .entry)))) (now (out .entry)) ⌝ }
+{
+    let k = time_checks::answer(
+        records,
+        ids,
+        offsets,
+        values,
+        lengths,
+        bytes,
+        alive,
+        out.len(),
+    );
+    if k != 0 {
+        return TimeAnswer::Refused(k);
+    }
+    let n = order_rows(records, ids, offsets, values, alive, out);
+    TimeAnswer::Ordered(n)
+}

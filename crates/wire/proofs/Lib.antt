@@ -1,0 +1,4 @@
+pub mod Words
+pub mod Sections
+pub mod Input
+pub mod Fitting
