@@ -1,0 +1,55 @@
+/* The proved joiner of play-log columns, for C. Link with target/staticlib/libjadmirus.a (rt staticlib jadmirus).
+ *
+ * The proof takes for granted what a caller in C must see to: each pointer is of as many elements as the count after it says (a pointer may be any aligned
+ * one where the count is 0), and no run that is written overlaps another run. */
+#ifndef JADMIRUS_H
+#define JADMIRUS_H
+
+#include <stddef.h>
+#include <stdint.h>
+
+#ifdef __cplusplus
+extern "C" {
+#endif
+
+/* Joins the segments of one column. Returns the answer:
+ *
+ *    0  accepted: the lists are written, and out_numbers
+ *    1  more than 256 segments
+ *    2  a section's length differs from the records' sum, or the term bytes from the term lengths' sum
+ *    3  unknown mode, type, required type, kind or flag, or type 255 with a kind or lengths
+ *    4  row ids, offsets or the number of values don't fit their kind
+ *    5  a value or the terms don't fit their type
+ *    6  an alive bit past the rows, or an alive set in a stacked join
+ *    7  rows, values or term bytes sum above 4294967294
+ *    8  ordered, and fewer working bytes than all rows plus all terms
+ *    9  the addresses are not the alive rows, each once (ordered), or there are any (stacked)
+ *   10  types of two categories, or a column that can't be coerced
+ *   11  an output is shorter than its list; those of terms and map, than the held columns' sums
+ *
+ * With 1 to 11 no output is changed. Elements beyond a list keep their values. The working bytes are zero on return. */
+uint32_t jadmirus_join(
+    uint32_t mode,                                               /* 0 stacked, 1 in the order of the addresses */
+    uint32_t required,                                           /* the required type, 255 for none */
+    const uint32_t (*records)[8], size_t records_count,          /* type, kind, rows, numbers of ids, offsets, values and terms, flag */
+    const uint32_t *ids, size_t ids_count,                       /* the segments' row ids, one segment after another; so the next five */
+    const uint32_t *offsets, size_t offsets_count,
+    const uint64_t *values, size_t values_count,
+    const uint32_t *term_lengths, size_t term_lengths_count,
+    const uint8_t *term_bytes, size_t term_bytes_count,
+    const uint64_t *alive, size_t alive_count,                   /* a word for each 64 rows or part of them, of segments with flag 1 */
+    const uint32_t (*addresses)[2], size_t addresses_count,      /* segment and row of each new row, ordered */
+    uint8_t *working, size_t working_count,                      /* ordered: a byte for each row and each term of all segments */
+    uint32_t *out_ids, size_t out_ids_count,
+    uint32_t *out_offsets, size_t out_offsets_count,
+    uint64_t *out_values, size_t out_values_count,
+    uint32_t *out_term_lengths, size_t out_term_lengths_count,
+    uint8_t *out_term_bytes, size_t out_term_bytes_count,
+    uint32_t *out_map, size_t out_map_count,                     /* new ordinals of the held columns' terms, one segment after another */
+    uint64_t out_numbers[9]);                                    /* type, class, rows; elements of ids, offsets, values, terms, term bytes, map */
+
+#ifdef __cplusplus
+}
+#endif
+
+#endif
