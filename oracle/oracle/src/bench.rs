@@ -2,6 +2,8 @@
 //! that push row ids, offsets and values into lists already touched (hook::Mode::Drain), less the
 //! opening of the stand-in storage. Values come from a list of words instead of a bit packed codec,
 //! terms from memory instead of a compressed file: the crate over its own storage is slower.
+//! With the library linked in, the joiner's own times beside them, all checks included, on the same
+//! lists in the same run.
 use std::time::Duration;
 
 use hook::Mode;
@@ -117,11 +119,51 @@ fn touched<T: Clone>(n: usize, el: T) -> Vec<T> {
     list
 }
 
+/// The joiner's least time of five, and the checksum of its lists.
+#[cfg(library)]
+fn ours(input: &Input, joined: usize) -> (Duration, u64) {
+    use crate::library::Library;
+    use crate::ours::{Joiner, Lists};
+    let s = input.sections();
+    let rows: usize = input.segs.iter().map(|s| s.rows as usize).sum();
+    let terms = s.term_lengths.len();
+    let lent = crate::table::Lent {
+        working: rows + terms,
+        ids: joined,
+        offsets: joined + 1,
+        values: s.values.len(),
+        term_lengths: terms,
+        term_bytes: s.term_bytes.len(),
+        map: terms,
+    };
+    let mut lists = Lists::new(lent, 1);
+    let mut best = Duration::MAX;
+    for _ in 0..5 {
+        let t = hook::now();
+        let answer = Library.join(&s, &mut lists);
+        best = best.min(hook::now() - t);
+        assert_eq!(answer, 0);
+    }
+    let n: Vec<usize> = lists.numbers.lent().iter().map(|&n| n as usize).collect();
+    let column = hook::Captured {
+        ids: lists.ids.lent()[..n[3]].to_vec(),
+        offsets: lists.offsets.lent()[..n[4]].to_vec(),
+        values: lists.values.lent()[..n[5]].to_vec(),
+        ..Default::default()
+    };
+    (best, checksum(&column))
+}
+
+#[cfg(not(library))]
+fn ours(_: &Input, _: usize) -> (Duration, u64) {
+    (Duration::ZERO, 0)
+}
+
 pub fn bench(segs: usize, rows: u32, filter: &str) {
     println!("{segs} segments of {rows} rows; ns per joined row, processor time, least of 5");
     println!(
-        "{:<10} {:<18} {:>9} {:>9} {:>8} {:>8} {:>8} {:>8} {:>17}",
-        "column", "order", "rows", "values", "total", "index", "values", "rest", "checksum"
+        "{:<10} {:<18} {:>9} {:>9} {:>8} {:>8} {:>8} {:>8} {:>8} {:>6} {:>17}",
+        "column", "order", "rows", "values", "total", "index", "values", "rest", "ours", "ratio", "checksum"
     );
     for column_name in COLUMNS {
         for order in ORDERS {
@@ -166,8 +208,9 @@ pub fn bench(segs: usize, rows: u32, filter: &str) {
                 }
             }
             let per = |d: Duration| d.as_nanos() as f64 / joined as f64;
+            let (time, our_sum) = ours(&input, joined);
             println!(
-                "{:<10} {:<18} {:>9} {:>9} {:>8.2} {:>8.2} {:>8.2} {:>8.2}  {:016x}",
+                "{:<10} {:<18} {:>9} {:>9} {:>8.2} {:>8.2} {:>8.2} {:>8.2} {:>8.2} {:>6.2}  {:016x}{}",
                 column_name,
                 order,
                 joined,
@@ -176,7 +219,10 @@ pub fn bench(segs: usize, rows: u32, filter: &str) {
                 per(best.1),
                 per(best.2),
                 per(best.0.saturating_sub(best.1 + best.2)),
-                sum
+                per(time),
+                best.0.as_secs_f64() / time.as_secs_f64(),
+                sum,
+                if our_sum == sum { "" } else { " ours differs" }
             );
         }
     }
