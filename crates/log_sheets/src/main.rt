@@ -1,6 +1,7 @@
 // The log sheets C1 to C13, the slips to shut out and the example of each answer, through the library: the answer with its numbers, and all that stands in the lent memory
 // afterwards. Every element is 9 before a call, so what stands beyond a list is 9, and so is everything after a refusal but the working bytes. Spaces that the joining program
-// can't lend are among them. The file `stdout` was made apart from this program, by a script that has the expected columns from document 01's log sheets and table of answers.
+// can't lend are among them. The lists of the cases and the file `stdout` were written by one script, which does not join: the expected columns stand in it as in specs/Cases.antt
+// of the definitions, and the examples of answer 11 and of a space that is just enough were added by hand.
 
 fn small(x: u32) -> u64 {
     x as u64
