@@ -1,4 +1,4 @@
-/* The proved joiner of play-log columns, for C. Link with target/staticlib/libjadmirus.a (rt staticlib jadmirus).
+/* The proved joiner of play-log columns and their time order, for C. Link with target/staticlib/libjadmirus.a (rt staticlib jadmirus).
  *
  * The proof takes for granted what a caller in C must see to: each pointer is of as many elements as the count after it says (a pointer may be any aligned
  * one where the count is 0), and no run that is written overlaps another run. */
@@ -47,6 +47,26 @@ uint32_t jadmirus_join(
     uint8_t *out_term_bytes, size_t out_term_bytes_count,
     uint32_t *out_map, size_t out_map_count,                     /* new ordinals of the held columns' terms, one segment after another */
     uint64_t out_numbers[9]);                                    /* type, class, rows; elements of ids, offsets, values, terms, term bytes, map */
+
+/* The time order of the segments of a column of times (type 7, or 255 for none): their alive rows sorted by time, segment and row. A row without a time takes the
+ * last one before it in its segment; before the first one it comes before all times. Returns the answer:
+ *
+ *    0  accepted: the addresses are written, and out_count
+ *    1 to 7  as above, but for mode and required type in 3, and for stacked joins in 6
+ *   11  fewer elements of out_addresses than alive rows
+ *   12  a column of another type, a row of several times, or times that fall within a segment
+ *
+ * With 1 to 12 neither output is changed. Elements beyond the addresses keep their values. */
+uint32_t jadmirus_time_order(
+    const uint32_t (*records)[8], size_t records_count,          /* as above, and so the next six */
+    const uint32_t *ids, size_t ids_count,
+    const uint32_t *offsets, size_t offsets_count,
+    const uint64_t *values, size_t values_count,                 /* times: 64-bit two's complement */
+    const uint32_t *term_lengths, size_t term_lengths_count,
+    const uint8_t *term_bytes, size_t term_bytes_count,
+    const uint64_t *alive, size_t alive_count,
+    uint32_t (*out_addresses)[2], size_t out_addresses_count,    /* segment and row; what jadmirus_join takes as addresses */
+    uint64_t out_count[1]);                                      /* the number of addresses, which is the number of alive rows */
 
 #ifdef __cplusplus
 }

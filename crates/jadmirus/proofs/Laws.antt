@@ -1,14 +1,20 @@
 -- What is told of an answer: its number, the lent memory, and the nine numbers. Assumes nothing.
 use Prim.Native.Nat.{ℕ}
 use mathlib.Core.Path.{_≡_, sym, ap, _∙_}
-use mathlib.Core.List.{List}
+use mathlib.Core.List.{List, [], _∷_}
 use Rattle.definitions.specs.Outcome as Outcome
 use Rattle.definitions.specs.Outcome.{Buffers, numberOf}
 use Rattle.merge.specs.declared.Numbers.{Numbers}
 use Rattle.merge.specs.declared.Answer.{Answer}
 use Rattle.merge.specs.declared.Answer.the-variants as A
 use Rattle.merge.specs.Whole.{answerOf, outcomeOf}
-use Rattle.jadmirus.specs.Told.{listOf, numbersAfter}
+use Rattle.definitions.specs.TimeOrder as Time
+use Rattle.definitions.specs.TimeOrder.{timeNumberOf}
+use Rattle.segment.specs.Lent.{addressesOf}
+use Rattle.time_order.specs.declared.TimeAnswer.{TimeAnswer}
+use Rattle.time_order.specs.declared.TimeAnswer.the-variants as T
+use Rattle.time_order.specs.Outcome as ordered
+use Rattle.jadmirus.specs.Told.{listOf, numbersAfter, countAfter}
 
 module _ {a : Answer} {b : Buffers} {o : Outcome.Outcome} (e : outcomeOf a b ≡ o) (old : List ℕ) where
   pub told-refused : {k : ℕ} → a ≡ A.Refused k → (k ≡ numberOf (o .answer)) × ((b ≡ o .buffers) × (old ≡ numbersAfter (o .answer) old))
@@ -21,3 +27,18 @@ module _ {a : Answer} {b : Buffers} {o : Outcome.Outcome} (e : outcomeOf a b ≡
   told-accepted {n} q l =
       let r = sym (ap answerOf q) ∙ ap (λ (x : Outcome.Outcome). x .answer) e in
       (ap numberOf r, (ap (λ (x : Outcome.Outcome). x .buffers) e, l ∙ ap (λ (x : Outcome.Answer). numbersAfter x old) r))
+
+-- number, output and count of a time order's outcome
+abbrev ToldTimes : Time.TimeOutcome → List (List ℕ) → List (List ℕ) → List ℕ → ℕ → List ℕ → Type 0
+ToldTimes o out left old k count = (k ≡ timeNumberOf (o .answer)) × ((out ≡ left) × ((addressesOf out ≡ o .addresses) × (count ≡ countAfter (o .answer) old)))
+
+module _ {a : TimeAnswer} {out left : List (List ℕ)} {o : Time.TimeOutcome} (e : ordered.outcomeOf a out ≡ o) (l : out ≡ left) (old : List ℕ) where
+  pub told-unordered : {k : ℕ} → a ≡ T.Refused k → ToldTimes o out left old k old
+  told-unordered q =
+      let r = sym (ap ordered.answerOf q) ∙ ap (λ (x : Time.TimeOutcome). x .answer) e in
+      (ap timeNumberOf r, (l, (ap (λ (x : Time.TimeOutcome). x .addresses) e, ap (λ (x : Time.TimeAnswer). countAfter x old) r)))
+
+  pub told-ordered : {n : ℕ} → a ≡ T.Ordered n → ToldTimes o out left old 0 (n ∷ [])
+  told-ordered q =
+      let r = sym (ap ordered.answerOf q) ∙ ap (λ (x : Time.TimeOutcome). x .answer) e in
+      (ap timeNumberOf r, (l, (ap (λ (x : Time.TimeOutcome). x .addresses) e, ap (λ (x : Time.TimeAnswer). countAfter x old) r)))

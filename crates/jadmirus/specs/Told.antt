@@ -1,7 +1,8 @@
--- The numbers of an acceptance as nine words in lent memory. Assumes nothing.
+-- The numbers of an acceptance as words in lent memory. Assumes nothing.
 use Prim.Native.Nat.{ℕ}
 use mathlib.Core.List.{List, [], _∷_}
 use Rattle.definitions.specs.Outcome.{Numbers, Answer, accepted, refused}
+use Rattle.definitions.specs.TimeOrder.{TimeAnswer, ordered, unordered}
 use Rattle.merge.specs.declared.Numbers as Declared
 
 -- type, class, rows, and the number of ids, offsets, values, terms, term bytes and ordinals of the map
@@ -15,3 +16,8 @@ listOf n = n .typ ∷ n .class ∷ n .rows ∷ n .ids ∷ n .offsets ∷ n .valu
 abbrev pub numbersAfter : Answer → List ℕ → List ℕ
 numbersAfter (accepted n) old = inOrder n
 numbersAfter (refused k) old = old
+
+-- the number of addresses of a time order; a refusal leaves it as it was
+abbrev pub countAfter : TimeAnswer → List ℕ → List ℕ
+countAfter (ordered n) old = n ∷ []
+countAfter (unordered k) old = old

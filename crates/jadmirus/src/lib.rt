@@ -1,8 +1,13 @@
-// The joiner for callers in C or Rust: a run of numbers is handed over as a pointer and its length.
+// The joiner and the time order for callers in C or Rust: a run of numbers is handed over as a pointer and its length.
 ghost use mathlib.Core.Path.{_≡_};
+ghost use lib.ListN.{length};
 ghost use Rattle.definitions.specs.Outcome.{numberOf, joinOutcome};
+ghost use Rattle.definitions.specs.TimeOrder.{timeNumberOf, timeOutcome};
 ghost use Rattle.merge.specs.Whole.{buffersOf, lentOf, answerOf};
-ghost use Rattle.jadmirus.specs.Told.{listOf, numbersAfter};
+ghost use Rattle.segment.specs.Lent.{addressesOf};
+ghost use Rattle.time_checks.specs.Lent.{lentTimes};
+ghost use Rattle.time_order.specs.Outcome.{outputOf};
+ghost use Rattle.jadmirus.specs.Told.{listOf, numbersAfter, countAfter};
 
 // The nine numbers of an acceptance in their order.
 fn numbers_of(n: merge::Numbers) -> [u64; 9]
@@ -70,6 +75,43 @@ pub extern "C" fn jadmirus_join(
         merge::Answer::Refused(k) => k,
         merge::Answer::Accepted(n) => {
             *out_numbers = numbers_of(n);
+            0
+        }
+    }
+}
+
+// Returns the answer's number. The number of addresses that comes with acceptance is written to `out_count`, which a refusal leaves as it was.
+#[no_mangle]
+pub extern "C" fn jadmirus_time_order(
+    records: &[[u32; 8]],
+    ids: &[u32],
+    offsets: &[u32],
+    values: &[u64],
+    lengths: &[u32],
+    bytes: &[u8],
+    alive: &[u64],
+    out_addresses: &mut [[u32; 2]],
+    out_count: &mut [u64; 1],
+) -> u32
+    ensures { λ r. ⌜ r ≡ timeNumberOf (timeOutcome (lentTimes (now (records .entry)) (now (ids .entry)) (now (offsets .entry)) (now (values .entry)) (now (lengths .entry)) (now (bytes .entry)) (now (alive .entry)) (length (now («out_addresses» .entry)))) (addressesOf (now («out_addresses» .entry))) .answer) ⌝ }
+    ensures { λ _. ⌜ now («out_addresses» .exit) ≡ outputOf (lentTimes (now (records .entry)) (now (ids .entry)) (now (offsets .entry)) (now (values .entry)) (now (lengths .entry)) (now (bytes .entry)) (now (alive .entry)) (length (now («out_addresses» .entry)))) (now («out_addresses» .entry)) ⌝ }
+    ensures { λ _. ⌜ addressesOf (now («out_addresses» .exit)) ≡ timeOutcome (lentTimes (now (records .entry)) (now (ids .entry)) (now (offsets .entry)) (now (values .entry)) (now (lengths .entry)) (now (bytes .entry)) (now (alive .entry)) (length (now («out_addresses» .entry)))) (addressesOf (now («out_addresses» .entry))) .addresses ⌝ }
+    ensures { λ _. ⌜ now («out_count» .exit) ≡ countAfter (timeOutcome (lentTimes (now (records .entry)) (now (ids .entry)) (now (offsets .entry)) (now (values .entry)) (now (lengths .entry)) (now (bytes .entry)) (now (alive .entry)) (length (now («out_addresses» .entry)))) (addressesOf (now («out_addresses» .entry))) .answer) (now («out_count» .entry)) ⌝ }
+{
+    let a = time_order::time_order(
+        records,
+        ids,
+        offsets,
+        values,
+        lengths,
+        bytes,
+        alive,
+        out_addresses,
+    );
+    match a {
+        time_order::TimeAnswer::Refused(k) => k,
+        time_order::TimeAnswer::Ordered(n) => {
+            *out_count = [n as u64];
             0
         }
     }

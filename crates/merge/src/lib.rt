@@ -70,7 +70,7 @@ fn fill_dictionary(
     out_lengths: &mut [u32],
     out_bytes: &mut [u8],
     out_map: &mut [u32],
-) -> merge_dict_column::Counts
+) -> term_walk::Kept
     requires { ⌜ DictionaryGiven mode (now records) (now held) (now ids) (now offsets) (now values) (now lengths) (now bytes) (now alive) (now work) (now «out_lengths») (now «out_bytes») (now «out_map») ⌝ }
     ensures { λ r. ⌜ DictionaryLeft (now (records .entry)) (now (ids .entry)) (now (offsets .entry)) (now (values .entry)) (now (lengths .entry)) (now (bytes .entry)) (now (alive .entry)) (now (work .entry)) (now («out_lengths» .entry)) (now («out_bytes» .entry)) (now («out_map» .entry)) (r .terms) (r .bytes) (now (work .exit)) (now («out_lengths» .exit)) (now («out_bytes» .exit)) (now («out_map» .exit)) ⌝ }
 {

@@ -16,7 +16,7 @@ use Rattle.definitions.specs.Join.{ordinalOf}
 use Rattle.definitions.specs.Outcome.{written}
 use Rattle.definitions.proofs.Terms.{same-members, sort-ascending, sort-member, self-present}
 use Rattle.term_merger.specs.Order.{cell, Readable}
-use Rattle.term_walk.specs.declared.Last.{Last}
+use Rattle.term_walk.specs.declared.Kept.{Kept}
 use Rattle.term_rows.specs.Rows.{rankAt, rowAt, rowOf, sizeOf, lensOf, dictOf, termAt, markAt}
 use Rattle.term_walk.specs.Walk.{Ready, Merged}
 use Rattle.term_rows.specs.Runs.{joinTo, countAt, heldAt, posAt, fromAt, toAt, Runs, firstRow, Filled}
@@ -282,7 +282,7 @@ module _ {records : List (List ℕ)} {held lengths bytes marks : List ℕ} {all 
   abbrev kept : ℕ → List (List ℕ)
   kept s = markedFrom marks all (posAt records s) (heldDict records held lengths bytes s)
 
-  module _ (r : Last) (lens′ outs′ ords′ : List ℕ) (out : List (List ℕ)) (m : Merged lengths bytes marks all rows lens outs ords r lens′ outs′ ords′ out) where
+  module _ (r : Kept) (rows′ : List (List ℕ)) (lens′ outs′ ords′ : List ℕ) (out : List (List ℕ)) (m : Merged lengths bytes marks all rows lens outs ords r rows′ lens′ outs′ ords′ out) where
     out-in : (v : List ℕ) → hasTerm v out ≡ true → hasTerm v (joinTo kept k) ≡ true
     out-in v h =
         let q = m .sound v h in

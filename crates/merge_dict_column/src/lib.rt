@@ -1,12 +1,7 @@
 // The merged dictionary and the map from old ordinals to new ones (columnar/merge/merge_dict_column.rs, `serialize_merged_dict`).
 ghost use Rattle.term_rows.specs.Runs.{Runs};
 ghost use Rattle.merge_dict_column.specs.Dict.{Texts, Dictionary};
-
-// How many terms are written, and how many bytes they have.
-pub struct Counts {
-    pub terms: usize,
-    pub bytes: usize,
-}
+use term_walk::Kept;
 
 // The held segments' dictionaries as one, and each old ordinal's new one. A segment's flag in held is 0 where it is not held; a term's mark is 0
 // where it is not kept, and all means that every term is.
@@ -20,7 +15,7 @@ pub fn merge_dict(
     out_lengths: &mut [u32],
     out_bytes: &mut [u8],
     map: &mut [u32],
-) -> Counts
+) -> Kept
     requires { ⌜ Runs (now records) (now held) (now lengths) (now marks) all ⌝ }
     requires { ⌜ Texts (now records) (now held) (now lengths) (now bytes) (now «out_lengths») (now «out_bytes») (now map) ⌝ }
     ensures { λ r. ⌜ Dictionary (now (records .entry)) (now (held .entry)) (now (lengths .entry)) (now (bytes .entry)) (now (marks .entry)) all (now («out_lengths» .entry)) (now («out_bytes» .entry)) (now (map .entry)) (r .terms) (r .bytes) (now («out_lengths» .exit)) (now («out_bytes» .exit)) (now (map .exit)) ⌝ }
@@ -28,7 +23,7 @@ pub fn merge_dict(
     let mut rows = [[0usize; 6]; 256];
     term_rows::fill_rows(records, held, lengths, marks, all, &mut rows);
     let heap = term_merger::start_heap(bytes, &rows);
-    let l = term_walk::merge_terms(
+    term_walk::merge_terms(
         heap,
         &mut rows,
         lengths,
@@ -38,9 +33,5 @@ pub fn merge_dict(
         out_lengths,
         out_bytes,
         map,
-    );
-    Counts {
-        terms: l.terms,
-        bytes: l.bytes,
-    }
+    )
 }

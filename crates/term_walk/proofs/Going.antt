@@ -17,6 +17,7 @@ use Rattle.term_merger.specs.Order.{cell, keyOf, Readable}
 use Rattle.term_merger.specs.Heap.{count, one, held, Ordered, Out, Pushed}
 use Rattle.term_walk.specs.declared.Last.{Last}
 use Rattle.term_walk.specs.declared.Taken.{Taken}
+use Rattle.term_walk.specs.declared.Kept.{Kept}
 use Rattle.runs.specs.Put.{put}
 use Rattle.term_rows.specs.Rows.{rowAt, lengthAt, rowOf, sizeOf, dictOf, termAt, markAt, termsIn, bytesIn, sumOver}
 use Rattle.term_walk.specs.Walk.{Ready, termOf, lastOf, partOf, Again, Skipped, Added, Took, Merged}
@@ -429,19 +430,21 @@ module _ {lengths bytes marks : List ℕ} {all : Bool} {rows₀ : List (List ℕ
 
   -- ---- the end
 
-  pub going-end : h .len ≤ 0 → Merged lengths bytes marks all rows₀ lens₀ outs₀ ords₀ l lens outs ords out
-  going-end z =
+  pub going-end : h .len ≤ 0 → (w : Kept) → w .terms ≡ l .terms → w .bytes ≡ l .bytes → Merged lengths bytes marks all rows₀ lens₀ outs₀ ords₀ w rows lens outs ords out
+  going-end z w e f =
       record {
         asc = g .merging .asc;
         sound = g .merging .sound;
         complete = λ x i k m. g .merging .complete x i (omega (arith, over x)) m;
-        terms = g .last .size;
-        used = g .used;
+        terms = e ∙ g .last .size;
+        used = f ∙ g .used;
         lengths-out = g .lens-is;
         texts-out = g .outs-is;
         mapped = λ x i k. g .mapped x i (omega (arith, over x));
         others = g .others;
         size = g .size-map;
+        rows-out = λ s k. g .row s k ∙ ap (rowOf lengths marks all rows₀ s) (let q : P s ≡ sizeOf rows₀ s = omega (arith, over s, g .most s) in q);
+        rows-size = g .size;
       }
     where
       none : (x : ℕ) (n : ℕ) → n ≤ 0 → (seg : List ℕ) → count x (take n seg) ≡ 0

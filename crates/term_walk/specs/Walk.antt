@@ -8,6 +8,7 @@ use lib.Dec.{T}
 use lib.ListN.{length, take, drop, getD, set}
 use Rattle.term_walk.specs.declared.Last.{Last}
 use Rattle.term_walk.specs.declared.Taken.{Taken}
+use Rattle.term_walk.specs.declared.Kept.{Kept}
 use Rattle.term_merger.specs.Order.{cell}
 use Rattle.runs.specs.Put.{put}
 use Rattle.term_rows.specs.Rows.{sizeOf, lensOf, dictOf, rowOf, termAt, markAt, termsIn, bytesIn, sumOver}
@@ -73,8 +74,8 @@ pub record Ready (lengths bytes marks : List ℕ) (all : Bool) (rows : List (Lis
   pub texts : sumOver (bytesIn lengths) rows ≤ length outs
   pub small : sumOver (bytesIn lengths) rows < 4294967296
 
--- out is the ascending list of the marked terms, each once; it is written, and each old term's place in out is in the map
-pub record Merged (lengths bytes marks : List ℕ) (all : Bool) (rows : List (List ℕ)) (lens outs ords : List ℕ) (r : Last) (lens′ outs′ ords′ : List ℕ) (out : List (List ℕ)) : Type 0 where
+-- out is the ascending list of the marked terms, each once; it is written, each old term's place in out is in the map, and each row is past its segment's last term
+pub record Merged (lengths bytes marks : List ℕ) (all : Bool) (rows : List (List ℕ)) (lens outs ords : List ℕ) (r : Kept) (rows′ : List (List ℕ)) (lens′ outs′ ords′ : List ℕ) (out : List (List ℕ)) : Type 0 where
   pub asc : T (termsAscending out)
   pub sound : (u : List ℕ) → hasTerm u out ≡ true → (s : ℕ) × (i : ℕ) × (i < sizeOf rows s) × (termAt lengths bytes rows s i ≡ u) × (markAt marks all rows s i ≡ 0)
   pub complete : (s i : ℕ) → i < sizeOf rows s → markAt marks all rows s i ≡ 0 → hasTerm (termAt lengths bytes rows s i) out ≡ true
@@ -85,3 +86,5 @@ pub record Merged (lengths bytes marks : List ℕ) (all : Bool) (rows : List (Li
   pub mapped : (s i : ℕ) → i < sizeOf rows s → getD ords′ (cell rows s 5 + i) 0 ≡ ordinalOf out (termAt lengths bytes rows s i)
   pub others : (j : ℕ) → ((s i : ℕ) → i < sizeOf rows s → j ≡ cell rows s 5 + i → ⊥) → getD ords′ j 0 ≡ getD ords j 0
   pub size : length ords′ ≡ length ords
+  pub rows-out : (s : ℕ) → s < 256 → getD rows′ s [] ≡ rowOf lengths marks all rows s (sizeOf rows s)
+  pub rows-size : length rows′ ≡ 256

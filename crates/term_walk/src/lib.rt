@@ -10,17 +10,23 @@ ghost use Rattle.term_walk.specs.Walk.{Took, Ready, Merged};
 use term_merger::Heap;
 use term_order::TermOrder;
 
-// The last term written: how many there are, how many bytes they have, and where it stands in the term bytes.
-pub struct Last {
+// How many terms are kept, and how many bytes they have.
+pub struct Kept {
     pub terms: usize,
     pub bytes: usize,
-    pub from: usize,
-    pub till: usize,
 }
 
-pub struct Taken {
-    pub last: Last,
-    pub ordinal: usize,
+// The last term written: how many there are, how many bytes they have, and where it stands in the term bytes.
+struct Last {
+    terms: usize,
+    bytes: usize,
+    from: usize,
+    till: usize,
+}
+
+struct Taken {
+    last: Last,
+    ordinal: usize,
 }
 
 fn same_term(a: &[u8], b: &[u8]) -> bool
@@ -83,7 +89,7 @@ fn take_term(
     }
 }
 
-// The walk: the least term of all segments is taken again and again, and its segment goes on to its next one.
+// The walk: the least term of all segments is taken again and again, and its segment goes on to its next one. At exit each row is past its segment's last term.
 pub fn merge_terms(
     heap: Heap,
     rows: &mut [[usize; 6]],
@@ -94,10 +100,10 @@ pub fn merge_terms(
     out_lengths: &mut [u32],
     out_bytes: &mut [u8],
     map: &mut [u32],
-) -> Last
+) -> Kept
     requires { ⌜ Ready (now lengths) (now bytes) (now marks) all (now rows) (now «out_lengths») (now «out_bytes») (now map) ⌝ }
     requires { ⌜ Started (now bytes) (now rows) heap ⌝ }
-    ensures { λ r. ⌜ ((out : List (List ℕ)) × Merged (now (lengths .entry)) (now (bytes .entry)) (now (marks .entry)) all (now (rows .entry)) (now («out_lengths» .entry)) (now («out_bytes» .entry)) (now (map .entry)) r (now («out_lengths» .exit)) (now («out_bytes» .exit)) (now (map .exit)) out) ⌝ }
+    ensures { λ r. ⌜ ((out : List (List ℕ)) × Merged (now (lengths .entry)) (now (bytes .entry)) (now (marks .entry)) all (now (rows .entry)) (now («out_lengths» .entry)) (now («out_bytes» .entry)) (now (map .entry)) r (now (rows .exit)) (now («out_lengths» .exit)) (now («out_bytes» .exit)) (now (map .exit)) out) ⌝ }
 {
     let mut h = heap;
     let mut last = Last {
@@ -120,5 +126,8 @@ pub fn merge_terms(
         h = term_merger::push_live(rest, bytes, rows, top);
         last = t.last;
     }
-    last
+    Kept {
+        terms: last.terms,
+        bytes: last.bytes,
+    }
 }

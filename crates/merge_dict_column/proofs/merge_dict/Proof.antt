@@ -41,7 +41,7 @@ same-length-3 c = search needs
 
 -- src/lib.rt:229:1
 returns : tie.Need-returns
-returns c = dictionary (c .before .before .before .before .before .before .before .before .before .before .before .before .before .before .before .before .before .before .before .before .before .before .before .before .pre .0) (c .before .before .before .before .before .before .before .before .before .before .before .before .before .before .before .before .before .before .before .before .before .before .before .before .pre .1) (c .before .before .before .before .before .before .before .before .before .before .before .before .before .before .before .fill-rows .ensures) _ _ _ _ _ (c .before .before .before .before .before .before .before .merge-terms .ensures .1)
+returns c = dictionary (c .before .before .before .before .before .before .before .before .before .before .before .before .before .before .before .before .before .before .before .before .before .before .before .before .pre .0) (c .before .before .before .before .before .before .before .before .before .before .before .before .before .before .before .before .before .before .before .before .before .before .before .before .pre .1) (c .before .before .before .before .before .before .before .before .before .before .before .before .before .before .before .fill-rows .ensures) _ _ _ _ _ _ (c .before .before .before .before .before .before .before .merge-terms .ensures .1)
 
 pub merge-dict-spec : {M : Type 1} → statement M
 merge-dict-spec =

@@ -185,7 +185,7 @@ same-length-4 c = c .before .before .loop .inv .2 .size-map
 
 -- src/lib.rt:130:1
 returns : tie.Need-returns Inv-loop μ-loop
-returns c = (c .before .before .loop .inv .1, going-end (c .before .before .before .before .before .before .before .before .before .pre .0) (c .before .before .loop .inv .2) (c .if1 .left))
+returns c = (c .before .before .loop .inv .1, going-end (c .before .before .before .before .before .before .before .before .before .pre .0) (c .before .before .loop .inv .2) (c .if1 .left) _ refl refl)
 
 pub merge-terms-spec : {M : Type 1} → statement M
 merge-terms-spec =
