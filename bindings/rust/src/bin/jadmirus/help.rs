@@ -1,0 +1,117 @@
+//! What `--help` prints.
+use crate::arguments::Command;
+
+pub const WHOLE: &str = "\
+Joins the segments of one play-log column, by the proved library of Jadmirus.
+
+  jadmirus join FILE      join the segments and list the column
+  jadmirus order FILE     put the rows of a column of times in time order
+  jadmirus check FILE     say what would be refused, and where
+  jadmirus encode SHEET   write a sheet's wire form
+  jadmirus show FILE      write a wire form as a sheet
+
+FILE is a sheet (text, see below) or a wire form (64-bit words), which is told from its
+first bytes; '-' is standard input. 'jadmirus COMMAND --help' says more of each command.
+
+Exit status: 0 accepted; 1 refused; 2 bad usage, or the input can't be read.
+
+A sheet, here of two days:
+
+  mode stacked            # or: ordered, and then 'addresses 0:3 1:0 ...' (segment:row)
+  required none           # or the type that the joined column must have
+
+  segment
+  type Str                # I64 U64 F64 Bytes Str Bool DateTime; none: no column
+  kind Optional           # Empty Full Optional OldMultivalued NewMultivalued
+  rows 3
+  ids 0 2                 # the rows with a value
+  values \"Air\" \"Can\"      # or ordinals, and then 'terms \"Air\" \"Can\"'
+
+  segment type Str kind Full values \"Can\" \"Air\"
+
+Lists may go on over lines. 'withdrawn 1 5' withdraws rows of a segment in an ordered join.
+Numbers are decimal, or hexadecimal after 0x. FORMAT.md has the whole of it.
+";
+
+const JOIN: &str = "\
+jadmirus join FILE [--rows] [--output FILE] [--as sheet|wire] [--from sheet|wire]
+
+Joins the segments of FILE and lists the column: answer, type, class, rows, then ids,
+offsets, values, terms and maps, each after its number of elements. Values are unsigned
+64-bit words, terms are in hexadecimal ('-': empty). A refusal is listed as its answer's
+number alone; its name and meaning go to standard error, and 'jadmirus check FILE' says
+where it comes from.
+
+  --rows          print the values in words in the listing's place: each row that has any, its
+                  number (from 0) and its values
+  --output FILE   write the joined column too, as one segment to be joined again: sheets of
+                  results can be put together ('cat week1 week2 | jadmirus join -').
+                  '-': to standard output, in the listing's place
+  --as FORM       the form of that output: sheet (what is meant by default) or wire
+  --from FORM     the form of the input, if it can't be told from its first bytes
+
+Exit status: 0 joined; 1 refused; 2 bad usage, or the input can't be read.
+";
+
+const ORDER: &str = "\
+jadmirus order FILE [--output FILE] [--from sheet|wire]
+
+Sorts the rows that are not withdrawn by time, then segment, then row, and writes them as
+an 'addresses' entry for the sheet of an ordered join. The segments hold DateTime columns, or
+none; a row without a time follows the one before it in its segment, and before the first
+time it stands before all times. Mode, required type and addresses of FILE play no part. A
+refusal prints 'answer' and its number.
+
+  --output FILE   write to that file instead of standard output
+  --from FORM     the form of the input (sheet or wire), if it can't be told
+
+Exit status: 0 ordered; 1 refused; 2 bad usage, or the input can't be read.
+";
+
+const CHECK: &str = "\
+jadmirus check FILE [--times] [--from sheet|wire]
+
+Says whether the join of FILE is accepted, and if not, what is wrong and where: segment, row,
+place in the list. Segments and rows are counted from 0, as in FILE; 'the 2nd' is a place
+in a list. What is said is found by a walk of its own through FILE and compared with the
+library's answer; should they differ, that is said, and the status is 2.
+
+  --times         check for the time order ('jadmirus order'), not for a join
+  --from FORM     the form of the input (sheet or wire), if it can't be told
+
+Exit status: 0 accepted; 1 refused; 2 bad usage, or the input can't be read.
+";
+
+const ENCODE: &str = "\
+jadmirus encode SHEET [--output FILE] [--from sheet|wire]
+
+Writes the wire form of a sheet: nine sections, each after its count, every number as a 64-bit
+word with the lowest byte first. It is what the joining program reads.
+
+  --output FILE   write to that file instead of standard output
+  --from FORM     the form of the input (sheet or wire), if it can't be told
+
+Exit status: 0 written; 2 bad usage, or the input can't be read.
+";
+
+const SHOW: &str = "\
+jadmirus show FILE [--output FILE] [--from sheet|wire]
+
+Writes a wire form as a sheet, from which 'jadmirus encode' makes the same bytes again. Lists
+that don't fit the segments' records stand as wholes, with a word on where they differ.
+
+  --output FILE   write to that file instead of standard output
+  --from FORM     the form of the input (sheet or wire), if it can't be told
+
+Exit status: 0 written; 2 bad usage, or the input can't be read.
+";
+
+pub fn of(command: Command) -> &'static str {
+    match command {
+        Command::Join => JOIN,
+        Command::Order => ORDER,
+        Command::Check => CHECK,
+        Command::Encode => ENCODE,
+        Command::Show => SHOW,
+    }
+}

@@ -1,0 +1,83 @@
+//! Answers 5 to 7: values, terms, alive sets, totals.
+use super::words::{element, of_type};
+use crate::codes::{ColumnType, kind};
+use crate::sections::{Cut, Sections};
+use crate::sheet::term_text;
+
+pub fn values_and_terms(cut: &Cut<'_>) -> Option<String> {
+    terms_allowed(cut)
+        .or_else(|| values(cut))
+        .or_else(|| terms_rise(cut))
+}
+
+fn terms_allowed(cut: &Cut<'_>) -> Option<String> {
+    if cut.term_lengths.is_empty() {
+        return None;
+    }
+    if !cut.typ().is_some_and(ColumnType::has_terms) {
+        return Some(format!("terms: a column of type {} has none", of_type(cut)));
+    }
+    (cut.record.kind == kind::EMPTY).then(|| "terms: kind Empty has none".to_string())
+}
+
+fn values(cut: &Cut<'_>) -> Option<String> {
+    let terms = cut.term_lengths.len();
+    let (limit, why) = match cut.typ()? {
+        ColumnType::Bool => (2, "a Bool is 0 or 1".to_string()),
+        ColumnType::Bytes | ColumnType::Str => (
+            terms as u64,
+            format!("an ordinal, and not below the number of terms, {terms}"),
+        ),
+        _ => return None,
+    };
+    let place = cut.values.iter().position(|&value| value >= limit)?;
+    Some(format!(
+        "{}: {why}",
+        element("value", cut.values[place], place)
+    ))
+}
+
+fn terms_rise(cut: &Cut<'_>) -> Option<String> {
+    let mut terms = cut.terms().enumerate();
+    let (_, mut before) = terms.next()?;
+    for (place, next) in terms {
+        if next <= before {
+            let next = element("term", term_text(next), place);
+            return Some(format!(
+                "{next}: not above the one before it, {}",
+                term_text(before)
+            ));
+        }
+        before = next;
+    }
+    None
+}
+
+pub fn alive_set(cut: &Cut<'_>, stacked: bool) -> Option<String> {
+    let words = cut.alive?;
+    if stacked {
+        return Some("alive set: a stacked join takes none".to_string());
+    }
+    // Only the last word can mark a row past the last.
+    let (last, rows) = (words.len().checked_sub(1)?, u64::from(cut.record.rows));
+    let first_row = last as u64 * 64;
+    let row = (first_row..first_row + 64)
+        .find(|&row| row >= rows && words[last] >> (row - first_row) & 1 == 1)?;
+    let word = element("alive word", words[last], last);
+    Some(format!(
+        "{word}: marks row {row}, not below the number of rows, {rows}"
+    ))
+}
+
+pub fn totals(s: &Sections) -> Option<String> {
+    const MOST: u64 = 4294967294;
+    let sums = [
+        ("rows", s.all_rows()),
+        ("values", s.values.len() as u64),
+        ("term bytes", s.term_bytes.len() as u64),
+    ];
+    let (name, sum) = sums.into_iter().find(|(_, sum)| *sum > MOST)?;
+    Some(format!(
+        "{name}: all segments have {sum} together, above {MOST}"
+    ))
+}

@@ -1,0 +1,204 @@
+//! The calls of the proved library: all `unsafe` code of this crate.
+//!
+//! The library reads and writes only what it is lent, for every input. Its proof takes for granted
+//! that each pointer is of as many elements as the number after it says, and that nothing that is
+//! written lies over anything else that is lent. Rust slices are just that, which is why the two
+//! functions here are safe.
+use crate::sections::{Address, Record, Sections};
+
+unsafe extern "C" {
+    fn jadmirus_join(
+        mode: u32,
+        required: u32,
+        records: *const Record,
+        records_count: usize,
+        ids: *const u32,
+        ids_count: usize,
+        offsets: *const u32,
+        offsets_count: usize,
+        values: *const u64,
+        values_count: usize,
+        term_lengths: *const u32,
+        term_lengths_count: usize,
+        term_bytes: *const u8,
+        term_bytes_count: usize,
+        alive: *const u64,
+        alive_count: usize,
+        addresses: *const Address,
+        addresses_count: usize,
+        working: *mut u8,
+        working_count: usize,
+        out_ids: *mut u32,
+        out_ids_count: usize,
+        out_offsets: *mut u32,
+        out_offsets_count: usize,
+        out_values: *mut u64,
+        out_values_count: usize,
+        out_term_lengths: *mut u32,
+        out_term_lengths_count: usize,
+        out_term_bytes: *mut u8,
+        out_term_bytes_count: usize,
+        out_map: *mut u32,
+        out_map_count: usize,
+        out_numbers: *mut [u64; 9],
+    ) -> u32;
+
+    fn jadmirus_time_order(
+        records: *const Record,
+        records_count: usize,
+        ids: *const u32,
+        ids_count: usize,
+        offsets: *const u32,
+        offsets_count: usize,
+        values: *const u64,
+        values_count: usize,
+        term_lengths: *const u32,
+        term_lengths_count: usize,
+        term_bytes: *const u8,
+        term_bytes_count: usize,
+        alive: *const u64,
+        alive_count: usize,
+        out_addresses: *mut Address,
+        out_addresses_count: usize,
+        out_count: *mut [u64; 1],
+    ) -> u32;
+}
+
+/// The memory that a join is lent to write in.
+pub(crate) struct Outputs {
+    pub working: Vec<u8>,
+    pub ids: Vec<u32>,
+    pub offsets: Vec<u32>,
+    pub values: Vec<u64>,
+    pub term_lengths: Vec<u32>,
+    pub term_bytes: Vec<u8>,
+    pub map: Vec<u32>,
+    /// Type, class, rows; elements of ids, offsets, values, terms, term bytes and map.
+    pub numbers: [u64; 9],
+}
+
+/// The join's answer. 0: the lists and the numbers are written.
+pub(crate) fn join(s: &Sections, out: &mut Outputs) -> u32 {
+    // Sound: every pointer is a live slice's or array's, followed by that slice's own length; what
+    // is written is borrowed as `mut`, each list another one, so nothing overlaps. An empty slice's
+    // pointer is aligned, as the library asks. Record and Address are `repr(C)` structs of eight
+    // and two 32-bit numbers, so runs of them are laid out as the C declaration says. The library
+    // keeps no pointer.
+    unsafe {
+        jadmirus_join(
+            s.mode,
+            s.required,
+            s.records.as_ptr(),
+            s.records.len(),
+            s.ids.as_ptr(),
+            s.ids.len(),
+            s.offsets.as_ptr(),
+            s.offsets.len(),
+            s.values.as_ptr(),
+            s.values.len(),
+            s.term_lengths.as_ptr(),
+            s.term_lengths.len(),
+            s.term_bytes.as_ptr(),
+            s.term_bytes.len(),
+            s.alive.as_ptr(),
+            s.alive.len(),
+            s.addresses.as_ptr(),
+            s.addresses.len(),
+            out.working.as_mut_ptr(),
+            out.working.len(),
+            out.ids.as_mut_ptr(),
+            out.ids.len(),
+            out.offsets.as_mut_ptr(),
+            out.offsets.len(),
+            out.values.as_mut_ptr(),
+            out.values.len(),
+            out.term_lengths.as_mut_ptr(),
+            out.term_lengths.len(),
+            out.term_bytes.as_mut_ptr(),
+            out.term_bytes.len(),
+            out.map.as_mut_ptr(),
+            out.map.len(),
+            &mut out.numbers,
+        )
+    }
+}
+
+/// The time order's answer. 0: the number of addresses is written to `count`, and they are the
+/// first ones of `addresses`.
+pub(crate) fn time_order(s: &Sections, addresses: &mut [Address], count: &mut [u64; 1]) -> u32 {
+    // Sound for the reasons given in `join`.
+    unsafe {
+        jadmirus_time_order(
+            s.records.as_ptr(),
+            s.records.len(),
+            s.ids.as_ptr(),
+            s.ids.len(),
+            s.offsets.as_ptr(),
+            s.offsets.len(),
+            s.values.as_ptr(),
+            s.values.len(),
+            s.term_lengths.as_ptr(),
+            s.term_lengths.len(),
+            s.term_bytes.as_ptr(),
+            s.term_bytes.len(),
+            s.alive.as_ptr(),
+            s.alive.len(),
+            addresses.as_mut_ptr(),
+            addresses.len(),
+            count,
+        )
+    }
+}
+
+#[cfg(test)]
+mod tests {
+    use super::*;
+    use crate::segment::Segment;
+
+    const NONE: [u64; 9] = [77; 9];
+
+    /// As many elements of everything.
+    fn lent(elements: usize) -> Outputs {
+        Outputs {
+            working: vec![0; elements],
+            ids: vec![0; elements],
+            offsets: vec![0; elements],
+            values: vec![0; elements],
+            term_lengths: vec![0; elements],
+            term_bytes: vec![0; elements],
+            map: vec![0; elements],
+            numbers: NONE,
+        }
+    }
+
+    /// 3 rows, 2 bytes.
+    #[test]
+    fn answer_8() {
+        let mut sections = Sections::of(&[Segment::no_column(3)]).unwrap();
+        sections.mode = 1;
+        sections.addresses = [2, 0, 1].map(|row| Address { segment: 0, row }).to_vec();
+        let mut out = lent(2);
+        assert_eq!((join(&sections, &mut out), out.numbers), (8, NONE));
+        assert_eq!(join(&sections, &mut lent(3)), 0);
+    }
+
+    /// 2 values, space for 1.
+    #[test]
+    fn answer_11() {
+        let sections = Sections::of(&[Segment::u64s([[7], [8]])]).unwrap();
+        let mut out = lent(1);
+        assert_eq!((join(&sections, &mut out), out.numbers), (11, NONE));
+        assert_eq!(out.values, [0]);
+        assert_eq!(join(&sections, &mut lent(2)), 0);
+    }
+
+    #[test]
+    fn answer_11_of_the_time_order() {
+        let sections = Sections::of(&[Segment::date_times([[7], [8]])]).unwrap();
+        let (mut addresses, mut count) = ([Address::default(); 3], [77]);
+        assert_eq!(time_order(&sections, &mut addresses[..1], &mut count), 11);
+        assert_eq!((addresses[0], count), (Address::default(), [77]));
+        assert_eq!(time_order(&sections, &mut addresses, &mut count), 0);
+        assert_eq!((addresses[1], count), (Address { segment: 0, row: 1 }, [2]));
+    }
+}

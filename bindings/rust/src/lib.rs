@@ -1,0 +1,102 @@
+//! Joins the segments of one play-log column by the proved library of Jadmirus.
+//!
+//! A column is kept in segments. [`join`] makes them one: stacked, segment after segment, or in
+//! the order of a list of addresses, from which withdrawn rows are left out. [`time_order`] gives
+//! that list for a column of times. What can't be joined is refused with a [`Refusal`], by its
+//! number.
+//!
+//! ```
+//! use jadmirus::{Class, Order, Refusal, Segment, Value, join, time_order};
+//!
+//! # fn main() -> Result<(), Refusal> {
+//! // Seven days of artists, a play a row. A jingle has no artist.
+//! let days = [
+//!     Segment::strs([Some("Nina Simone"), None, Some("Air")]),
+//!     Segment::strs([Some("Björk")]),
+//!     Segment::strs([Some("Air"), Some("Portishead")]),
+//!     Segment::no_column(2), // two jingles: that day's log has no artists at all
+//!     Segment::strs([Some("Portishead"), None]),
+//!     Segment::strs([Some("Nina Simone")]),
+//!     Segment::strs([None, Some("Can")]),
+//! ];
+//! let week = join(&days, Order::Stacked, None)?;
+//! assert_eq!(week.rows(), 13);
+//! assert_eq!(week.class(), Class::Optional);
+//! assert_eq!(week.ids(), [0, 2, 3, 4, 5, 8, 10, 12]);
+//! assert_eq!(week.terms().len(), 5); // each artist once
+//! assert_eq!(week.row(3).collect::<Vec<_>>(), [Value::Str("Björk")]);
+//!
+//! // A month: that week and a long segment of another studio, in which a play was withdrawn.
+//! let other = Segment::strs([Some("Can"), Some("Moondog"), Some("Air")]).without_rows([1]);
+//! let artists = [Segment::from(week), other];
+//!
+//! // Both have a column of times. Rows without a time follow the play before them.
+//! let times = [
+//!     Segment::date_times((0..13).map(|row| (row % 2 == 0).then_some(100 * row))),
+//!     Segment::date_times([Some(150), Some(400), Some(1250)]).without_rows([1]),
+//! ];
+//! let order = time_order(&times)?;
+//! let month = join(&artists, Order::Ordered(&order), None)?;
+//! assert_eq!(month.rows(), 15);
+//! assert_eq!(month.row(2).collect::<Vec<_>>(), [Value::Str("Can")]);
+//! assert_eq!(month.row(14).collect::<Vec<_>>(), [Value::Str("Air")]);
+//! // Moondog's only play is withdrawn, so the name is no longer kept.
+//! assert!(month.terms().iter().all(|term| term != b"Moondog"));
+//! # Ok(())
+//! # }
+//! ```
+mod alive;
+mod codes;
+pub mod explain;
+mod ffi;
+mod joined;
+mod listing;
+mod refusal;
+mod sections;
+mod segment;
+pub mod sheet;
+mod terms;
+mod wire;
+
+pub use alive::AliveSet;
+pub use codes::{Class, ColumnType};
+pub use joined::{Joined, Value};
+pub use refusal::Refusal;
+pub use sections::{Address, Record, Sections};
+pub use segment::{Index, Segment};
+pub use terms::Terms;
+pub use wire::{WireError, WireFault};
+
+/// In which order the rows of a joined column stand.
+#[derive(Clone, Copy, Debug, PartialEq, Eq)]
+pub enum Order<'a> {
+    /// Segment after segment.
+    Stacked,
+    /// As the addresses say: each alive row once.
+    Ordered(&'a [Address]),
+}
+
+/// Joins the segments of one column, to the required type if one is given.
+///
+/// The space for the result is taken here, by what the segments hold. A number of rows or a list
+/// that 32 bits can't count is refused with [`Refusal::TooLarge`] or [`Refusal::Lengths`] before
+/// the library is called, and so is an alive set of a wrong length.
+pub fn join(
+    segments: &[Segment],
+    order: Order<'_>,
+    required: Option<ColumnType>,
+) -> Result<Joined, Refusal> {
+    let mut sections = Sections::of(segments)?;
+    sections.required = codes::code_of(required);
+    if let Order::Ordered(addresses) = order {
+        sections.mode = codes::mode::ORDERED;
+        sections.addresses = addresses.to_vec();
+    }
+    sections.join()
+}
+
+/// The alive rows of columns of times (or of none) sorted by time, then segment, then row. A row
+/// without a time has the last time before it in its segment, else it stands before all times.
+pub fn time_order(segments: &[Segment]) -> Result<Vec<Address>, Refusal> {
+    Sections::of(segments)?.time_order()
+}

@@ -1,0 +1,41 @@
+//! The listing of a joined column.
+use crate::codes::code_of;
+use crate::joined::Joined;
+use std::fmt::Display;
+use std::io::{self, Write};
+
+impl Joined {
+    /// Writes the column's listing. A list stands after its name and its number of elements;
+    /// values as unsigned words, terms in hexadecimal, an empty one as `-`. (A refusal's listing
+    /// is the line `answer` with its number alone.)
+    pub fn write_listing(&self, out: &mut dyn Write) -> io::Result<()> {
+        writeln!(out, "answer 0")?;
+        writeln!(out, "type {}", code_of(self.column_type()))?;
+        writeln!(out, "class {}", self.class().code())?;
+        writeln!(out, "rows {}", self.rows())?;
+        write_list(out, "ids", self.ids())?;
+        write_list(out, "offsets", self.offsets())?;
+        write_list(out, "values", self.values())?;
+        write!(out, "terms {}", self.terms().len())?;
+        for term in self.terms().iter() {
+            out.write_all(b" ")?;
+            write_term(out, term)?;
+        }
+        writeln!(out)?;
+        write_list(out, "maps", self.map())
+    }
+}
+
+fn write_list<T: Display>(out: &mut dyn Write, name: &str, list: &[T]) -> io::Result<()> {
+    write!(out, "{name} {}", list.len())?;
+    list.iter()
+        .try_for_each(|element| write!(out, " {element}"))?;
+    writeln!(out)
+}
+
+fn write_term(out: &mut dyn Write, term: &[u8]) -> io::Result<()> {
+    match term {
+        [] => out.write_all(b"-"),
+        bytes => bytes.iter().try_for_each(|byte| write!(out, "{byte:02x}")),
+    }
+}

@@ -1,0 +1,159 @@
+use std::error::Error;
+use std::fmt;
+
+/// Why a join or a time order was refused: the library's answers 1 to 12. The checks run in the
+/// order of these numbers, each over all segments, and the first that fails is told.
+#[derive(Clone, Copy, Debug, PartialEq, Eq, Hash)]
+#[non_exhaustive]
+pub enum Refusal {
+    /// 1
+    TooManySegments,
+    /// 2
+    Lengths,
+    /// 3
+    UnknownCode,
+    /// 4
+    RowLists,
+    /// 5
+    Contents,
+    /// 6
+    AliveSet,
+    /// 7
+    TooLarge,
+    /// 8
+    WorkingSpace,
+    /// 9
+    Addresses,
+    /// 10
+    Types,
+    /// 11
+    OutputSpace,
+    /// 12
+    Times,
+    /// An answer that this crate doesn't know: the library is of another version.
+    Unlisted(u32),
+}
+
+/// The answers from 1 on, each with its name and its meaning.
+const LISTED: [(Refusal, &str, &str); 12] = [
+    (
+        Refusal::TooManySegments,
+        "too many segments",
+        "There are more than 256 segments; join them in groups and then join the results.",
+    ),
+    (
+        Refusal::Lengths,
+        "lengths",
+        "A list is longer or shorter than the segments announce it.",
+    ),
+    (
+        Refusal::UnknownCode,
+        "unknown code",
+        "A mode, type, kind or flag is none of the known ones, or a segment without a column has \
+         a kind or lists.",
+    ),
+    (
+        Refusal::RowLists,
+        "row lists",
+        "A segment's row ids, its offsets or the number of its values don't fit its kind and its \
+         rows.",
+    ),
+    (
+        Refusal::Contents,
+        "values or terms",
+        "A value is impossible for its type, or a segment's terms are not strictly ascending or \
+         stand where there can be none.",
+    ),
+    (
+        Refusal::AliveSet,
+        "alive set",
+        "An alive set marks a row past the segment's rows, or stands in a stacked join.",
+    ),
+    (
+        Refusal::TooLarge,
+        "too large",
+        "All rows, all values or all bytes of terms together are more than 4294967294.",
+    ),
+    (
+        Refusal::WorkingSpace,
+        "working space",
+        "The working space is less than a byte for each row and each term.",
+    ),
+    (
+        Refusal::Addresses,
+        "addresses",
+        "The addresses don't name every row that isn't withdrawn exactly once, or they stand in a \
+         stacked join.",
+    ),
+    (
+        Refusal::Types,
+        "types",
+        "The columns and the required type can't be one column, or a value doesn't fit the joined \
+         type.",
+    ),
+    (
+        Refusal::OutputSpace,
+        "output space",
+        "The space for a list of the result is too short.",
+    ),
+    (
+        Refusal::Times,
+        "times",
+        "A column is not one of times, a row has several times, or times fall within a segment.",
+    ),
+];
+
+const UNLISTED: (&str, &str) = (
+    "unlisted answer",
+    "The library gave an answer that this program doesn't know; they are of different versions.",
+);
+
+impl Refusal {
+    /// The answers 1 to 12, in their order.
+    pub fn all() -> [Refusal; 12] {
+        LISTED.map(|(refusal, _, _)| refusal)
+    }
+
+    /// The refusal that an answer other than 0 stands for.
+    pub(crate) fn from_answer(answer: u32) -> Refusal {
+        let listed = Refusal::all().into_iter().find(|r| r.number() == answer);
+        listed.unwrap_or(Refusal::Unlisted(answer))
+    }
+
+    /// The answer's number.
+    pub fn number(self) -> u32 {
+        match (self, self.place()) {
+            (_, Some(place)) => place as u32 + 1,
+            (Refusal::Unlisted(answer), None) => answer,
+            (_, None) => unreachable!("all others are listed"),
+        }
+    }
+
+    /// The answer in a word or two.
+    pub fn name(self) -> &'static str {
+        self.place().map_or(UNLISTED.0, |place| LISTED[place].1)
+    }
+
+    /// The answer in a plain sentence.
+    pub fn sentence(self) -> &'static str {
+        self.place().map_or(UNLISTED.1, |place| LISTED[place].2)
+    }
+
+    fn place(self) -> Option<usize> {
+        LISTED.iter().position(|(refusal, _, _)| *refusal == self)
+    }
+}
+
+impl fmt::Display for Refusal {
+    fn fmt(&self, f: &mut fmt::Formatter<'_>) -> fmt::Result {
+        write!(
+            f,
+            "answer {} ({}): {}",
+            self.number(),
+            self.name(),
+            self.sentence()
+        )
+    }
+}
+
+impl Error for Refusal {}

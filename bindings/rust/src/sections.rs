@@ -1,0 +1,264 @@
+//! The level of the library's own lists: what a call is lent, list by list.
+use crate::alive::{is_alive, words_for};
+use crate::codes::{ColumnType, kind, mode};
+use crate::joined::Joined;
+use crate::refusal::Refusal;
+use crate::{ffi, joined};
+use std::ops::Range;
+
+/// What is announced of one segment.
+#[repr(C)]
+#[derive(Clone, Copy, Debug, Default, PartialEq, Eq)]
+pub struct Record {
+    /// A [`ColumnType`]'s code, or 255 for no column.
+    pub typ: u32,
+    /// 0 Empty, 1 Full, 2 Optional, 3 old multivalued, 4 new multivalued.
+    pub kind: u32,
+    pub rows: u32,
+    /// How many row ids the segment has; the next three likewise.
+    pub ids: u32,
+    pub offsets: u32,
+    pub values: u32,
+    pub terms: u32,
+    /// 1 if the segment has an alive set, else 0.
+    pub flag: u32,
+}
+
+impl Record {
+    /// How many alive words the record announces.
+    pub(crate) fn alive_words(&self) -> usize {
+        if self.flag == 1 {
+            words_for(self.rows)
+        } else {
+            0
+        }
+    }
+}
+
+/// A row of a segment, both counted from 0.
+#[repr(C)]
+#[derive(Clone, Copy, Debug, Default, PartialEq, Eq, PartialOrd, Ord, Hash)]
+pub struct Address {
+    pub segment: u32,
+    pub row: u32,
+}
+
+/// The segments of a call as the library takes them: all segments' lists of one sort in one run.
+///
+/// The fields may hold anything: what doesn't fit together is refused by number, as the library
+/// refuses it. [`join`](crate::join) and [`time_order`](crate::time_order) make them for you.
+#[derive(Clone, Debug, Default, PartialEq, Eq)]
+pub struct Sections {
+    /// 0 stacked, 1 ordered.
+    pub mode: u32,
+    /// The required type's code, or 255 for none.
+    pub required: u32,
+    pub records: Vec<Record>,
+    pub ids: Vec<u32>,
+    pub offsets: Vec<u32>,
+    pub values: Vec<u64>,
+    pub term_lengths: Vec<u32>,
+    pub term_bytes: Vec<u8>,
+    pub alive: Vec<u64>,
+    pub addresses: Vec<Address>,
+}
+
+/// From that many addresses on, the time order is asked for its answer before they get space.
+const MANY_ADDRESSES: u64 = 1 << 20;
+
+impl Sections {
+    /// Joins the segments. The space lent is always enough, so 8 and 11 are not among the answers.
+    pub fn join(&self) -> Result<Joined, Refusal> {
+        let all_listed = self.fit() && self.addresses.len() as u64 == self.alive_rows();
+        let mut outputs = self.outputs(all_listed);
+        match ffi::join(self, &mut outputs) {
+            0 => Ok(joined::from_outputs(outputs, self)),
+            // No working space was lent, because 9 is certain once 1 to 7 have passed.
+            8 if !all_listed => Err(Refusal::Addresses),
+            answer => Err(Refusal::from_answer(answer)),
+        }
+    }
+
+    /// The alive rows sorted by time. Mode, required type and addresses play no part. If there is
+    /// no memory for so many addresses, that is [`Refusal::OutputSpace`].
+    pub fn time_order(&self) -> Result<Vec<Address>, Refusal> {
+        let rows = self.alive_rows();
+        if rows > MANY_ADDRESSES {
+            // A refused call must not cost the space of a long order that few bytes can announce.
+            self.ask_time_order()?;
+        }
+        let mut addresses = Vec::new();
+        addresses
+            .try_reserve_exact(rows as usize)
+            .map_err(|_| Refusal::OutputSpace)?;
+        addresses.resize(rows as usize, Address::default());
+        let mut count = [0];
+        match ffi::time_order(self, &mut addresses, &mut count) {
+            0 => {
+                addresses.truncate(count[0] as usize);
+                Ok(addresses)
+            }
+            answer => Err(Refusal::from_answer(answer)),
+        }
+    }
+
+    /// The time order's answers 1 to 7: with no space lent, 11 comes after them.
+    fn ask_time_order(&self) -> Result<(), Refusal> {
+        match ffi::time_order(self, &mut [], &mut [0]) {
+            0 | 11 => Ok(()),
+            answer => Err(Refusal::from_answer(answer)),
+        }
+    }
+
+    /// Space for every result these sections can have. A row with a value has one of the values,
+    /// so the values bound the row ids, however many rows are announced; terms and map are bounded
+    /// by all terms.
+    ///
+    /// An ordered join that is accepted lists each alive row once. If the number of addresses is
+    /// another one, or the sections don't fit, no working space is lent: the announced rows, which
+    /// can be billions, then cost nothing.
+    fn outputs(&self, all_listed: bool) -> ffi::Outputs {
+        let working = match self.mode == mode::ORDERED && all_listed {
+            true => self.all_rows() as usize + self.term_lengths.len(),
+            false => 0,
+        };
+        let (values, terms) = (self.values.len(), self.term_lengths.len());
+        ffi::Outputs {
+            working: vec![0; working],
+            ids: vec![0; values],
+            offsets: vec![0; values + 1],
+            values: vec![0; values],
+            term_lengths: vec![0; terms],
+            term_bytes: vec![0; self.term_bytes.len()],
+            map: vec![0; terms],
+            numbers: [0; 9],
+        }
+    }
+
+    pub(crate) fn all_rows(&self) -> u64 {
+        self.records.iter().map(|r| u64::from(r.rows)).sum()
+    }
+
+    /// How many rows are not withdrawn, if the sections fit the records; else any number.
+    pub(crate) fn alive_rows(&self) -> u64 {
+        let mut words = self.alive.iter();
+        let alive_in = |r: &Record| match r.flag {
+            1 => words
+                .by_ref()
+                .take(r.alive_words())
+                .map(|w| u64::from(w.count_ones()))
+                .sum(),
+            _ => u64::from(r.rows),
+        };
+        self.records.iter().map(alive_in).sum()
+    }
+
+    /// Whether each section is as long as the records, or the term lengths, announce it.
+    pub(crate) fn fit(&self) -> bool {
+        let sum = |of: fn(&Record) -> usize| self.records.iter().map(|r| of(r) as u128).sum();
+        let bytes: u128 = self.term_lengths.iter().map(|&n| u128::from(n)).sum();
+        let announced: [u128; 6] = [
+            sum(|r| r.ids as usize),
+            sum(|r| r.offsets as usize),
+            sum(|r| r.values as usize),
+            sum(|r| r.terms as usize),
+            sum(Record::alive_words),
+            bytes,
+        ];
+        let there = [
+            self.ids.len(),
+            self.offsets.len(),
+            self.values.len(),
+            self.term_lengths.len(),
+            self.alive.len(),
+            self.term_bytes.len(),
+        ];
+        announced == there.map(|n| n as u128)
+    }
+
+    /// The sections cut into segments, if they fit the records.
+    pub(crate) fn cut(&self) -> Option<Vec<Cut<'_>>> {
+        if !self.fit() {
+            return None;
+        }
+        let (mut ids, mut offsets, mut values) = (&*self.ids, &*self.offsets, &*self.values);
+        let (mut lengths, mut bytes, mut alive) =
+            (&*self.term_lengths, &*self.term_bytes, &*self.alive);
+        let cut = |r: &Record| {
+            let term_lengths = take(&mut lengths, r.terms as usize);
+            let term_bytes = term_lengths.iter().map(|&n| n as usize).sum();
+            Cut {
+                record: *r,
+                ids: take(&mut ids, r.ids as usize),
+                offsets: take(&mut offsets, r.offsets as usize),
+                values: take(&mut values, r.values as usize),
+                term_lengths,
+                term_bytes: take(&mut bytes, term_bytes),
+                alive: (r.flag == 1).then(|| take(&mut alive, r.alive_words())),
+            }
+        };
+        Some(self.records.iter().map(cut).collect())
+    }
+}
+
+/// The first elements of a run, which is left with the others.
+fn take<'a, T>(run: &mut &'a [T], n: usize) -> &'a [T] {
+    let (part, rest) = run.split_at(n);
+    *run = rest;
+    part
+}
+
+/// One segment's part of the sections.
+pub(crate) struct Cut<'a> {
+    pub record: Record,
+    pub ids: &'a [u32],
+    pub offsets: &'a [u32],
+    pub values: &'a [u64],
+    pub term_lengths: &'a [u32],
+    pub term_bytes: &'a [u8],
+    pub alive: Option<&'a [u64]>,
+}
+
+impl<'a> Cut<'a> {
+    pub fn typ(&self) -> Option<ColumnType> {
+        ColumnType::from_code(self.record.typ)
+    }
+
+    pub fn terms(&self) -> impl Iterator<Item = &'a [u8]> + use<'a> {
+        let mut bytes = self.term_bytes;
+        self.term_lengths
+            .iter()
+            .map(move |&n| take(&mut bytes, n as usize))
+    }
+
+    pub fn is_alive(&self, row: u32) -> bool {
+        self.alive.is_none_or(|words| is_alive(words, row))
+    }
+
+    /// The rows that can have values, ascending, each with its part of the values. For a segment
+    /// whose lists fit its kind (answer 4).
+    pub fn cells(&self) -> impl Iterator<Item = (u32, Range<usize>)> + '_ {
+        let ranks = match self.record.kind {
+            kind::EMPTY => 0,
+            kind::FULL | kind::OLD_MULTIVALUED => self.record.rows as usize,
+            _ => self.ids.len(),
+        };
+        (0..ranks).map(|rank| {
+            let row = self.ids.get(rank).map_or(rank as u32, |&id| id);
+            let part = match self.offsets {
+                [] => rank..rank + 1,
+                offsets => offsets[rank] as usize..offsets[rank + 1] as usize,
+            };
+            (row, part)
+        })
+    }
+
+    /// Whether the column is held: it has values, and one in an alive row.
+    pub fn is_held(&self) -> bool {
+        let used = || {
+            self.cells()
+                .any(|(row, part)| !part.is_empty() && self.is_alive(row))
+        };
+        self.typ().is_some() && !self.values.is_empty() && (self.alive.is_none() || used())
+    }
+}

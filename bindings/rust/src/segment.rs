@@ -1,0 +1,346 @@
+use crate::alive::{AliveSet, words_for};
+use crate::codes::{ColumnType, code_of, kind, mode};
+use crate::refusal::Refusal;
+use crate::sections::{Record, Sections};
+use crate::terms::Terms;
+use std::collections::BTreeMap;
+
+/// Which rows of a segment have values, and how many.
+#[derive(Clone, Debug, PartialEq, Eq)]
+pub enum Index {
+    /// No row has a value.
+    Empty,
+    /// Each row has one value.
+    Full,
+    /// The rows of the ids have one value each.
+    Optional { ids: Vec<u32> },
+    /// A row has the values between its number's offset and the next: one offset more than rows.
+    OldMultivalued { offsets: Vec<u32> },
+    /// A row of the ids has the values between the offset at its place and the next: one offset
+    /// more than ids.
+    NewMultivalued { ids: Vec<u32>, offsets: Vec<u32> },
+}
+
+impl Index {
+    fn kind(&self) -> u32 {
+        match self {
+            Index::Empty => kind::EMPTY,
+            Index::Full => kind::FULL,
+            Index::Optional { .. } => kind::OPTIONAL,
+            Index::OldMultivalued { .. } => kind::OLD_MULTIVALUED,
+            Index::NewMultivalued { .. } => kind::NEW_MULTIVALUED,
+        }
+    }
+
+    fn lists(&self) -> (&[u32], &[u32]) {
+        match self {
+            Index::Empty | Index::Full => (&[], &[]),
+            Index::Optional { ids } => (ids, &[]),
+            Index::OldMultivalued { offsets } => (&[], offsets),
+            Index::NewMultivalued { ids, offsets } => (ids, offsets),
+        }
+    }
+}
+
+/// One column of one segment.
+///
+/// The constructors check nothing: a join refuses, by number, whatever doesn't fit together.
+/// Values are 64-bit words: two's complement for I64 and DateTime, IEEE bits for F64, 0 or 1 for
+/// Bool, ordinals of the terms for Bytes and Str. The constructors that take rows make the words,
+/// the terms and the lists themselves.
+#[derive(Clone, Debug, PartialEq, Eq)]
+pub struct Segment {
+    typ: Option<ColumnType>,
+    index: Index,
+    /// Wider than the library's 32 bits, so that too many rows are seen and not cut.
+    rows: u64,
+    values: Vec<u64>,
+    terms: Terms,
+    alive: Option<AliveSet>,
+}
+
+/// Constructors by lists.
+impl Segment {
+    /// A segment that lacks the column.
+    pub fn no_column(rows: u32) -> Segment {
+        Segment::from_parts(None, Index::Empty, rows, Vec::new(), Terms::default())
+    }
+
+    /// A column without values.
+    pub fn empty(typ: ColumnType, rows: u32) -> Segment {
+        Segment::new(typ, Index::Empty, rows, Vec::new())
+    }
+
+    /// One value in each row.
+    pub fn full(typ: ColumnType, values: Vec<u64>) -> Segment {
+        let rows = values.len() as u64;
+        Segment {
+            rows,
+            ..Segment::new(typ, Index::Full, 0, values)
+        }
+    }
+
+    /// One value in each row of the ids.
+    pub fn optional(typ: ColumnType, rows: u32, ids: Vec<u32>, values: Vec<u64>) -> Segment {
+        Segment::new(typ, Index::Optional { ids }, rows, values)
+    }
+
+    /// Any number of values in each row, by the old index; see [`Index::OldMultivalued`].
+    pub fn old_multivalued(
+        typ: ColumnType,
+        rows: u32,
+        offsets: Vec<u32>,
+        values: Vec<u64>,
+    ) -> Segment {
+        Segment::new(typ, Index::OldMultivalued { offsets }, rows, values)
+    }
+
+    /// Any number of values in each row, by the new index; see [`Index::NewMultivalued`].
+    pub fn new_multivalued(
+        typ: ColumnType,
+        rows: u32,
+        ids: Vec<u32>,
+        offsets: Vec<u32>,
+        values: Vec<u64>,
+    ) -> Segment {
+        Segment::new(typ, Index::NewMultivalued { ids, offsets }, rows, values)
+    }
+
+    /// The segment with these terms, for values that are ordinals.
+    pub fn with_terms<T: AsRef<[u8]>>(mut self, terms: impl IntoIterator<Item = T>) -> Segment {
+        self.terms = terms.into_iter().collect();
+        self
+    }
+
+    /// The segment with an alive set, for an ordered join or a time order.
+    pub fn with_alive(mut self, alive: AliveSet) -> Segment {
+        self.alive = Some(alive);
+        self
+    }
+
+    /// The segment with an alive set in which all rows but these are alive.
+    pub fn without_rows(self, withdrawn: impl IntoIterator<Item = u32>) -> Segment {
+        let mut alive = AliveSet::all(u32::try_from(self.rows).unwrap_or(u32::MAX));
+        withdrawn.into_iter().for_each(|row| alive.withdraw(row));
+        self.with_alive(alive)
+    }
+
+    fn new(typ: ColumnType, index: Index, rows: u32, values: Vec<u64>) -> Segment {
+        Segment::from_parts(Some(typ), index, rows, values, Terms::default())
+    }
+
+    pub(crate) fn from_parts(
+        typ: Option<ColumnType>,
+        index: Index,
+        rows: u32,
+        values: Vec<u64>,
+        terms: Terms,
+    ) -> Segment {
+        Segment {
+            typ,
+            index,
+            rows: u64::from(rows),
+            values,
+            terms,
+            alive: None,
+        }
+    }
+}
+
+/// What the segment holds.
+impl Segment {
+    /// The column's type; none if the segment lacks the column.
+    pub fn column_type(&self) -> Option<ColumnType> {
+        self.typ
+    }
+
+    pub fn index(&self) -> &Index {
+        &self.index
+    }
+
+    /// More than 4294967294 are refused by every call.
+    pub fn rows(&self) -> u64 {
+        self.rows
+    }
+
+    pub fn values(&self) -> &[u64] {
+        &self.values
+    }
+
+    pub fn terms(&self) -> &Terms {
+        &self.terms
+    }
+
+    pub fn alive(&self) -> Option<&AliveSet> {
+        self.alive.as_ref()
+    }
+}
+
+/// Constructors by rows: each row gives its values, as an `Option`, an array, a `Vec`. The index
+/// becomes Full if every row has one value, Optional if none has more, else new multivalued.
+impl Segment {
+    pub fn i64s<R: IntoIterator<Item = i64>>(rows: impl IntoIterator<Item = R>) -> Segment {
+        Segment::from_rows(ColumnType::I64, rows, |v| v as u64)
+    }
+
+    pub fn u64s<R: IntoIterator<Item = u64>>(rows: impl IntoIterator<Item = R>) -> Segment {
+        Segment::from_rows(ColumnType::U64, rows, |v| v)
+    }
+
+    pub fn f64s<R: IntoIterator<Item = f64>>(rows: impl IntoIterator<Item = R>) -> Segment {
+        Segment::from_rows(ColumnType::F64, rows, f64::to_bits)
+    }
+
+    pub fn bools<R: IntoIterator<Item = bool>>(rows: impl IntoIterator<Item = R>) -> Segment {
+        Segment::from_rows(ColumnType::Bool, rows, u64::from)
+    }
+
+    pub fn date_times<R: IntoIterator<Item = i64>>(rows: impl IntoIterator<Item = R>) -> Segment {
+        Segment::from_rows(ColumnType::DateTime, rows, |v| v as u64)
+    }
+
+    pub fn strs<'a, R: IntoIterator<Item = &'a str>>(rows: impl IntoIterator<Item = R>) -> Segment {
+        let rows = rows
+            .into_iter()
+            .map(|row| row.into_iter().map(str::as_bytes));
+        Segment::from_term_rows(ColumnType::Str, rows)
+    }
+
+    pub fn byte_strings<'a, R: IntoIterator<Item = &'a [u8]>>(
+        rows: impl IntoIterator<Item = R>,
+    ) -> Segment {
+        Segment::from_term_rows(ColumnType::Bytes, rows)
+    }
+
+    fn from_term_rows<'a, R: IntoIterator<Item = &'a [u8]>>(
+        typ: ColumnType,
+        rows: impl IntoIterator<Item = R>,
+    ) -> Segment {
+        let mut numbers: BTreeMap<&[u8], u64> = BTreeMap::new();
+        let mut segment = Segment::from_rows(typ, rows, |term| {
+            let next = numbers.len() as u64;
+            *numbers.entry(term).or_insert(next)
+        });
+        // The terms were numbered as they came; their ordinals go by their order.
+        let mut ordinals = vec![0; numbers.len()];
+        for (ordinal, (term, number)) in numbers.into_iter().enumerate() {
+            ordinals[number as usize] = ordinal as u64;
+            segment.terms.push(term);
+        }
+        segment
+            .values
+            .iter_mut()
+            .for_each(|value| *value = ordinals[*value as usize]);
+        segment
+    }
+
+    fn from_rows<V, R: IntoIterator<Item = V>>(
+        typ: ColumnType,
+        rows: impl IntoIterator<Item = R>,
+        mut word: impl FnMut(V) -> u64,
+    ) -> Segment {
+        let (mut ids, mut offsets, mut values) = (Vec::new(), vec![0], Vec::new());
+        let mut count = 0;
+        for row in rows {
+            let before = values.len();
+            values.extend(row.into_iter().map(&mut word));
+            if values.len() > before {
+                // Cut numbers are never handed on: so many rows or values are refused as such.
+                ids.push(count as u32);
+                offsets.push(values.len() as u32);
+            }
+            count += 1;
+        }
+        let index = match (ids.len(), values.len()) {
+            (rows, all) if rows < all => Index::NewMultivalued { ids, offsets },
+            (rows, _) if rows as u64 == count => Index::Full,
+            _ => Index::Optional { ids },
+        };
+        Segment {
+            rows: count,
+            ..Segment::new(typ, index, 0, values)
+        }
+    }
+}
+
+impl Sections {
+    /// The sections of a stacked join of the segments without a required type.
+    pub fn of(segments: &[Segment]) -> Result<Sections, Refusal> {
+        let mut sections = Sections {
+            mode: mode::STACKED,
+            required: code_of(None),
+            ..Sections::default()
+        };
+        segments
+            .iter()
+            .try_for_each(|segment| sections.push(segment))?;
+        Ok(sections)
+    }
+
+    /// Adds a segment's record and lists. A number that 32 bits can't hold is refused here, and so
+    /// is an alive set of another number of words than the rows need: the library compares sums
+    /// only, and could take such words for the next segment's.
+    fn push(&mut self, segment: &Segment) -> Result<(), Refusal> {
+        let (ids, offsets) = segment.index.lists();
+        let rows = u32::try_from(segment.rows).map_err(|_| Refusal::TooLarge)?;
+        let record = Record {
+            typ: code_of(segment.typ),
+            kind: segment.index.kind(),
+            rows,
+            ids: length(ids)?,
+            offsets: length(offsets)?,
+            values: length(&segment.values)?,
+            terms: u32::try_from(segment.terms.len()).map_err(|_| Refusal::Lengths)?,
+            flag: u32::from(segment.alive.is_some()),
+        };
+        if let Some(alive) = &segment.alive {
+            if alive.words().len() != words_for(rows) {
+                return Err(Refusal::Lengths);
+            }
+            self.alive.extend_from_slice(alive.words());
+        }
+        for term in segment.terms.iter() {
+            self.term_lengths.push(length(term)?);
+        }
+        self.records.push(record);
+        self.ids.extend_from_slice(ids);
+        self.offsets.extend_from_slice(offsets);
+        self.values.extend_from_slice(&segment.values);
+        self.term_bytes.extend_from_slice(segment.terms.bytes());
+        Ok(())
+    }
+}
+
+fn length<T>(list: &[T]) -> Result<u32, Refusal> {
+    u32::try_from(list.len()).map_err(|_| Refusal::Lengths)
+}
+
+#[cfg(test)]
+mod tests {
+    use super::*;
+
+    /// What 32 bits can't count is not cut.
+    #[test]
+    fn too_many_rows() {
+        let segment = Segment {
+            rows: 1 << 32,
+            ..Segment::no_column(0)
+        };
+        assert_eq!(Sections::of(&[segment]), Err(Refusal::TooLarge));
+    }
+
+    #[test]
+    fn indexes_of_rows() {
+        let index = |rows: &[&[u64]]| {
+            let rows = rows.iter().map(|row| row.iter().copied());
+            Segment::u64s(rows).index
+        };
+        assert_eq!(index(&[]), Index::Full);
+        assert_eq!(index(&[&[7], &[8]]), Index::Full);
+        assert_eq!(index(&[&[], &[8]]), Index::Optional { ids: vec![1] });
+        assert_eq!(index(&[&[], &[]]), Index::Optional { ids: vec![] });
+        let (ids, offsets) = (vec![1, 2], vec![0, 2, 3]);
+        let several = index(&[&[], &[7, 8], &[9]]);
+        assert_eq!(several, Index::NewMultivalued { ids, offsets });
+    }
+}

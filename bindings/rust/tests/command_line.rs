@@ -1,0 +1,420 @@
+//! The command line, as a process.
+use std::fs;
+use std::io::Write;
+use std::path::PathBuf;
+use std::process::{Command, Output, Stdio};
+
+const C1: &str = "mode stacked\n\
+    segment type Str kind Optional rows 2 ids 1 values 0 terms \"b\"\n\
+    segment type Str kind Full rows 2 values 1 0 terms \"a\" \"b\"\n";
+const C1_LISTING: &str = "answer 0\ntype 4\nclass 1\nrows 4\nids 3 1 2 3\noffsets 0\n\
+    values 3 1 1 0\nterms 2 61 62\nmaps 3 1 0 1\n";
+const C13: &str = "segment type DateTime kind Optional rows 3 ids 0 2 values 10 30\n\
+    segment type DateTime kind Optional rows 2 ids 1 values 20\n";
+
+fn jadmirus(words: &[&str], input: &[u8]) -> Output {
+    let mut child = Command::new(env!("CARGO_BIN_EXE_jadmirus"))
+        .args(words)
+        .stdin(Stdio::piped())
+        .stdout(Stdio::piped())
+        .stderr(Stdio::piped())
+        .spawn()
+        .unwrap();
+    // A program that has seen enough closes its input.
+    let _ = child.stdin.take().unwrap().write_all(input);
+    child.wait_with_output().unwrap()
+}
+
+/// Standard output, standard error and the exit status.
+fn run(words: &[&str], input: &[u8]) -> (String, String, i32) {
+    let output = jadmirus(words, input);
+    let text = |bytes| String::from_utf8(bytes).unwrap();
+    (
+        text(output.stdout),
+        text(output.stderr),
+        output.status.code().unwrap(),
+    )
+}
+
+fn accepted(words: &[&str], input: &[u8]) -> String {
+    let (out, err, status) = run(words, input);
+    assert_eq!((&*err, status), ("", 0), "{words:?}");
+    out
+}
+
+/// A file name in a folder of the tests' own.
+fn file(name: &str) -> String {
+    let folder = PathBuf::from(env!("CARGO_TARGET_TMPDIR"));
+    folder.join(name).to_str().unwrap().to_string()
+}
+
+fn wire(words: &[u64]) -> Vec<u8> {
+    words.iter().flat_map(|word| word.to_le_bytes()).collect()
+}
+
+#[test]
+fn join_of_a_sheet_and_of_its_wire_form() {
+    assert_eq!(accepted(&["join", "-"], C1.as_bytes()), C1_LISTING);
+    let encoded = jadmirus(&["encode", "-"], C1.as_bytes()).stdout;
+    let expected = [
+        &[2, 0, 255, 2, 4, 2, 2, 1, 0, 1, 1, 0, 4, 1, 2, 0, 0, 2, 2, 0][..],
+        &[1, 1, 0, 3, 0, 1, 0, 3, 1, 1, 1, 3, 98, 97, 98, 0, 0],
+    ];
+    assert_eq!(encoded, wire(&expected.concat()));
+    let path = file("c1.wire");
+    fs::write(&path, encoded).unwrap();
+    assert_eq!(accepted(&["join", &path], b""), C1_LISTING);
+    assert_eq!(
+        accepted(&["join", "--from", "wire", &path], b""),
+        C1_LISTING
+    );
+    assert_eq!(accepted(&["check", &path], b""), "answer 0\naccepted\n");
+}
+
+#[test]
+fn rows_in_words() {
+    assert_eq!(
+        accepted(&["join", "--rows", "-"], C1.as_bytes()),
+        "1 \"b\"\n2 \"b\"\n3 \"a\"\n"
+    );
+}
+
+#[test]
+fn refusals() {
+    let sheet = "mode stacked segment type Bool kind Full values 2";
+    let (out, err, status) = run(&["join", "-"], sheet.as_bytes());
+    assert_eq!((&*out, status), ("answer 5\n", 1));
+    assert!(err.contains("standard input: answer 5 (values or terms): A value is impossible"));
+    let path = file("refused.sheet");
+    fs::write(&path, sheet).unwrap();
+    let (_, err, _) = run(&["join", &path], b"");
+    assert!(
+        err.contains(&format!("'jadmirus check {path}' says where")),
+        "{err}"
+    );
+    let (out, err, status) = run(&["check", &path], b"");
+    let text = "answer 5 (values or terms)\nsegment 0, value 2 (the 1st): a Bool is 0 or 1\n";
+    assert_eq!((&*out, &*err, status), (text, "", 1));
+}
+
+/// What the check says of each answer's example.
+#[test]
+fn places_of_faults() {
+    let told = |sheet: &str| {
+        let (out, err, status) = run(&["check", "-"], sheet.as_bytes());
+        assert_eq!((&*err, status), ("", 1), "{sheet}");
+        out.lines().nth(1).unwrap_or_default().to_string()
+    };
+    let many = "segment rows 0\n".repeat(257);
+    let cases = [
+        (
+            &*many,
+            "segments: 257 are there, and a call takes at most 256",
+        ),
+        (
+            "record 1 1 1 0 0 1 0 0",
+            "segment 0, values: the segments up to this one announce 1, and 0 are there",
+        ),
+        (
+            "segment type 6 kind Full values 1",
+            "segment 0, type 6: no known type",
+        ),
+        (
+            "mode 2",
+            "mode 2: the modes are 0 (stacked) and 1 (ordered)",
+        ),
+        (
+            "segment rows 1 segment type U64 kind Optional rows 3 ids 1 1 values 0 0",
+            "segment 1, row id 1 (the 2nd): not above the one before it",
+        ),
+        (
+            "segment type U64 kind Full rows 3 values 0 0",
+            "segment 0, values: 2 there, and kind Full has 3, one for each row",
+        ),
+        (
+            "segment type U64 kind OldMultivalued offsets 0 2 1 values 7",
+            "segment 0, offset 1 (the 3rd): below the one before it",
+        ),
+        (
+            "segment type Str kind Full values 0 terms \"b\" \"a\"",
+            "segment 0, term \"a\" (the 2nd): not above the one before it, \"b\"",
+        ),
+        (
+            "mode ordered segment rows 1 alive 2",
+            "segment 0, alive word 2 (the 1st): marks row 1, not below the number of rows, 1",
+        ),
+        (
+            "segment rows 4294967295",
+            "rows: all segments have 4294967295 together, above 4294967294",
+        ),
+        (
+            "mode ordered segment rows 1 addresses 0:0 0:0",
+            "address 0:0 (the 2nd): listed before, as the 1st",
+        ),
+        (
+            "mode ordered segment rows 3 withdrawn 1 addresses 0:2 0:1",
+            "address 0:1 (the 2nd): the row is withdrawn",
+        ),
+        (
+            "mode ordered segment rows 4294967294 addresses 0:0",
+            "segment 0, row 1: not withdrawn, and no address names it",
+        ),
+        (
+            "segment type Str kind Empty rows 1 segment type Bool kind Full values true",
+            "types: segment 0 is Str, segment 1 is Bool, and these can't be one column",
+        ),
+        (
+            "required I64 segment type U64 kind Full values 1 9223372036854775808",
+            "segment 0, value 9223372036854775808 (the 2nd): of type U64, and can't become the \
+             required type I64",
+        ),
+    ];
+    for (sheet, text) in cases {
+        assert_eq!(told(sheet), text);
+    }
+}
+
+#[test]
+fn time_order() {
+    let addresses = "addresses 1:0 0:0 0:1 1:1 0:2\n";
+    assert_eq!(accepted(&["order", "-"], C13.as_bytes()), addresses);
+    assert_eq!(
+        accepted(&["check", "--times", "-"], C13.as_bytes()),
+        "answer 0\naccepted\n"
+    );
+    // What it prints completes an ordered join's sheet.
+    let sheet = format!("mode ordered\n{C13}{addresses}");
+    assert!(accepted(&["join", "-"], sheet.as_bytes()).contains("\nvalues 3 10 20 30\n"));
+    let falling = "segment type DateTime kind Full values 5 4";
+    let (out, err, status) = run(&["order", "-"], falling.as_bytes());
+    assert_eq!((&*out, status), ("answer 12\n", 1));
+    assert!(err.contains("answer 12 (times)"));
+    let (out, _, status) = run(&["check", "--times", "-"], falling.as_bytes());
+    let text = "answer 12 (times)\nsegment 0, time 4 (the 2nd): before the one above it, 5\n";
+    assert_eq!((&*out, status), (text, 1));
+}
+
+#[test]
+fn results_are_handed_on() {
+    let (week, other) = (file("week.result"), file("other.result"));
+    accepted(&["join", "-", "--output", &week], C1.as_bytes());
+    let sheet =
+        "segment\ntype Str\nkind Optional\nrows 4\nids 1 2 3\nvalues 1 1 0\nterms \"a\" \"b\"\n";
+    assert_eq!(fs::read_to_string(&week).unwrap(), sheet);
+    assert!(!PathBuf::from(format!("{week}.part")).exists());
+    assert_eq!(accepted(&["join", "-", "--output=-"], C1.as_bytes()), sheet);
+    // Sheets of results can be put together.
+    let two = format!("{sheet}{sheet}");
+    let listing = accepted(&["join", "-"], two.as_bytes());
+    assert!(listing.contains("\nids 6 1 2 3 5 6 7\n"), "{listing}");
+    // An input may be replaced by its own result.
+    fs::write(&other, C1).unwrap();
+    accepted(&["join", &other, "--as", "wire", "--output", &other], b"");
+    assert_eq!(
+        accepted(&["show", &other], b""),
+        format!("mode stacked\nrequired none\n\n{sheet}")
+    );
+}
+
+#[test]
+fn damaged_wire_forms() {
+    let cut = wire(&[2, 0, 255, 0, 0]);
+    let (out, err, status) = run(&["join", "-"], &cut);
+    assert_eq!((&*out, status), ("answer 2\n", 1));
+    assert!(
+        err.contains("byte 40: the input is cut: no whole count (offset)"),
+        "{err}"
+    );
+    let (out, _, status) = run(&["check", "-"], &cut);
+    assert_eq!(status, 1);
+    assert!(out.starts_with("answer 2 (lengths)\nbyte 40: "), "{out}");
+    assert_eq!(run(&["order", "-"], &cut).0, "answer 2\n");
+    let (out, err, status) = run(&["show", "-"], &cut);
+    assert_eq!((&*out, status), ("", 2));
+    assert!(
+        err.starts_with("jadmirus: standard input: byte 40: "),
+        "{err}"
+    );
+    let first = wire(&[3; 20]);
+    assert_eq!(run(&["join", "-"], &first).0, "answer 2\n");
+}
+
+/// Sections that don't fit their records are shown as wholes, and come back too.
+#[test]
+fn sections_as_wholes() {
+    let words = [
+        2, 0, 255, 1, 4, 1, 2, 0, 0, 2, 1, 0, 0, 0, 1, 7, 1, 3, 2, 97, 98, 1, 5, 1, 0, 9,
+    ];
+    let input = wire(&words);
+    let sheet = accepted(&["show", "-"], &input);
+    assert!(sheet.contains("# segment 0, values: the segments up to this one announce 2"));
+    assert!(sheet.contains("\nrecord 4 1 2 0 0 2 1 0\n"), "{sheet}");
+    assert_eq!(jadmirus(&["encode", "-"], sheet.as_bytes()).stdout, input);
+}
+
+#[test]
+fn faults_of_sheets() {
+    let path = file("faulty.sheet");
+    let cases = [
+        ("", "line 1: there is nothing in this sheet"),
+        ("# nothing\n\n", "line 2: there is nothing in this sheet"),
+        (
+            "mode\nsegment rows 1",
+            "line 1: 'mode' wants a word after it",
+        ),
+        (
+            "mode sorted",
+            "line 1: mode: 'sorted' is no mode: the modes are stacked and ordered",
+        ),
+        (
+            "mode stacked mode ordered",
+            "line 1: mode: it is given twice, and differs",
+        ),
+        (
+            "7",
+            "line 1: '7' begins no entry; the words that do are mode, required, segment",
+        ),
+        ("segment\nrows 2 3", "line 2: rows: takes one word"),
+        (
+            "segment rows 1\nids 0 x",
+            "line 2: ids: 'x' is no number from 0 to 4294967295",
+        ),
+        (
+            "segment rows 1\nids 4294967296",
+            "line 2: ids: '4294967296' is no number from 0",
+        ),
+        (
+            "segment\ntype U64\nrows 1",
+            "line 1: this segment has no 'kind'",
+        ),
+        (
+            "\nsegment\ntype U64 kind Empty",
+            "line 2: this segment has no 'rows'",
+        ),
+        (
+            "segment values 1",
+            "line 1: the segment's 'type' must stand before its values",
+        ),
+        (
+            "segment type I64 kind Full\nvalues 1.5",
+            "line 2: values: '1.5' is no number from -9",
+        ),
+        (
+            "segment type F64 kind Full\nvalues x",
+            "line 2: values: 'x' is no decimal number",
+        ),
+        (
+            "segment type Bool kind Full\nvalues yes",
+            "line 2: values: 'yes' is neither true nor",
+        ),
+        (
+            "segment rows 1\nrows 2",
+            "line 2: 'rows' stands before, in line 1, for the same",
+        ),
+        (
+            "segment rows 1\nwithdrawn 1",
+            "line 2: row 1 is not below the number of rows, 1",
+        ),
+        (
+            "segment rows 65\nalive 1",
+            "line 2: an alive set has a word for each 64 rows or part of them, so 2",
+        ),
+        (
+            "segment rows 1 alive 1\nwithdrawn 0",
+            "line 2: a segment has 'alive' or 'withdrawn'",
+        ),
+        (
+            "segment rows 1 flag 1",
+            "line 1: flag 1 says that an alive set follows",
+        ),
+        (
+            "segment type Str kind Full\nvalues \"a\nb\"",
+            "line 2: a quoted text has no end",
+        ),
+        (
+            "segment type U64 kind Full values \"a\"",
+            "line 1: values: only values of type Str or",
+        ),
+        (
+            "segment type Str kind Full\nvalues \"a\"\nterms \"b\"",
+            "line 2: value \"a\" is not among the segment's terms",
+        ),
+        (
+            "addresses 0:1 2",
+            "line 1: addresses: '2' is no address, which is written SEGMENT:ROW",
+        ),
+        ("rows 1", "line 1: 'rows' stands before the first 'segment'"),
+        (
+            "ids 1 segment rows 1",
+            "line 1: a sheet has either segments, or records and sections",
+        ),
+        (
+            "record 1 2 3",
+            "line 1: 'record' wants eight numbers after it",
+        ),
+    ];
+    for (sheet, text) in cases {
+        fs::write(&path, sheet).unwrap();
+        let (out, err, status) = run(&["join", &path], b"");
+        assert_eq!((&*out, status), ("", 2), "{sheet}");
+        assert!(
+            err.starts_with(&format!("jadmirus: {path}: {text}")),
+            "{sheet}: {err}"
+        );
+    }
+    for input in [&b"mode \xff"[..], b"\xff\xfem\0o\0d\0e\0"] {
+        let (_, err, status) = run(&["join", "-"], input);
+        assert_eq!(
+            (&*err, status),
+            (
+                "jadmirus: standard input: line 1: this is no UTF-8 text\n",
+                2
+            )
+        );
+    }
+}
+
+#[test]
+fn usage() {
+    for words in [
+        &["--help"][..],
+        &["-h"],
+        &["join", "--help"],
+        &["order", "-h"],
+    ] {
+        assert!(accepted(words, b"").contains("jadmirus"), "{words:?}");
+    }
+    for command in ["join", "order", "check", "encode", "show"] {
+        let help = accepted(&[command, "--help"], b"");
+        assert!(help.starts_with(&format!("jadmirus {command} ")));
+        assert!(help.contains("Exit status: "));
+    }
+    assert!(accepted(&["--version"], b"").starts_with("jadmirus "));
+    let wrong: [&[&str]; 8] = [
+        &[],
+        &["merge"],
+        &["join"],
+        &["join", "a", "b"],
+        &["join", "--times", "a"],
+        &["join", "a", "--output"],
+        &["join", "a", "--from", "csv"],
+        &["check", "--output", "b", "a"],
+    ];
+    for words in wrong {
+        let (out, err, status) = run(words, b"");
+        assert_eq!((&*out, status), ("", 2), "{words:?}");
+        assert!(err.contains("--help'"), "{words:?}: {err}");
+    }
+    let (_, err, status) = run(&["join", &file("absent")], b"");
+    assert_eq!(status, 2);
+    assert!(
+        err.starts_with(&format!("jadmirus: {}: ", file("absent"))),
+        "{err}"
+    );
+    let (_, err, status) = run(
+        &["encode", "-", "--output", &file("no/such/folder")],
+        C1.as_bytes(),
+    );
+    assert_eq!(status, 2);
+    assert!(err.contains("no/such/folder: "), "{err}");
+}

@@ -1,0 +1,365 @@
+//! Thousands of small inputs from a fixed seed, sound and damaged: the explanation is held to the
+//! library's answer, and each input must come back from its sheet and from its wire form.
+use jadmirus::{
+    Address, AliveSet, ColumnType, Joined, Order, Refusal, Sections, Segment, explain, join, sheet,
+    time_order,
+};
+use std::collections::BTreeSet;
+
+/// A xorshift generator.
+struct Chance(u64);
+
+impl Chance {
+    fn next(&mut self) -> u64 {
+        self.0 ^= self.0 << 13;
+        self.0 ^= self.0 >> 7;
+        self.0 ^= self.0 << 17;
+        self.0.wrapping_mul(0x2545_f491_4f6c_dd1d)
+    }
+
+    fn below(&mut self, bound: usize) -> usize {
+        (self.next() >> 32) as usize % bound
+    }
+
+    fn one_of<T: Copy>(&mut self, list: &[T]) -> T {
+        list[self.below(list.len())]
+    }
+
+    /// Once in so many times.
+    fn once_in(&mut self, times: usize) -> bool {
+        self.below(times) == 0
+    }
+}
+
+const WORDS: [u64; 7] = [
+    0,
+    1,
+    2,
+    i64::MAX as u64 - 1,
+    i64::MAX as u64,
+    1 << 63,
+    u64::MAX,
+];
+const NUMBERS: [u32; 9] = [0, 1, 2, 3, 5, 64, 65, 255, u32::MAX];
+const TERMS: [&[u8]; 6] = [b"", b"\x00", b"a", b"ab", b"b", b"\xff\"\\"];
+
+/// The values of each row.
+fn rows(chance: &mut Chance, typ: ColumnType) -> Vec<Vec<u64>> {
+    let most = chance.one_of(&[1, 1, 1, 3]);
+    let rows = chance.one_of(&[0, 1, 2, 3, 5, 64, 70]);
+    let mut time = 0;
+    let mut value = |chance: &mut Chance| match typ {
+        ColumnType::Bool => chance.below(2) as u64,
+        ColumnType::Bytes | ColumnType::Str => chance.below(TERMS.len()) as u64,
+        ColumnType::DateTime => {
+            time += chance.below(3) as u64;
+            time
+        }
+        _ => chance.one_of(&WORDS),
+    };
+    let full = chance.once_in(3);
+    let mut row = |chance: &mut Chance| {
+        let values = if full { 1 } else { chance.below(most + 1) };
+        (0..values).map(|_| value(chance)).collect()
+    };
+    (0..rows).map(|_| row(chance)).collect()
+}
+
+/// A sound segment.
+fn segment(chance: &mut Chance, typ: ColumnType) -> Segment {
+    let rows = rows(chance, typ);
+    if chance.once_in(8) {
+        return Segment::no_column(rows.len() as u32);
+    }
+    let words: Vec<u64> = rows.concat();
+    let ends = rows.iter().scan(0, |end, row| {
+        *end += row.len() as u32;
+        Some(*end)
+    });
+    let offsets: Vec<u32> = std::iter::once(0).chain(ends).collect();
+    let count = rows.len() as u32;
+    let filled: Vec<u32> = (0..count)
+        .filter(|&row| !rows[row as usize].is_empty())
+        .collect();
+    let segment = match rows.iter().map(Vec::len).max().unwrap_or(0) {
+        _ if chance.once_in(4) => Segment::old_multivalued(typ, count, offsets, words),
+        0 => Segment::empty(typ, count),
+        1 if filled.len() == rows.len() => Segment::full(typ, words),
+        1 => Segment::optional(typ, count, filled, words),
+        _ => {
+            let offsets = offsets
+                .into_iter()
+                .collect::<BTreeSet<u32>>()
+                .into_iter()
+                .collect();
+            Segment::new_multivalued(typ, count, filled, offsets, words)
+        }
+    };
+    let empty = rows.iter().all(Vec::is_empty);
+    if typ.has_terms() && !empty {
+        segment.with_terms(TERMS)
+    } else {
+        segment
+    }
+}
+
+/// A sound call, mostly of one type.
+fn call(chance: &mut Chance) -> Sections {
+    let typ = chance.one_of(&ColumnType::ALL);
+    let ordered = chance.once_in(2);
+    let mut segments = Vec::new();
+    for _ in 0..chance.below(4) {
+        let number = [ColumnType::I64, ColumnType::U64, ColumnType::F64];
+        let typ = if typ.is_number() {
+            chance.one_of(&number)
+        } else {
+            typ
+        };
+        let segment = segment(chance, typ);
+        segments.push(if ordered && chance.once_in(2) {
+            withdraw(chance, segment)
+        } else {
+            segment
+        });
+    }
+    let mut sections = Sections::of(&segments).unwrap();
+    if chance.once_in(4) {
+        sections.required = typ.code();
+    }
+    if ordered {
+        sections.mode = 1;
+        sections.addresses = alive_rows(&sections);
+        for i in 1..sections.addresses.len() {
+            let j = chance.below(i + 1);
+            sections.addresses.swap(i, j);
+        }
+    }
+    sections
+}
+
+fn withdraw(chance: &mut Chance, segment: Segment) -> Segment {
+    let rows = segment.rows() as u32;
+    let mut alive = AliveSet::all(rows);
+    for row in 0..rows {
+        if chance.once_in(3) {
+            alive.withdraw(row);
+        }
+    }
+    segment.with_alive(alive)
+}
+
+fn alive_rows(sections: &Sections) -> Vec<Address> {
+    let mut words = sections.alive.iter().copied();
+    let mut addresses = Vec::new();
+    for (segment, record) in (0..).zip(&sections.records) {
+        let count = if record.flag == 1 {
+            record.rows.div_ceil(64) as usize
+        } else {
+            0
+        };
+        let alive = AliveSet::from_words(words.by_ref().take(count).collect());
+        let rows = (0..record.rows).filter(|&row| record.flag == 0 || alive.is_alive(row));
+        addresses.extend(rows.map(|row| Address { segment, row }));
+    }
+    addresses
+}
+
+/// Changes, adds or removes an element.
+fn damage_list<T: Copy>(chance: &mut Chance, list: &mut Vec<T>, new: T) {
+    let place = chance.below(list.len() + 1);
+    match chance.below(3) {
+        0 if place < list.len() => list[place] = new,
+        1 if place < list.len() => drop(list.remove(place)),
+        _ => list.insert(place, new),
+    }
+}
+
+fn damage(chance: &mut Chance, s: &mut Sections) {
+    let number = chance.one_of(&NUMBERS);
+    let word = chance.one_of(&WORDS);
+    let address = Address {
+        segment: chance.below(3) as u32,
+        row: chance.below(6) as u32,
+    };
+    match chance.below(12) {
+        0 => s.mode = number,
+        1 => s.required = chance.one_of(&[0, 1, 2, 3, 4, 5, 6, 7, 8, 255]),
+        2 => damage_list(chance, &mut s.ids, number),
+        3 => damage_list(chance, &mut s.offsets, number),
+        4 => damage_list(chance, &mut s.values, word),
+        5 => damage_list(chance, &mut s.term_lengths, number.min(3)),
+        6 => damage_list(chance, &mut s.term_bytes, number as u8),
+        7 => damage_list(chance, &mut s.alive, word),
+        8 => damage_list(chance, &mut s.addresses, address),
+        _ => damage_record(chance, s, number),
+    }
+}
+
+/// Changes a record, and mostly the list that it then announces.
+fn damage_record(chance: &mut Chance, s: &mut Sections, number: u32) {
+    if s.records.is_empty() {
+        return;
+    }
+    let place = chance.below(s.records.len());
+    let last = place + 1 == s.records.len();
+    let record = &mut s.records[place];
+    match chance.below(9) {
+        0 => record.typ = chance.one_of(&[0, 1, 2, 3, 4, 5, 6, 7, 8, 255]),
+        1 => record.kind = chance.below(6) as u32,
+        2 => record.rows = number,
+        3 => record.flag = chance.below(3) as u32,
+        4 => record.values = number,
+        5 if last && record.ids > 0 => (record.ids, _) = (record.ids - 1, s.ids.pop()),
+        6 if last && record.offsets > 0 => {
+            (record.offsets, _) = (record.offsets - 1, s.offsets.pop());
+        }
+        7 if last => {
+            record.values += 1;
+            s.values.push(number.into());
+        }
+        _ if last => {
+            record.terms += 1;
+            s.term_lengths.push(1);
+            s.term_bytes.push(number as u8);
+        }
+        _ => {}
+    }
+}
+
+fn comes_back(sections: &Sections) {
+    let (mut text, mut wire) = (Vec::new(), Vec::new());
+    sheet::write(sections, &mut text).unwrap();
+    assert_eq!(&sheet::read(&text[..]).unwrap(), sections);
+    sections.write_wire(&mut wire).unwrap();
+    assert_eq!(&Sections::read_wire(&wire[..]).unwrap(), sections);
+}
+
+/// What is said of a joined column agrees with its lists, and it can be handed on.
+fn consistent(joined: &Joined, segments: usize) {
+    let parts = (0..segments).filter_map(|segment| joined.map_of(segment));
+    assert_eq!(parts.collect::<Vec<_>>().concat(), joined.map());
+    let filled = joined
+        .filled_rows()
+        .map(|(row, values)| (row, values.len()));
+    let rows = (0..joined.rows()).map(|row| (row, joined.row(row).len()));
+    assert!(filled.eq(rows.filter(|(_, values)| *values > 0)));
+    let values = (0..joined.rows()).flat_map(|row| joined.row(row));
+    assert_eq!(values.count(), joined.values().len());
+    // A column without values is dropped from the next join.
+    if !joined.values().is_empty() {
+        let again = join(&[Segment::from(joined.clone())], Order::Stacked, None).unwrap();
+        assert_eq!(
+            (again.class(), again.rows()),
+            (joined.class(), joined.rows())
+        );
+        assert_eq!(
+            (again.ids(), again.offsets()),
+            (joined.ids(), joined.offsets())
+        );
+        assert_eq!(
+            (again.values(), again.terms()),
+            (joined.values(), joined.terms())
+        );
+    }
+}
+
+#[test]
+fn answers_are_explained() {
+    let mut chance = Chance(0x9e37_79b9_7f4a_7c15);
+    let mut met = BTreeSet::new();
+    for case in 0..20_000 {
+        let mut sections = call(&mut chance);
+        for _ in 0..chance.below(3) {
+            damage(&mut chance, &mut sections);
+        }
+        let text = || format!("case {case}: {sections:?}");
+        let joined = sections.join();
+        if let Ok(joined) = &joined
+            && joined.rows() < 1000
+        {
+            consistent(joined, sections.records.len());
+        }
+        let join = joined.err();
+        let fault = explain::join(&sections);
+        assert_eq!(
+            fault.as_ref().map(|f| f.refusal),
+            join,
+            "{} {fault:?}",
+            text()
+        );
+        let times = sections.time_order().err();
+        let fault = explain::time_order(&sections);
+        assert_eq!(
+            fault.as_ref().map(|f| f.refusal),
+            times,
+            "{} {fault:?}",
+            text()
+        );
+        met.extend([join, times].map(|answer| answer.map_or(0, Refusal::number)));
+        comes_back(&sections);
+    }
+    // 1 needs 257 segments; 8 and 11 need less space than is ever lent.
+    assert_eq!(Vec::from_iter(met), [0, 2, 3, 4, 5, 6, 7, 9, 10, 12]);
+}
+
+/// Bytes that are changed, added or removed in sheets and wire forms: nothing makes the readers fail
+/// otherwise than with a fault, and what they read is answered and explained.
+#[test]
+fn damaged_bytes() {
+    let mut chance = Chance(0xfeed_beef_dead_cafe);
+    for _ in 0..3_000 {
+        let sections = call(&mut chance);
+        let (mut text, mut wire) = (Vec::new(), Vec::new());
+        sheet::write(&sections, &mut text).unwrap();
+        sections.write_wire(&mut wire).unwrap();
+        for _ in 0..=chance.below(3) {
+            let byte = chance.one_of(b"\0\x01\x02\xff 0123456789#\"\\x:-.\nsegment");
+            damage_list(&mut chance, &mut text, byte);
+            damage_list(&mut chance, &mut wire, byte);
+        }
+        let read = [
+            sheet::read(&text[..]).ok(),
+            Sections::read_wire(&wire[..]).ok(),
+        ];
+        for sections in read.into_iter().flatten() {
+            let answer = sections.join().err();
+            assert_eq!(explain::join(&sections).map(|f| f.refusal), answer);
+            comes_back(&sections);
+        }
+    }
+}
+
+/// Document 01's words: alive rows sorted by key, segment, row. A row's key is its time, else the
+/// last time before it in its segment, else before all times.
+#[test]
+fn the_time_order_is_a_sort() {
+    let mut chance = Chance(0x1234_5678_9abc_def1);
+    for _ in 0..2_000 {
+        let (mut segments, mut expected) = (Vec::new(), Vec::new());
+        for segment in 0..chance.below(5) as u32 {
+            let (mut rows, mut withdrawn) = (Vec::new(), Vec::new());
+            let (mut last, mut key) = (-3, None);
+            for row in 0..chance.below(70) as u32 {
+                last += chance.below(3) as i64;
+                let time = chance.once_in(2).then_some(last);
+                rows.push(time);
+                key = time.or(key);
+                if chance.once_in(3) {
+                    withdrawn.push(row);
+                } else {
+                    expected.push((key, Address { segment, row }));
+                }
+            }
+            let times = Segment::date_times(rows);
+            let all_alive = withdrawn.is_empty() && chance.once_in(2);
+            segments.push(if all_alive {
+                times
+            } else {
+                times.without_rows(withdrawn)
+            });
+        }
+        expected.sort();
+        let expected: Vec<Address> = expected.into_iter().map(|(_, address)| address).collect();
+        assert_eq!(time_order(&segments).unwrap(), expected);
+    }
+}

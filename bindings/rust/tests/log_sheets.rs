@@ -1,0 +1,210 @@
+//! The log sheets C1 to C13 of document 01, by the safe interface.
+use jadmirus::{
+    Address, AliveSet, Class, ColumnType, Joined, Order, Refusal, Segment, Value, join, time_order,
+};
+
+fn stacked(segments: &[Segment]) -> Joined {
+    join(segments, Order::Stacked, None).unwrap()
+}
+
+fn ordered(segment: Segment, rows: &[u32]) -> Joined {
+    let addresses: Vec<Address> = rows
+        .iter()
+        .map(|&row| Address { segment: 0, row })
+        .collect();
+    join(&[segment], Order::Ordered(&addresses), None).unwrap()
+}
+
+/// C5's segment.
+fn multivalued() -> Segment {
+    Segment::old_multivalued(ColumnType::U64, 3, vec![0, 2, 2, 3], vec![7, 8, 9])
+}
+
+fn alive(word: u64) -> AliveSet {
+    AliveSet::from_words(vec![word])
+}
+
+fn terms(joined: &Joined) -> Vec<&[u8]> {
+    joined.terms().iter().collect()
+}
+
+#[test]
+fn c1() {
+    let first = Segment::optional(ColumnType::Str, 2, vec![1], vec![0]).with_terms(["b"]);
+    let second = Segment::full(ColumnType::Str, vec![1, 0]).with_terms(["a", "b"]);
+    let joined = stacked(&[first, second]);
+    let mut listing = Vec::new();
+    joined.write_listing(&mut listing).unwrap();
+    let expected = "answer 0\ntype 4\nclass 1\nrows 4\nids 3 1 2 3\noffsets 0\nvalues 3 1 1 0\n\
+                    terms 2 61 62\nmaps 3 1 0 1\n";
+    assert_eq!(String::from_utf8(listing).unwrap(), expected);
+    assert_eq!(joined.map_of(0), Some(&[1][..]));
+    assert_eq!(joined.map_of(1), Some(&[0, 1][..]));
+    assert_eq!(joined.map_of(2), None);
+    let rows: Vec<(u32, Vec<Value>)> = joined
+        .filled_rows()
+        .map(|(row, values)| (row, values.collect()))
+        .collect();
+    let str = |text| vec![Value::Str(text)];
+    assert_eq!(rows, [(1, str("b")), (2, str("b")), (3, str("a"))]);
+}
+
+#[test]
+fn c2_to_c4() {
+    let none = stacked(&[]);
+    assert_eq!(
+        (none.column_type(), none.class(), none.rows()),
+        (None, Class::Full, 0)
+    );
+    let required = Some(ColumnType::U64);
+    let c3 = join(&[], Order::Stacked, required).unwrap();
+    assert_eq!((c3.column_type(), c3.class()), (required, Class::Full));
+    let c4 = join(&[Segment::no_column(3)], Order::Stacked, required).unwrap();
+    assert_eq!(
+        (c4.column_type(), c4.class(), c4.rows()),
+        (required, Class::Optional, 3)
+    );
+    assert!(c4.ids().is_empty() && c4.map_of(0).is_none());
+}
+
+#[test]
+fn c5() {
+    let joined = stacked(&[multivalued()]);
+    assert_eq!(joined.class(), Class::Multivalued);
+    assert_eq!(joined.ids(), [0, 2]);
+    assert_eq!(joined.offsets(), [0, 2, 3]);
+    assert_eq!(joined.values(), [7, 8, 9]);
+    let row = |row| joined.row(row).collect::<Vec<_>>();
+    assert_eq!(row(0), [Value::U64(7), Value::U64(8)]);
+    assert_eq!(
+        (row(1), row(2), row(3)),
+        (vec![], vec![Value::U64(9)], vec![])
+    );
+}
+
+#[test]
+fn c6_to_c8() {
+    let c6 = ordered(multivalued().with_alive(alive(5)), &[2, 0]);
+    assert_eq!((c6.ids(), c6.offsets()), (&[0, 1][..], &[0, 1, 3][..]));
+    assert_eq!(c6.values(), [9, 7, 8]);
+    assert_eq!(c6, ordered(multivalued().without_rows([1]), &[2, 0]));
+    let c7 = ordered(multivalued().with_alive(alive(4)), &[2]);
+    assert_eq!((c7.class(), c7.values()), (Class::Full, &[9][..]));
+    let c8 = ordered(multivalued().with_alive(alive(2)), &[1]);
+    assert_eq!((c8.column_type(), c8.rows()), (None, 1));
+    assert_eq!(c8.row(0).len(), 0);
+}
+
+#[test]
+fn c9() {
+    let segment = Segment::optional(ColumnType::U64, 2, vec![0, 1], vec![5, 6]);
+    let without = ordered(segment.clone(), &[1, 0]);
+    let with = ordered(segment.with_alive(alive(3)), &[1, 0]);
+    assert_eq!(
+        (without.class(), with.class()),
+        (Class::Optional, Class::Full)
+    );
+    assert_eq!(
+        (without.values(), with.values()),
+        (&[6, 5][..], &[6, 5][..])
+    );
+}
+
+#[test]
+fn c10() {
+    let with = |greatest| stacked(&[Segment::i64s([Some(-1)]), Segment::u64s([Some(greatest)])]);
+    assert_eq!(
+        with(9223372036854775806).column_type(),
+        Some(ColumnType::I64)
+    );
+    let doubles = with(9223372036854775807);
+    assert_eq!(doubles.column_type(), Some(ColumnType::F64));
+    assert_eq!(doubles.values(), [0xBFF0000000000000, 0x43E0000000000000]);
+    assert_eq!(doubles.row(0).next(), Some(Value::F64(-1.0)));
+}
+
+#[test]
+fn c11() {
+    let required = |value| {
+        join(
+            &[Segment::u64s([Some(value)])],
+            Order::Stacked,
+            Some(ColumnType::I64),
+        )
+    };
+    let fits = required(9223372036854775807).unwrap();
+    assert_eq!(fits.row(0).next(), Some(Value::I64(i64::MAX)));
+    assert_eq!(required(9223372036854775808), Err(Refusal::Types));
+}
+
+#[test]
+fn c12() {
+    let segment = Segment::strs([Some("a"), Some("b")]).with_alive(alive(2));
+    let joined = ordered(segment, &[1]);
+    assert_eq!(terms(&joined), [b"b"]);
+    assert_eq!((joined.values(), joined.map()), (&[0][..], &[0, 0][..]));
+}
+
+#[test]
+fn c13() {
+    let times = [
+        Segment::date_times([Some(10), None, Some(30)]),
+        Segment::date_times([None, Some(20)]),
+    ];
+    let order = time_order(&times).unwrap();
+    let expected = [(1, 0), (0, 0), (0, 1), (1, 1), (0, 2)];
+    assert_eq!(
+        order,
+        expected.map(|(segment, row)| Address { segment, row })
+    );
+}
+
+/// A joined column is a segment again, of each class and of none.
+#[test]
+fn handed_on() {
+    let columns = [
+        stacked(&[Segment::u64s([Some(1), Some(2)])]),
+        stacked(&[Segment::u64s([Some(1), None])]),
+        stacked(&[Segment::u64s([vec![1, 2], vec![], vec![3]])]),
+        stacked(&[Segment::no_column(3)]),
+        stacked(&[Segment::byte_strings([Some(&b"\xff"[..]), Some(b"")])]),
+    ];
+    for column in columns {
+        let again = stacked(&[Segment::from(column.clone())]);
+        // Only the map is another one: it is of the new join.
+        let lists = |c: &Joined| {
+            (
+                c.column_type(),
+                c.class(),
+                c.rows(),
+                c.ids().to_vec(),
+                c.offsets().to_vec(),
+            )
+        };
+        assert_eq!(lists(&again), lists(&column));
+        assert_eq!(
+            (again.values(), again.terms()),
+            (column.values(), column.terms())
+        );
+    }
+}
+
+/// The constructors by rows choose the index, and the terms are sorted bytewise.
+#[test]
+fn rows_of_each_type() {
+    let bools = stacked(&[Segment::bools([Some(true), Some(false)])]);
+    assert_eq!(bools.row(0).next(), Some(Value::Bool(true)));
+    let times = stacked(&[Segment::date_times([[-5]])]);
+    assert_eq!(times.row(0).next(), Some(Value::DateTime(-5)));
+    let doubles = stacked(&[Segment::f64s([[0.5], [f64::INFINITY]])]);
+    assert_eq!(doubles.row(1).next(), Some(Value::F64(f64::INFINITY)));
+    let names = stacked(&[Segment::strs([vec!["b", "aa"], vec!["ab"], vec!["b"]])]);
+    assert_eq!(terms(&names), [&b"aa"[..], b"ab", b"b"]);
+    assert_eq!(names.values(), [2, 0, 1, 2]);
+    let raw = stacked(&[Segment::full(ColumnType::Str, vec![0]).with_terms([b"\xff"])]);
+    assert_eq!(raw.row(0).next(), Some(Value::Bytes(b"\xff")));
+    assert_eq!(
+        stacked(&[Segment::u64s(Vec::<Vec<u64>>::new())]).column_type(),
+        None
+    );
+}
