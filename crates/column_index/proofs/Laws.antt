@@ -11,12 +11,12 @@ use lib.Seq.{slice, length-slice}
 use lib.Dec.{T, eqb, ltb, leb, ltb→lt, nltb→le, eqb→eq, eqb-refl}
 use lib.Ieee.Fits.{and-l, and-r}
 use lib.Ieee.Bits.{is-true, is-false}
-use borrow.Author.Tests.{lt-ltb, le-ltb, eq-eqb, ne-eqb, ltb-true, ltb-false, eqb-true, eqb-false}
+use borrow.Author.Tests.{lt-ltb, le-ltb, eq-eqb, ne-eqb, ltb-true, ltb-false, eqb-true, eqb-false, leb-true, leb-false}
 use Rattle.definitions.specs.Lists.{any, elem, all, count, ascending, ascendingFrom, notFalling, notFallingFrom, last, isEmpty}
 use Rattle.definitions.specs.Segment.{Segment, byKind}
 use Rattle.definitions.specs.Row.{rank, rowValues, oneAt, between, ifListed}
 use Rattle.definitions.proofs.Fit.{rank-lt, rank-le}
-use Rattle.column_index.specs.Lookup.{rankIn, isIn, startOf, endOf, Readable}
+use Rattle.column_index.specs.Lookup.{rankIn, lesser, isIn, startOf, endOf, Readable}
 
 -- ---- ascending lists
 
@@ -63,6 +63,137 @@ rank-none row m [] h l = refl
 rank-none row m (n ∷ ns) h l =
     let p = asc-head m n ns h in
     rw (le-ltb n row (omega arith)) (rank-none row n ns (and-r (ltb m n) (ascendingFrom n ns) h) (omega arith))
+
+-- ids before the rank are below the row, those from it on are not
+before-rank : (row : ℕ) (ids : List ℕ) → T (ascending ids) → (k : ℕ) → k < rank row ids → getD ids k 0 < row
+before-rank row [] h k l = absurd (not-suc-le-zero l)
+before-rank row (x ∷ xs) h k l = go (before-rank row xs (asc-tail x xs h)) (ltb x row) refl k l
+  where
+    go : ((k : ℕ) → k < rank row xs → getD xs k 0 < row) → (b : Bool) → ltb x row ≡ b → (k : ℕ) → k < cond b (suc (rank row xs)) (rank row xs) → getD (x ∷ xs) k 0 < row
+    go ih true q zero l = ltb-true x row q
+    go ih true q (suc k) l = ih k (le-of-suc-le-suc l)
+    go ih false q k l = absurd (let z = rank-none row x xs h (let y = ltb-false x row q in omega arith) in omega arith)
+
+after-rank : (row : ℕ) (ids : List ℕ) → T (ascending ids) → (k : ℕ) → rank row ids ≤ k → k < length ids → row ≤ getD ids k 0
+after-rank row [] h k l m = absurd (not-suc-le-zero m)
+after-rank row (x ∷ xs) h k l m = go (after-rank row xs (asc-tail x xs h)) (ltb x row) refl k l m
+  where
+    go : ((k : ℕ) → rank row xs ≤ k → k < length xs → row ≤ getD xs k 0) → (b : Bool) → ltb x row ≡ b → (k : ℕ) → cond b (suc (rank row xs)) (rank row xs) ≤ k → k < length (x ∷ xs) → row ≤ getD (x ∷ xs) k 0
+    go ih true q zero l m = absurd (not-suc-le-zero l)
+    go ih true q (suc k) l m = ih k (le-of-suc-le-suc l) (le-of-suc-le-suc m)
+    go ih false q k l m = let y = ltb-false x row q in let z = asc-sorted (x ∷ xs) h 0 k zero-le m in omega arith
+
+pub rank-fits : (row : ℕ) (ids : List ℕ) → rankIn row ids ≤ length ids
+unfolding rankIn
+rank-fits row ids = rank-le row ids
+
+leb-is : (b : Bool) (k r : ℕ) → (b ≡ true → k ≤ r) → (b ≡ false → r < k) → b ≡ leb k r
+leb-is b k r f g = go b (leb k r) refl refl
+  where
+    go : (c d : Bool) → b ≡ c → leb k r ≡ d → c ≡ d
+    go true true e q = refl
+    go false false e q = refl
+    go true false e q = absurd (let x = f e in let y = leb-false k r q in omega arith)
+    go false true e q = absurd (let x = g e in let y = leb-true k r q in omega arith)
+
+module _ (row : ℕ) (ids : List ℕ) (h : T (ascending ids)) where
+  pub below-rank : (k : ℕ) → k < rankIn row ids → getD ids k 0 < row
+  unfolding rankIn
+  below-rank = before-rank row ids h
+
+  pub above-rank : (k : ℕ) → rankIn row ids ≤ k → k < length ids → row ≤ getD ids k 0
+  unfolding rankIn
+  above-rank = after-rank row ids h
+
+  -- at least k ids are below the row
+  pub reaches-none : (k : ℕ) → k ≡ 0 → true ≡ leb k (rankIn row ids)
+  reaches-none k e = leb-is true k (rankIn row ids) (λ q. omega arith) (λ q. absurd (false≢true (sym q)))
+
+  pub reaches-past : (k : ℕ) → length ids < k → false ≡ leb k (rankIn row ids)
+  reaches-past k l = leb-is false k (rankIn row ids) (λ q. absurd (false≢true q)) (λ q. let r = rank-fits row ids in omega arith)
+
+  reaches-suc : (j : ℕ) → (length ids < suc j → ⊥) → ltb (getD ids j 0) row ≡ leb (suc j) (rankIn row ids)
+  reaches-suc j l = leb-is (ltb (getD ids j 0) row) (suc j) (rankIn row ids) yes no
+    where
+      yes : ltb (getD ids j 0) row ≡ true → suc j ≤ rankIn row ids
+      yes q = go (leb (suc j) (rankIn row ids)) refl
+        where
+          go : (b : Bool) → leb (suc j) (rankIn row ids) ≡ b → suc j ≤ rankIn row ids
+          go true e = leb-true (suc j) (rankIn row ids) e
+          go false e =
+              let a = ltb-true (getD ids j 0) row q in
+              let i : j < length ids = not-past in
+              let z = above-rank j (let y = leb-false (suc j) (rankIn row ids) e in omega arith) i in
+              absurd (omega arith)
+            where
+              not-past : j < length ids
+              not-past = inside (leb (suc j) (length ids)) refl
+                where
+                  inside : (b : Bool) → leb (suc j) (length ids) ≡ b → j < length ids
+                  inside true e = leb-true (suc j) (length ids) e
+                  inside false e = absurd (l (leb-false (suc j) (length ids) e))
+
+      no : ltb (getD ids j 0) row ≡ false → rankIn row ids < suc j
+      no q = go (leb (suc j) (rankIn row ids)) refl
+        where
+          go : (b : Bool) → leb (suc j) (rankIn row ids) ≡ b → rankIn row ids < suc j
+          go false e = leb-false (suc j) (rankIn row ids) e
+          go true e =
+              let a = ltb-false (getD ids j 0) row q in
+              let z = below-rank j (leb-true (suc j) (rankIn row ids) e) in
+              absurd (omega arith)
+
+  pub reaches-at : (k : ℕ) → (k ≡ 0 → ⊥) → (length ids < k → ⊥) → ltb (getD ids (k - 1) 0) row ≡ leb k (rankIn row ids)
+  reaches-at zero n l = absurd (n refl)
+  reaches-at (suc j) n l =
+      let e : suc j - 1 ≡ j = omega arith in
+      ap (λ (m : ℕ). ltb (getD ids m 0) row) e ∙ reaches-suc j l
+
+  -- an id that is not below the row is not before the rank
+  pub rank-most : (k : ℕ) → row ≤ getD ids k 0 → rankIn row ids ≤ k
+  rank-most k l = go (leb (suc k) (rankIn row ids)) refl
+    where
+      go : (b : Bool) → leb (suc k) (rankIn row ids) ≡ b → rankIn row ids ≤ k
+      go true e = let z = below-rank k (leb-true (suc k) (rankIn row ids) e) in absurd (omega arith)
+      go false e = let z = leb-false (suc k) (rankIn row ids) e in omega arith
+
+  -- and one that is, is
+  pub rank-least : (k : ℕ) → k < length ids → getD ids k 0 < row → k < rankIn row ids
+  rank-least k i l = go (leb (suc k) (rankIn row ids)) refl
+    where
+      go : (b : Bool) → leb (suc k) (rankIn row ids) ≡ b → k < rankIn row ids
+      go true e = leb-true (suc k) (rankIn row ids) e
+      go false e = let z = above-rank k (let y = leb-false (suc k) (rankIn row ids) e in omega arith) i in absurd (omega arith)
+
+-- ---- the lesser of two numbers
+
+pub lesser-first : (a b k : ℕ) → k ≤ b → k ≡ a → k ≡ lesser a b
+lesser-first a b k l e = go (ltb a b) refl
+  where
+    go : (t : Bool) → ltb a b ≡ t → k ≡ cond t a b
+    go true q = e
+    go false q = let x = ltb-false a b q in omega arith
+
+pub lesser-second : (a b k : ℕ) → k ≤ a → k ≡ b → k ≡ lesser a b
+lesser-second a b k l e = go (ltb a b) refl
+  where
+    go : (t : Bool) → ltb a b ≡ t → k ≡ cond t a b
+    go true q = let x = ltb-true a b q in omega arith
+    go false q = e
+
+pub lesser-below : (a b k : ℕ) → k ≡ lesser a b → k < a → k ≡ b
+lesser-below a b k e l = go (ltb a b) refl e
+  where
+    go : (t : Bool) → ltb a b ≡ t → k ≡ cond t a b → k ≡ b
+    go true q e = absurd (omega arith)
+    go false q e = e
+
+pub lesser-le : (a b k : ℕ) → k ≡ lesser a b → k ≤ b
+lesser-le a b k e = go (ltb a b) refl e
+  where
+    go : (t : Bool) → ltb a b ≡ t → k ≡ cond t a b → k ≤ b
+    go true q e = let x = ltb-true a b q in omega arith
+    go false q e = omega arith
 
 pub elem-above : (row m : ℕ) (ns : List ℕ) → T (ascendingFrom m ns) → elem row ns ≡ true → m < row
 elem-above row m [] h e = absurd (false≢true e)

@@ -1,17 +1,17 @@
 -- The set bits of the words of an alive set, word by word. Assumes nothing.
-use Prim.Native.Nat.{ℕ, zero, suc, _+_, _*_, _/_, _%_, _^_, _≤_, _<_, zero-le}
+use Prim.Native.Nat.{ℕ, zero, suc, _+_, _*_, _/_, _%_, _^_, _-_, _≤_, _<_, zero-le}
 use native.Mathlib.Nat.{add-zero, zero-add, suc-add, add-suc, div-one, pow-suc, le-refl}
 use native.Mathlib.Numerals.{add-one}
 use native.Mathlib.Omega.{arith}
-use mathlib.Core.Path.{_≡_, refl, sym, ap, _∙_}
+use mathlib.Core.Path.{_≡_, refl, sym, ap, ap₂, _∙_}
 use mathlib.Core.List.{List, [], _∷_, _++_}
 use mathlib.Core.Bool.{Bool, true, false, cond}
-use lib.ListN.{length, getD, drop, drop-of-length-le}
-use lib.Seq.{drop-cons}
+use lib.ListN.{length, getD, take, drop, drop-of-length-le}
+use lib.Seq.{drop-cons, getD-take, length-take-le}
 use lib.Dec.{eqb}
 use lib.Pow.{shr-shr}
 use lib.Count.{ones, ones-step, ones-le}
-use Rattle.definitions.specs.Lists.{count, upFrom}
+use Rattle.definitions.specs.Lists.{count, upFrom, upTo}
 use Rattle.definitions.specs.Row.{bitAt}
 use Rattle.column_index.specs.Lookup.{aliveCount}
 
@@ -104,3 +104,56 @@ count-step words i h l = rw (add-one i, drop-cons words i 0 h) (count-words (get
 pub count-end : (words : List ℕ) (i : ℕ) → length words ≤ i → aliveCount (drop i words) ≡ 0
 unfolding aliveCount
 count-end words i h = rw (drop-of-length-le words h)
+
+-- ---- the first rows
+
+pub one-on : (b : Bool) (n : ℕ) → b ≡ true → n + 1 ≡ cond b (suc n) n
+one-on b n e = rw (e, add-one n)
+
+pub none-on : (b : Bool) (n : ℕ) → b ≡ false → n ≡ cond b (suc n) n
+none-on b n e = rw e
+
+pub count-most : (p : ℕ → Bool) (s n : ℕ) → count p (upFrom s n) ≤ n
+count-most p s zero = zero-le
+count-most p s (suc n) = go (p s) (count-most p (suc s) n)
+  where
+    go : (b : Bool) → count p (upFrom (suc s) n) ≤ n → cond b (suc (count p (upFrom (suc s) n))) (count p (upFrom (suc s) n)) ≤ suc n
+    go true h = omega arith
+    go false h = omega arith
+
+module _ (words : List ℕ) where
+  bit-front : (q r : ℕ) → r < 64 * q → bitAt (take q words) r ≡ bitAt words r
+  unfolding bitAt
+  bit-front q r h = ap (λ (w : ℕ). eqb (w / 2 ^ (r % 64) % 2) 1) (getD-take q words (r / 64) 0 (omega arith))
+
+  -- whole words, and the rows behind them
+  pub before-start : (q rows n : ℕ) → q ≤ length words → 64 * q ≤ rows → n ≡ aliveCount (take q words) → n + count (bitAt words) (upFrom (64 * q) (rows - 64 * q)) ≡ count (bitAt words) (upTo rows)
+  unfolding aliveCount
+  before-start q rows n h l e =
+      let k : length (take q words) ≡ q = length-take-le q words h in
+      let a : n ≡ count (bitAt words) (upFrom 0 (64 * q)) =
+      e ∙ ap (λ (m : ℕ). count (bitAt (take q words)) (upFrom 0 (64 * m))) k ∙ count-same (bitAt (take q words)) (bitAt words) 0 (64 * q) (λ r i. bit-front q r (omega arith)) in
+      let b = count-split (bitAt words) 0 (64 * q) (rows - 64 * q) in
+      ap₂ (λ (x y : ℕ). x + count (bitAt words) (upFrom y (rows - 64 * q))) a (sym (zero-add (64 * q)))
+      ∙ sym b ∙ ap (λ (m : ℕ). count (bitAt words) (upFrom 0 m)) (let z : 64 * q + (rows - 64 * q) ≡ rows = omega arith in z)
+
+  pub before-more : (r rows n m : ℕ) → r < rows → m ≡ cond (bitAt words r) (suc n) n → m + count (bitAt words) (upFrom (r + 1) (rows - (r + 1))) ≡ n + count (bitAt words) (upFrom r (rows - r))
+  before-more r rows n m h e = go (bitAt words r) refl e
+    where
+      rest : ℕ
+      rest = count (bitAt words) (upFrom (r + 1) (rows - (r + 1)))
+
+      step : count (bitAt words) (upFrom r (rows - r)) ≡ cond (bitAt words r) (suc rest) rest
+      step =
+          let a : rows - r ≡ suc (rows - (r + 1)) = omega arith in
+          ap (λ (k : ℕ). count (bitAt words) (upFrom r k)) a
+          ∙ ap (λ (k : ℕ). cond (bitAt words r) (suc (count (bitAt words) (upFrom k (rows - (r + 1))))) (count (bitAt words) (upFrom k (rows - (r + 1))))) (sym (add-one r))
+
+      go : (b : Bool) → bitAt words r ≡ b → m ≡ cond (bitAt words r) (suc n) n → m + rest ≡ n + count (bitAt words) (upFrom r (rows - r))
+      go true q f = let s = step ∙ ap (λ (b : Bool). cond b (suc rest) rest) q in let g = f ∙ ap (λ (b : Bool). cond b (suc n) n) q in omega arith
+      go false q f = let s = step ∙ ap (λ (b : Bool). cond b (suc rest) rest) q in let g = f ∙ ap (λ (b : Bool). cond b (suc n) n) q in omega arith
+
+  pub before-end : (r rows n k : ℕ) → rows ≤ r → n + count (bitAt words) (upFrom r (rows - r)) ≡ k → n ≡ k
+  before-end r rows n k h e =
+      let z : count (bitAt words) (upFrom r (rows - r)) ≡ 0 = ap (λ (m : ℕ). count (bitAt words) (upFrom r m)) (let y : rows - r ≡ 0 = omega arith in y) in
+      omega arith

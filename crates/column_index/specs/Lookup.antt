@@ -13,6 +13,9 @@ use Rattle.definitions.specs.Row.{rank, bitAt}
 unfoldable pub rankIn : ℕ → List ℕ → ℕ
 rankIn row ids = rank row ids
 
+abbrev pub lesser : ℕ → ℕ → ℕ
+lesser a b = cond (ltb a b) a b
+
 unfoldable pub isIn : ℕ → List ℕ → Bool
 isIn row ids = elem row ids
 
@@ -33,6 +36,10 @@ pub record Readable (kind : ℕ) (ids offsets : List ℕ) (row : ℕ) : Type 0 w
   pub ascends : T (ascending ids)
   pub old : kind ≡ 3 → row + 1 < length offsets
   pub new : 4 ≤ kind → length ids < length offsets
+
+-- a kind whose rows are looked up by rank
+abbrev pub Ranked : ℕ → Type 0
+Ranked kind = (kind ≡ 0 → ⊥) × (kind ≡ 1 → ⊥) × (kind ≡ 3 → ⊥)
 
 -- how many values the row has
 unfoldable pub widthOf : ℕ → List ℕ → List ℕ → ℕ → ℕ

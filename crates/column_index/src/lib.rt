@@ -1,12 +1,13 @@
 // Lookups in one segment's index: a row's rank, its range of values, its alive bit.
 // After column_index/mod.rs (`value_row_ids`), multivalued_index.rs (`range`), optional_index/mod.rs (`rank_if_exists`).
 ghost use mathlib.Core.Path.{_≡_};
-ghost use Prim.Native.Nat.{_<_, _≤_, _+_, _*_};
+ghost use Prim.Native.Nat.{suc, _<_, _≤_, _+_, _*_};
+ghost use mathlib.Core.Bool.{cond};
 ghost use lib.ListN.{length, getD};
-ghost use lib.Dec.{T};
-ghost use Rattle.definitions.specs.Lists.{ascending};
+ghost use lib.Dec.{T, leb};
+ghost use Rattle.definitions.specs.Lists.{ascending, count, upTo};
 ghost use Rattle.definitions.specs.Row.{bitAt};
-ghost use Rattle.column_index.specs.Lookup.{rankIn, isIn, startOf, endOf, Readable, aliveCount};
+ghost use Rattle.column_index.specs.Lookup.{rankIn, lesser, isIn, startOf, endOf, Readable, Ranked, aliveCount};
 
 // The places of a row's values among its segment's values: from start, before end.
 pub struct Range {
@@ -14,22 +15,72 @@ pub struct Range {
     pub end: usize,
 }
 
-// How many ids are below the row.
-pub fn rank(ids: &[u32], row: u32) -> usize
+// How many ids are below the row; at least lo are.
+fn rank_above(ids: &[u32], row: u32, lo: usize) -> usize
     requires { ⌜ T (ascending (now ids)) ⌝ }
+    requires { ⌜ lo ≤ rankIn row (now ids) ⌝ }
     ensures { λ r. ⌜ r ≡ rankIn row (now (ids .entry)) ⌝ }
 {
-    let mut lo: usize = 0;
+    let mut from = lo;
     let mut hi: usize = ids.len();
-    while lo < hi {
-        let mid = lo + (hi - lo) / 2;
+    while from < hi {
+        let mid = from + (hi - from) / 2;
         if ids[mid] < row {
-            lo = mid + 1;
+            from = mid + 1;
         } else {
             hi = mid;
         }
     }
-    lo
+    from
+}
+
+// Whether at least k ids are below the row.
+fn reaches(ids: &[u32], row: u32, k: usize) -> bool
+    requires { ⌜ T (ascending (now ids)) ⌝ }
+    ensures { λ r. ⌜ r ≡ leb k (rankIn row (now (ids .entry))) ⌝ }
+{
+    if k == 0 {
+        return true;
+    }
+    if ids.len() < k {
+        return false;
+    }
+    ids[k - 1] < row
+}
+
+// Eight steps up from k, or as many as there are ids below the row.
+fn climb(ids: &[u32], row: u32, from: usize) -> usize
+    requires { ⌜ T (ascending (now ids)) ⌝ }
+    requires { ⌜ from ≤ rankIn row (now ids) ⌝ }
+    ensures { λ r. ⌜ r ≡ lesser (from + 8) (rankIn row (now (ids .entry))) ⌝ }
+{
+    let end = from + 8;
+    let mut k = from;
+    while k < ids.len() {
+        if end <= k {
+            return k;
+        }
+        if row <= ids[k] {
+            return k;
+        }
+        k += 1;
+    }
+    k
+}
+
+// How many ids are below the row. `near` is a guess: a good one is a few below the rank, and saves the search; no guess changes the result.
+pub fn rank(ids: &[u32], row: u32, near: usize) -> usize
+    requires { ⌜ T (ascending (now ids)) ⌝ }
+    ensures { λ r. ⌜ r ≡ rankIn row (now (ids .entry)) ⌝ }
+{
+    if !reaches(ids, row, near) {
+        return rank_above(ids, row, 0);
+    }
+    let k = climb(ids, row, near);
+    if k < near + 8 {
+        return k;
+    }
+    rank_above(ids, row, k)
 }
 
 // Whether the row is an id; k is its rank.
@@ -58,8 +109,28 @@ fn between(offsets: &[u32], k: usize) -> Range
     }
 }
 
-// Where the row's values stand.
-pub fn value_range(kind: usize, ids: &[u32], offsets: &[u32], row: u32) -> Range
+// Where the values of a row of kind 2 or 4 stand.
+fn ranked_range(kind: usize, ids: &[u32], offsets: &[u32], row: u32, near: usize) -> Range
+    requires { ⌜ Readable kind (now ids) (now offsets) row ⌝ }
+    requires { ⌜ Ranked kind ⌝ }
+    ensures { λ r. ⌜ r .start ≡ startOf kind (now (ids .entry)) (now (offsets .entry)) row ⌝ }
+    ensures { λ r. ⌜ r .end ≡ endOf kind (now (ids .entry)) (now (offsets .entry)) row ⌝ }
+{
+    let k = rank(ids, row, near);
+    if !is_listed(ids, row, k) {
+        return Range { start: 0, end: 0 };
+    }
+    if kind == 2 {
+        return Range {
+            start: k,
+            end: k + 1,
+        };
+    }
+    between(offsets, k)
+}
+
+// Where the row's values stand; `near` is a guess at the row's rank.
+pub fn value_range(kind: usize, ids: &[u32], offsets: &[u32], row: u32, near: usize) -> Range
     requires { ⌜ Readable kind (now ids) (now offsets) row ⌝ }
     ensures { λ r. ⌜ r .start ≡ startOf kind (now (ids .entry)) (now (offsets .entry)) row ⌝ }
     ensures { λ r. ⌜ r .end ≡ endOf kind (now (ids .entry)) (now (offsets .entry)) row ⌝ }
@@ -77,17 +148,7 @@ pub fn value_range(kind: usize, ids: &[u32], offsets: &[u32], row: u32) -> Range
     if kind == 3 {
         return between(offsets, r);
     }
-    let k = rank(ids, row);
-    if !is_listed(ids, row, k) {
-        return Range { start: 0, end: 0 };
-    }
-    if kind == 2 {
-        return Range {
-            start: k,
-            end: k + 1,
-        };
-    }
-    between(offsets, k)
+    ranked_range(kind, ids, offsets, row, near)
 }
 
 // Whether the row's bit is set; row 0 is the lowest bit of the first word.
@@ -110,6 +171,33 @@ pub fn count_alive(words: &[u64]) -> usize
     while i < words.len() {
         n += segment::wide(u64::count_ones(words[i]));
         i += 1;
+    }
+    n
+}
+
+// Counts one more for an alive row.
+fn count_on(n: usize, alive: bool) -> usize
+    requires { ⌜ n ≤ 4294967296 ⌝ }
+    ensures { λ r. ⌜ r ≡ cond alive (suc n) n ⌝ }
+{
+    if alive {
+        return n + 1;
+    }
+    n
+}
+
+// How many of the first rows are alive: whole words by their ones, the rest row by row.
+pub fn alive_before(words: &[u64], rows: usize) -> usize
+    requires { ⌜ rows ≤ 64 * length (now words) ⌝ }
+    requires { ⌜ rows ≤ 4294967296 ⌝ }
+    ensures { λ r. ⌜ r ≡ count (bitAt (now (words .entry))) (upTo rows) ⌝ }
+{
+    let whole = rows / 64;
+    let mut n = count_alive(&words[..whole]);
+    let mut r = 64 * whole;
+    while r < rows {
+        n = count_on(n, is_alive(words, r));
+        r += 1;
     }
     n
 }

@@ -6,9 +6,12 @@ ghost use lib.Dec.{T};
 ghost use Rattle.definitions.specs.Lists.{sum, notFalling};
 ghost use Rattle.runs.specs.Put.{put};
 ghost use Rattle.places.specs.Width.{idPart, idsOf};
-ghost use Rattle.places.specs.Place.{widths, Within, Listed};
+ghost use Rattle.places.specs.Place.{Within};
+ghost use mathlib.Core.Bool.{cond};
+ghost use Rattle.definitions.specs.Row.{bitAt};
+ghost use Rattle.column_index_merge.specs.Counted.{aliveWidths, countedIn, countedAll};
 ghost use Rattle.places.specs.Places.{table};
-ghost use Rattle.places.specs.Stack.{diffs, segmentWidths, stackedWidths, SoundAt, AllSound};
+ghost use Rattle.places.specs.Stack.{diffs, segmentWidths, SoundAt};
 ghost use Rattle.column_index_merge.specs.Class.{widthClass, rowClassIn, aliveFrom, kindClassOf, classIn, greatestIn, Classed, AllClassed};
 ghost use Rattle.column_index_merge.specs.Held.{hasAt, hasFrom, heldIn, byteOf, heldAt};
 
@@ -24,7 +27,7 @@ fn has_at(place: [usize; 8], ids: &[u32], offsets: &[u32], words: &[u64], row: u
     if !column_index::is_alive(words, row) {
         return false;
     }
-    let w = places::width_in(place, ids, offsets, row as u32);
+    let w = places::width_in(place, ids, offsets, row as u32, ids.len());
     w != 0
 }
 
@@ -157,7 +160,7 @@ fn row_class(place: [usize; 8], ids: &[u32], offsets: &[u32], words: &[u64], row
     if !column_index::is_alive(words, row) {
         return 0;
     }
-    let w = places::width_in(place, ids, offsets, row as u32);
+    let w = places::width_in(place, ids, offsets, row as u32, ids.len());
     width_class(w)
 }
 
@@ -249,35 +252,6 @@ fn one_if(w: usize) -> usize
     1
 }
 
-// The lengths of what ordered_ids and column_values_merge::ordered_values write.
-pub fn ordered_counts(
-    addresses: &[[u32; 2]],
-    places: &[[usize; 8]],
-    ids: &[u32],
-    offsets: &[u32],
-) -> Counts
-    requires { ⌜ Listed (now addresses) (now places) (now ids) (now offsets) ⌝ }
-    requires { ⌜ sum (widths (now places) (now ids) (now offsets) (now addresses)) < 18446744073709551616 ⌝ }
-    ensures { λ r. ⌜ r .listed ≡ length (idsOf 0 (widths (now (places .entry)) (now (ids .entry)) (now (offsets .entry)) (now (addresses .entry)))) ⌝ }
-    ensures { λ r. ⌜ r .values ≡ sum (widths (now (places .entry)) (now (ids .entry)) (now (offsets .entry)) (now (addresses .entry))) ⌝ }
-{
-    let mut j: usize = 0;
-    let mut listed: usize = 0;
-    let mut values: usize = 0;
-    while j < addresses.len() {
-        let a = addresses[j];
-        let s = segment::wide(a[0]);
-        let w = places::width_in(places[s], ids, offsets, a[1]);
-        listed += one_if(w);
-        values += w;
-        j += 1;
-    }
-    Counts {
-        listed: listed,
-        values: values,
-    }
-}
-
 // How many rows of kind 3 have a value.
 fn count_risen(offsets: &[u32]) -> usize
     requires { ⌜ T (notFalling (now offsets)) ⌝ }
@@ -313,20 +287,97 @@ fn segment_count(place: [usize; 8], ids: &[u32], offsets: &[u32]) -> usize
     place[3] - place[2]
 }
 
-// The lengths of what stacked_ids and column_values_merge::stacked_values write.
-pub fn stacked_counts(places: &[[usize; 8]], ids: &[u32], offsets: &[u32]) -> Counts
-    requires { ⌜ AllSound (now places) (now ids) (now offsets) ⌝ }
-    requires { ⌜ sum (stackedWidths (now places) (now ids) (now offsets)) < 18446744073709551616 ⌝ }
-    ensures { λ r. ⌜ r .listed ≡ length (idsOf 0 (stackedWidths (now (places .entry)) (now (ids .entry)) (now (offsets .entry)))) ⌝ }
-    ensures { λ r. ⌜ r .values ≡ sum (stackedWidths (now (places .entry)) (now (ids .entry)) (now (offsets .entry))) ⌝ }
+// The values of an alive row count.
+fn if_alive(words: &[u64], row: usize, w: usize) -> usize
+    requires { ⌜ row < 64 * length (now words) ⌝ }
+    ensures { λ r. ⌜ r ≡ cond (bitAt (now (words .entry)) row) w 0 ⌝ }
+{
+    if !column_index::is_alive(words, row) {
+        return 0;
+    }
+    w
+}
+
+// Of a segment with an alive set. Each row of a full one has a value; other rows are looked up in turn, so that the number of those with a value so far is the
+// rank of the next one.
+fn alive_counts(place: [usize; 8], ids: &[u32], offsets: &[u32], words: &[u64]) -> Counts
+    requires { ⌜ SoundAt place (now ids) (now offsets) ⌝ }
+    requires { ⌜ getD place 1 0 ≤ 4294967296 ⌝ }
+    requires { ⌜ getD place 1 0 ≤ 64 * length (now words) ⌝ }
+    requires { ⌜ sum (aliveWidths place (now ids) (now offsets) (now words) 0 (getD place 1 0)) < 18446744073709551616 ⌝ }
+    ensures { λ c. ⌜ c .listed ≡ length (idsOf 0 (aliveWidths place (now (ids .entry)) (now (offsets .entry)) (now (words .entry)) 0 (getD place 1 0))) ⌝ }
+    ensures { λ c. ⌜ c .values ≡ sum (aliveWidths place (now (ids .entry)) (now (offsets .entry)) (now (words .entry)) 0 (getD place 1 0)) ⌝ }
+{
+    let rows = place[1];
+    if place[0] == 1 {
+        let n = column_index::alive_before(words, rows);
+        return Counts {
+            listed: n,
+            values: n,
+        };
+    }
+    let mut r: usize = 0;
+    let mut near: usize = 0;
+    let mut listed: usize = 0;
+    let mut values: usize = 0;
+    while r < rows {
+        let w = places::width_in(place, ids, offsets, r as u32, near);
+        near += one_if(w);
+        let v = if_alive(words, r, w);
+        listed += one_if(v);
+        values += v;
+        r += 1;
+    }
+    Counts {
+        listed: listed,
+        values: values,
+    }
+}
+
+// Of a segment's alive rows; alive has the flag, then start and end of the alive words.
+fn segment_counts(
+    place: [usize; 8],
+    alive: [usize; 3],
+    ids: &[u32],
+    offsets: &[u32],
+    words: &[u64],
+) -> Counts
+    requires { ⌜ Classed place alive (now ids) (now offsets) (now words) ⌝ }
+    requires { ⌜ sum (countedIn place alive (now ids) (now offsets) (now words)) < 18446744073709551616 ⌝ }
+    ensures { λ c. ⌜ c .listed ≡ length (idsOf 0 (countedIn place alive (now (ids .entry)) (now (offsets .entry)) (now (words .entry)))) ⌝ }
+    ensures { λ c. ⌜ c .values ≡ sum (countedIn place alive (now (ids .entry)) (now (offsets .entry)) (now (words .entry))) ⌝ }
+{
+    if alive[0] == 1 {
+        let a = alive[1];
+        let b = alive[2];
+        return alive_counts(place, ids, offsets, &words[a..b]);
+    }
+    Counts {
+        listed: segment_count(place, ids, offsets),
+        values: place[7] - place[6],
+    }
+}
+
+// Of the alive rows of all segments. A join lists each of them once, in whichever order, so no address is needed.
+pub fn count_rows(
+    places: &[[usize; 8]],
+    alives: &[[usize; 3]],
+    ids: &[u32],
+    offsets: &[u32],
+    words: &[u64],
+) -> Counts
+    requires { ⌜ AllClassed (now places) (now alives) (now ids) (now offsets) (now words) ⌝ }
+    requires { ⌜ sum (countedAll (now places) (now alives) (now ids) (now offsets) (now words)) < 18446744073709551616 ⌝ }
+    ensures { λ c. ⌜ c .listed ≡ length (idsOf 0 (countedAll (now (places .entry)) (now (alives .entry)) (now (ids .entry)) (now (offsets .entry)) (now (words .entry)))) ⌝ }
+    ensures { λ c. ⌜ c .values ≡ sum (countedAll (now (places .entry)) (now (alives .entry)) (now (ids .entry)) (now (offsets .entry)) (now (words .entry))) ⌝ }
 {
     let mut s: usize = 0;
     let mut listed: usize = 0;
     let mut values: usize = 0;
     while s < places.len() {
-        let p = places[s];
-        listed += segment_count(p, ids, offsets);
-        values += p[7] - p[6];
+        let c = segment_counts(places[s], alives[s], ids, offsets, words);
+        listed += c.listed;
+        values += c.values;
         s += 1;
     }
     Counts {

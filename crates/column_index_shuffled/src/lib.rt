@@ -3,8 +3,8 @@
 ghost use mathlib.Core.Path.{_≡_};
 ghost use mathlib.Core.List.{_∷_};
 ghost use mathlib.Core.Bool.{not};
-ghost use Prim.Native.Nat.{_≤_, _+_};
-ghost use lib.ListN.{length};
+ghost use Prim.Native.Nat.{_<_, _≤_, _+_};
+ghost use lib.ListN.{length, replicate};
 ghost use lib.Dec.{eqb};
 ghost use Rattle.runs.specs.Put.{put, putIf, RoomIf};
 ghost use Rattle.places.specs.Width.{idPart, idsOf, totalsOf};
@@ -37,8 +37,119 @@ fn count_on(n: usize, w: usize) -> usize
     n + 1
 }
 
+// ---- guesses at ranks: of every fourth row of a segment with ids, in the four working bytes that stand for these rows. A guess saves a search and bears on no
+// result, so nothing is said of what stands there.
+
+// The first index from k on where the id is not below the row.
+fn skip(ids: &[u32], row: usize, k: usize) -> usize {
+    let mut i = k;
+    while i < ids.len() {
+        if row <= segment::wide(ids[i]) {
+            return i;
+        }
+        i += 1;
+    }
+    i
+}
+
+// Writes the lowest byte of k.
+fn put_low(out: &mut [u8], at: usize, k: usize)
+    requires { ⌜ at < length (now out) ⌝ }
+{
+    out[at] = (k % 256) as u8;
+}
+
+// Writes k below 2^32 as four bytes, the lowest first.
+fn put_guess(out: &mut [u8], at: usize, k: usize)
+    requires { ⌜ at + 4 ≤ length (now out) ⌝ }
+{
+    put_low(out, at, k);
+    put_low(out, at + 1, k / 256);
+    put_low(out, at + 2, k / 65536);
+    put_low(out, at + 3, k / 16777216);
+}
+
+// The guesses of one segment.
+fn fill_segment(ids: &[u32], out: &mut [u8]) {
+    let mut r: usize = 0;
+    let mut k: usize = 0;
+    while r + 4 <= out.len() {
+        k = skip(ids, r, k);
+        put_guess(out, r, k);
+        r += 4;
+    }
+}
+
+// The guesses of a segment with ids.
+fn fill_if(place: [usize; 8], ids: &[u32], out: &mut [u8]) {
+    let a = place[2];
+    let b = place[3];
+    if b <= a {
+        return;
+    }
+    if ids.len() < b {
+        return;
+    }
+    fill_segment(&ids[a..b], out);
+}
+
+// The guesses of all segments, and where each one's begin.
+fn fill_guesses(places: &[[usize; 8]], ids: &[u32], bases: &mut [usize], work: &mut [u8]) {
+    let mut s: usize = 0;
+    let mut at: usize = 0;
+    while s < places.len() {
+        let p = places[s];
+        let rows = p[1];
+        if work.len() - at < rows {
+            return;
+        }
+        if bases.len() <= s {
+            return;
+        }
+        bases[s] = at;
+        let end = at + rows;
+        fill_if(p, ids, &mut work[at..end]);
+        at = end;
+        s += 1;
+    }
+}
+
+fn low(b: u8) -> usize
+    ensures { λ r. ⌜ r < 256 ⌝ }
+{
+    b as usize
+}
+
+// The guess that stands from index at on, 0 where none does.
+fn guess_at(work: &[u8], at: usize) -> usize {
+    if work.len() < 4 {
+        return 0;
+    }
+    if work.len() - 4 < at {
+        return 0;
+    }
+    let a = low(work[at]);
+    let b = low(work[at + 1]);
+    let c = low(work[at + 2]);
+    let d = low(work[at + 3]);
+    a + b * 256 + c * 65536 + d * 16777216
+}
+
+// A guess at the row's rank in its segment.
+fn guess(place: [usize; 8], base: usize, row: u32, work: &[u8]) -> usize {
+    if place[3] <= place[2] {
+        return 0;
+    }
+    if work.len() <= base {
+        return 0;
+    }
+    guess_at(work, base + segment::wide(row) / 4 * 4)
+}
+
+// ---- the rows
+
 // Each row is looked up once: its number and the running total are written if it has a value and the class has them, and its words.
-pub fn ordered_rows(
+fn write_rows(
     class: u32,
     to: u32,
     addresses: &[[u32; 2]],
@@ -48,10 +159,13 @@ pub fn ordered_rows(
     offsets: &[u32],
     values: &[u64],
     map: &[u32],
+    bases: &[usize],
+    work: &[u8],
     out_ids: &mut [u32],
     out_offsets: &mut [u32],
     out_values: &mut [u64],
 )
+    requires { ⌜ length (now bases) ≡ 256 ⌝ }
     requires { ⌜ Ordered to (now addresses) (now places) (now sources) (now ids) (now offsets) (now values) (now map) ⌝ }
     requires { ⌜ RoomIf (not (eqb class 0)) 0 (length (idsOf 0 (widths (now places) (now ids) (now offsets) (now addresses)))) (length (now «out_ids»)) ⌝ }
     requires { ⌜ RoomIf (eqb class 2) 0 (length (0 ∷ totalsOf 0 (widths (now places) (now ids) (now offsets) (now addresses)))) (length (now «out_offsets»)) ⌝ }
@@ -68,7 +182,8 @@ pub fn ordered_rows(
         let a = addresses[j];
         let s = segment::wide(a[0]);
         let p = places[s];
-        let g = places::range_in(p, ids, offsets, a[1]);
+        let near = guess(p, bases[s % 256], a[1], work);
+        let g = places::range_in(p, ids, offsets, a[1], near);
         let w = g.end - g.start;
         v = column_values_merge::append_row(to, sources[s], p[6], g, values, map, out_values, v);
         put_part(class != 0, w, j as u32, out_ids, n);
@@ -76,4 +191,50 @@ pub fn ordered_rows(
         n = count_on(n, w);
         j += 1;
     }
+}
+
+// Row ids, offsets and values of the addressed rows. The working bytes hold guesses at ranks meanwhile.
+pub fn ordered_rows(
+    class: u32,
+    to: u32,
+    addresses: &[[u32; 2]],
+    places: &[[usize; 8]],
+    sources: &[[usize; 3]],
+    ids: &[u32],
+    offsets: &[u32],
+    values: &[u64],
+    map: &[u32],
+    work: &mut [u8],
+    out_ids: &mut [u32],
+    out_offsets: &mut [u32],
+    out_values: &mut [u64],
+)
+    requires { ⌜ Ordered to (now addresses) (now places) (now sources) (now ids) (now offsets) (now values) (now map) ⌝ }
+    requires { ⌜ RoomIf (not (eqb class 0)) 0 (length (idsOf 0 (widths (now places) (now ids) (now offsets) (now addresses)))) (length (now «out_ids»)) ⌝ }
+    requires { ⌜ RoomIf (eqb class 2) 0 (length (0 ∷ totalsOf 0 (widths (now places) (now ids) (now offsets) (now addresses)))) (length (now «out_offsets»)) ⌝ }
+    requires { ⌜ length (orderedWords to (now places) (now sources) (now ids) (now offsets) (now values) (now map) (now addresses)) ≤ length (now «out_values») ⌝ }
+    ensures { λ _. ⌜ now («out_ids» .exit) ≡ putIf (not (eqb class 0)) 0 (idsOf 0 (widths (now (places .entry)) (now (ids .entry)) (now (offsets .entry)) (now (addresses .entry)))) (now («out_ids» .entry)) ⌝ }
+    ensures { λ _. ⌜ now («out_offsets» .exit) ≡ putIf (eqb class 2) 0 (0 ∷ totalsOf 0 (widths (now (places .entry)) (now (ids .entry)) (now (offsets .entry)) (now (addresses .entry)))) (now («out_offsets» .entry)) ⌝ }
+    ensures { λ _. ⌜ now («out_values» .exit) ≡ put 0 (orderedWords to (now (places .entry)) (now (sources .entry)) (now (ids .entry)) (now (offsets .entry)) (now (values .entry)) (now (map .entry)) (now (addresses .entry))) (now («out_values» .entry)) ⌝ }
+    ensures { λ _. ⌜ now (work .exit) ≡ replicate (length (now (work .entry))) 0 ⌝ }
+{
+    let mut bases = [0usize; 256];
+    fill_guesses(places, ids, &mut bases, work);
+    write_rows(
+        class,
+        to,
+        addresses,
+        places,
+        sources,
+        ids,
+        offsets,
+        values,
+        map,
+        &bases,
+        work,
+        out_ids,
+        out_offsets,
+        out_values,
+    );
+    runs::zero(work);
 }

@@ -1,21 +1,21 @@
 -- What becomes of a run of words, and a turn of the loop over segments. Assumes nothing.
-use Prim.Native.Nat.{ℕ, zero, suc, _+_, _-_, _≤_, _<_}
-use native.Mathlib.Nat.{le-of-suc-le-suc}
+use Prim.Native.Nat.{ℕ, zero, suc, _+_, _-_, _≤_, _<_, zero-le, suc-le-suc}
+use native.Mathlib.Nat.{le-of-suc-le-suc, le-of-eq}
 use native.Mathlib.Numerals.{add-one}
 use native.Mathlib.Omega.{arith}
-use mathlib.Core.Path.{_≡_, refl, sym, ap, ap₂, _∙_}
+use mathlib.Core.Path.{_≡_, refl, sym, ap, ap₂, _∙_, subst}
 use mathlib.Core.List.{List, [], _∷_, _++_, map}
 use mathlib.Core.Bool.{Bool, true, false, cond, _&&_}
-use lib.ListN.{length, getD, drop, length-drop, length-map, drop-of-length-le}
-use lib.Seq.{drop-cons, length-take-le}
+use lib.ListN.{length, getD, take, drop, length-drop, length-map, drop-of-length-le, set}
+use lib.Seq.{drop-cons, length-take-le, getD-take, getD-drop}
 use lib.Dec.{eqb}
 use borrow.Author.Tests.{ne-eqb}
 use Rattle.definitions.specs.Types.{hasTerms, integerOf, doubleOf, coerced}
 use Rattle.column_index.proofs.Walk.{map-same}
 use Rattle.runs.specs.Put.{put, looked}
-use Rattle.runs.proofs.Laws.{Filling, fill-room, fill-more, looked-length}
-use Rattle.places.specs.Place.{valuesAt}
-use Rattle.column_values_merge.specs.Word.{doubles, coercedAll, mapAt, wordsFor}
+use Rattle.runs.proofs.Laws.{Filling, fill-room, fill-more, looked-length, put-one}
+use Rattle.places.specs.Place.{run, valuesAt}
+use Rattle.column_values_merge.specs.Word.{doubles, coercedAll, mapAt, wordsFor, Worded}
 use Rattle.column_values_merge.specs.Stack.{stackedWords, AllWorded}
 
 pub doubles-length : (t : ℕ) (vs : List ℕ) → length (doubles t vs) ≡ length vs
@@ -27,6 +27,10 @@ unfolding doubles
 doubles-at t [] j h = absurd (omega arith)
 doubles-at t (v ∷ vs) zero h = refl
 doubles-at t (v ∷ vs) (suc j) h = doubles-at t vs j (le-of-suc-le-suc h)
+
+one-double : (t w : ℕ) → doubleOf (integerOf t w) ∷ [] ≡ doubles t (w ∷ [])
+unfolding doubles
+one-double t w = refl
 
 -- ---- coercion
 
@@ -50,19 +54,47 @@ pub coerced-integer : (t u : ℕ) (vs : List ℕ) → u ≡ 2 → (t ≡ 2 → �
 unfolding doubles coercedAll coerced
 coerced-integer t u vs h k = map-same (λ w. doubleOf (integerOf t w)) (coerced t u) vs (λ w. rw (h, ne-eqb t 2 k))
 
+pub coerced-one : (t u w x : ℕ) → u ≡ 2 → (t ≡ 2 → ⊥) → x ≡ doubleOf (integerOf t w) → x ∷ [] ≡ coercedAll t u (w ∷ [])
+coerced-one t u w x h k e = ap (λ (n : ℕ). n ∷ []) e ∙ one-double t w ∙ coerced-integer t u (w ∷ []) h k
+
 coerced-length : (t u : ℕ) (vs : List ℕ) → length (coercedAll t u vs) ≡ length vs
 unfolding coercedAll
 coerced-length t u vs = length-map vs (coerced t u)
 
 -- ---- terms
 
-pub terms-bytes : (t : ℕ) → t ≡ 3 → true ≡ hasTerms t
-unfolding hasTerms
-terms-bytes t h = rw h
+-- one word
+run-at : (a b : ℕ) (l : List ℕ) (w : ℕ) → a + w < b → getD (run a b l) w 0 ≡ getD l (a + w) 0
+run-at a b l w h = getD-take (b - a) (drop a l) w 0 (omega arith) ∙ getD-drop a l w 0
 
-pub terms-text : (t : ℕ) {b : Bool} → (t ≡ 3 → ⊥) → b ≡ eqb t 4 → b ≡ hasTerms t
-unfolding hasTerms
-terms-text t h e = rw (ne-eqb t 3 h) e
+pub looked-one : (to : ℕ) (source table : List ℕ) (w x : ℕ) → hasTerms (getD source 0 0) ≡ true → getD source 1 0 + w < getD source 2 0 → x ≡ getD table (getD source 1 0 + w) 0
+    → x ∷ [] ≡ wordsFor to source table (w ∷ [])
+unfolding wordsFor looked
+looked-one to source table w x e h q =
+    ap (λ (n : ℕ). n ∷ []) (q ∙ sym (run-at (getD source 1 0) (getD source 2 0) table w h)) ∙ ap (λ (b : Bool). cond b (looked (mapAt source table) (w ∷ [])) (coercedAll (getD source 0 0) to (w ∷ []))) (sym e)
+
+pub run-one : (a b : ℕ) (l : List ℕ) → b ≡ a + 1 → a < length l → run a b l ≡ getD l a 0 ∷ []
+run-one a b l e h =
+    let k : b - a ≡ 1 = omega arith in
+    ap (λ (n : ℕ). take n (drop a l)) k ∙ ap (take 1) (drop-cons l a 0 h)
+
+pub ordinal-in : (source table : List ℕ) (w : ℕ) → Worded source table (w ∷ []) → hasTerms (getD source 0 0) ≡ true → getD source 1 0 + w < getD source 2 0
+ordinal-in source table w g e =
+    let k : w < length (mapAt source table) = g .ordinals e 0 (suc-le-suc zero-le) in
+    let l : length (mapAt source table) ≤ getD source 2 0 - getD source 1 0 = run-short (getD source 1 0) (getD source 2 0) table (g .map-end) in
+    omega (arith, g .map-run)
+  where
+    run-short : (a b : ℕ) (l : List ℕ) → b ≤ length l → length (run a b l) ≤ b - a
+    run-short a b l h = le-of-eq (length-take-le (b - a) (drop a l) (omega (arith, length-drop a l)))
+
+-- a row of one value
+pub one-worded : {source table : List ℕ} (l : List ℕ) (a b : ℕ) → b ≡ a + 1 → a < length l → Worded source table (run a b l) → Worded source table (getD l a 0 ∷ [])
+one-worded {source} {table} l a b e h g = subst (λ (vs : List ℕ). Worded source table vs) (run-one a b l e h) g
+
+pub one-put : (to : ℕ) (source table l out out′ : List ℕ) (a b at x : ℕ) → b ≡ a + 1 → a < length l → at < length out
+    → x ∷ [] ≡ wordsFor to source table (getD l a 0 ∷ []) → out′ ≡ set out at x → out′ ≡ put at (wordsFor to source table (run a b l)) out
+one-put to source table l out out′ a b at x e h i q s =
+    s ∙ put-one at x out i ∙ ap (λ (vs : List ℕ). put at vs out) (q ∙ ap (wordsFor to source table) (sym (run-one a b l e h)))
 
 module _ (to : ℕ) (source table vs : List ℕ) where
   pub words-looked : hasTerms (getD source 0 0) ≡ true → looked (mapAt source table) vs ≡ wordsFor to source table vs

@@ -1,5 +1,6 @@
 // Values of the joined column: column_values/merge.rs (`MergedColumnValues`), merge_dict_column.rs (`RemappedTermOrdinalsValues`) and the coercions of merge/mod.rs.
 ghost use mathlib.Core.Path.{_≡_};
+ghost use mathlib.Core.List.{[], _∷_};
 ghost use Prim.Native.Nat.{_<_, _≤_, _+_, _-_};
 ghost use lib.ListN.{length, getD};
 ghost use Rattle.definitions.specs.Types.{hasTerms};
@@ -36,7 +37,7 @@ fn append_coerced(t: u32, u: u32, vs: &[u64], out: &mut [u64], at: usize)
     append_doubles(t, vs, out, at);
 }
 
-// Writes a run of a segment's words as the joined column of type `to` has them: the one place that knows what becomes of a stored word.
+// Writes a run of a segment's words as the joined column of type `to` has them.
 // The source has the segment's type, then start and end of its part of the map.
 pub fn append_words(
     to: u32,
@@ -60,6 +61,32 @@ pub fn append_words(
     append_coerced(t, to, vs, out, at);
 }
 
+// A word of type t as a word of type u.
+fn coerced_word(t: u32, u: u32, word: u64) -> u64
+    ensures { λ r. ⌜ r ∷ [] ≡ coercedAll t u (word ∷ []) ⌝ }
+{
+    if u != 2 {
+        return word;
+    }
+    if t == 2 {
+        return word;
+    }
+    numerical::integer_to_double(t, word)
+}
+
+// The same as append_words for a run of one word.
+fn new_word(to: u32, source: [usize; 3], word: u64, map: &[u32]) -> u64
+    requires { ⌜ Worded source (now map) (word ∷ []) ⌝ }
+    ensures { λ r. ⌜ r ∷ [] ≡ wordsFor to source (now (map .entry)) (word ∷ []) ⌝ }
+{
+    let t = source[0] as u32;
+    if column_type::has_terms(t) {
+        let k = source[1] + (word as usize);
+        return segment::wide(map[k]) as u64;
+    }
+    coerced_word(t, to, word)
+}
+
 // Writes the words of one row, which stand from g.start to g.end behind the segment's first value; returns the index after them.
 pub fn append_row(
     to: u32,
@@ -80,6 +107,10 @@ pub fn append_row(
 {
     let w = g.end - g.start;
     let start = base + g.start;
+    if w == 1 {
+        out[at] = new_word(to, source, values[start], map);
+        return at + 1;
+    }
     let end = base + g.end;
     append_words(to, source, &values[start..end], map, out, at);
     at + w

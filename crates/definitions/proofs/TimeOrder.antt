@@ -285,6 +285,15 @@ not-repeated (b ∷ bs) h =
     grown true n = omega arith
     grown false n = omega arith
 
+-- no alive row is there twice
+pub alive-distinct : (ss : List Segment) → isRepeated (aliveAddresses ss) ≡ false
+unfolding aliveAddresses
+alive-distinct ss = not-repeated (filter (isAliveAt ss) (stackedFrom 0 ss)) (λ a. most a (isAliveAt ss a) refl)
+  where
+    most : (a : Address) (b : Bool) → isAliveAt ss a ≡ b → count (sameAddress a) (filter (isAliveAt ss) (stackedFrom 0 ss)) ≤ 1
+    most a true e = let k : count (sameAddress a) (filter (isAliveAt ss) (stackedFrom 0 ss)) ≡ 1 = count-filter (isAliveAt ss) a (stackedFrom 0 ss) ∙ ap (λ (b : Bool). cond b (count (sameAddress a) (stackedFrom 0 ss)) 0) e ∙ alive-once ss a (alive-back ss a e) in omega arith
+    most a false e = let k : count (sameAddress a) (filter (isAliveAt ss) (stackedFrom 0 ss)) ≡ 0 = count-filter (isAliveAt ss) a (stackedFrom 0 ss) ∙ ap (λ (b : Bool). cond b (count (sameAddress a) (stackedFrom 0 ss)) 0) e in omega arith
+
 pub count-order : (ss : List Segment) (a : Address) → count (sameAddress a) (timeOrder ss) ≡ cond (isAliveAt ss a) (count (sameAddress a) (stackedFrom 0 ss)) 0
 unfolding timeOrder aliveAddresses
 count-order ss a = count-sort ss (sameAddress a) (filter (isAliveAt ss) (stackedFrom 0 ss)) ∙ count-filter (isAliveAt ss) a (stackedFrom 0 ss)

@@ -8,7 +8,7 @@ use mathlib.Core.Bool.{Bool, true, false, not, cond, _||_, _&&_}
 use lib.ListN.{length, getD, take, drop, length-map, length-append}
 use lib.Seq.{ext-getD, take-all}
 use lib.Dec.{T, eqb, ltb, leb}
-use borrow.Author.Tests.{eqb-false}
+use borrow.Author.Tests.{eqb-true, eqb-false}
 use Rattle.definitions.specs.Lists.{sum, upTo}
 use Rattle.definitions.specs.Segment.{Segment, SegmentRecord, Address}
 use Rattle.definitions.specs.Row.{noType, isHeld, heldOf}
@@ -21,12 +21,14 @@ use Rattle.runs.specs.Put.{put, putIf, RoomIf}
 use Rattle.runs.proofs.Laws.{upFrom-length}
 use Rattle.places.specs.Width.{idsOf, totalsOf}
 use Rattle.places.specs.Place.{widths}
-use Rattle.places.specs.Places.{table}
+use Rattle.places.specs.Places.{table, aliveAt}
 use Rattle.places.specs.Stack.{stackedWidths}
-use Rattle.places.proofs.Fill.{table-length}
+use Rattle.places.proofs.Fill.{table-length, table-at}
 use Rattle.column_values_merge.specs.Stack.{stackedWords}
 use Rattle.column_index_merge.specs.Held.{byteOf}
 use Rattle.column_index_merge.specs.Class.{greatestIn}
+use Rattle.column_index_merge.specs.Counted.{countedAll}
+use Rattle.column_index_merge.proofs.Count.{counted-stacked}
 use Rattle.column_index_shuffled.specs.Order.{orderedWords}
 use Rattle.sections_fit.proofs.Own.{rows-all}
 use Rattle.term_rows.specs.Runs.{posAt, fromAt}
@@ -37,13 +39,14 @@ use Rattle.merge_type.specs.declared.TypeAnswer.the-variants.{Wrong, Joined}
 use Rattle.merge_type.specs.Parts.{partsFrom, typeAnswer}
 use Rattle.merge_type.proofs.Rules.{heldFlag, lent-of-lengths, answer-of-input}
 use Rattle.placed.specs.Checked.{segmentsIn, Checked, Flagged, Mapped, placesOf, alivesOf, sourcesOf, rawPlaces, orderOf}
-use Rattle.placed.proofs.Stand.{count-is, few-records, flagged, classed, class-are, all-sound}
-use Rattle.placed.proofs.Index.{listed, stacked-values-fit}
+use Rattle.placed.proofs.Stand.{count-is, few-records, flagged, places-length, alive-flag, classed, class-are}
+use Rattle.placed.proofs.Counted.{values-same, listed-same}
+use Rattle.placed.proofs.Index.{stacked-values-fit}
 use Rattle.placed.proofs.Laws as Placed
 use Rattle.merge_column.specs.Plan.{Prepared, flagsOf, Planning, classFor, widthsFor, wordsFor, idsFor, offsetsFor, Filling}
 use Rattle.merge_column.proofs.Laws.{put-whole}
 use Rattle.merge.specs.Whole.{Passed}
-use Rattle.merge.proofs.Given.{checked, rest, order}
+use Rattle.merge.proofs.Given.{checked, rest, alone, order}
 
 -- ---- by mode
 
@@ -85,6 +88,34 @@ module _ {mode required : ℕ} {records : List (List ℕ)} {ids offsets values l
       go true e = stacked-values-fit c flags
       go false e = Placed.ordered-sum-fits c flags required addresses (order p (other mode e))
 
+  -- ---- the rows that are counted: all of them when stacked, where no segment has an alive set, and each alive one when ordered
+
+  all-counted : mode ≡ 0 → stackedWidths (placesOf records held) ids offsets ≡ countedAll (placesOf records held) (alivesOf records) ids offsets words
+  all-counted e =
+      counted-stacked (placesOf records held) (alivesOf records) ids offsets words (le-of-eq (places-length c flags ∙ count-is c ∙ sym (table-length (aliveAt records) (length records))))
+      (λ k h q.
+      let i : k < length ss = omega (arith, places-length c flags) in
+      let j : k < length records = omega (arith, count-is c) in
+      eqb-false (getD ss k absent .flag) 1 (alone p e k i) (sym (ap (λ (a : List ℕ). getD a 0 0) (table-at (aliveAt records) [] (length records) k j) ∙ alive-flag c k j) ∙ q))
+
+  same-listed : length (idsOf 0 (widthsFor mode addresses (placesOf records held) ids offsets)) ≡ length (idsOf 0 (countedAll (placesOf records held) (alivesOf records) ids offsets words))
+  unfolding widthsFor
+  same-listed = go (eqb mode 0) refl
+    where
+      go : (b : Bool) → eqb mode 0 ≡ b → length (idsOf 0 (cond b (stackedWidths (placesOf records held) ids offsets) (widths (placesOf records held) ids offsets addresses)))
+          ≡ length (idsOf 0 (countedAll (placesOf records held) (alivesOf records) ids offsets words))
+      go true e = ap (λ (l : List ℕ). length (idsOf 0 l)) (all-counted (eqb-true mode 0 e))
+      go false e = listed-same c flags addresses (order p (other mode e))
+
+  same-values : sum (widthsFor mode addresses (placesOf records held) ids offsets) ≡ sum (countedAll (placesOf records held) (alivesOf records) ids offsets words)
+  unfolding widthsFor
+  same-values = go (eqb mode 0) refl
+    where
+      go : (b : Bool) → eqb mode 0 ≡ b → sum (cond b (stackedWidths (placesOf records held) ids offsets) (widths (placesOf records held) ids offsets addresses))
+          ≡ sum (countedAll (placesOf records held) (alivesOf records) ids offsets words)
+      go true e = ap sum (all-counted (eqb-true mode 0 e))
+      go false e = values-same c flags addresses (order p (other mode e))
+
   pub terms-inside : posAt records (length records) ≤ length lengths
   terms-inside =
       le-of-eq
@@ -104,8 +135,8 @@ module _ {mode required : ℕ} {records : List (List ℕ)} {ids offsets values l
         classed = rw (r .places-are, r .alives-are) (classed c flags);
         counted =
             record {
-              stacked = λ e. rw (r .places-are) (all-sound c flags);
-              ordered = λ n. rw (r .places-are) (listed c flags addresses (order p n));
+              listed = rw (r .places-are, r .alives-are) same-listed;
+              values = rw (r .places-are, r .alives-are) same-values;
               few = rw (r .places-are) few-values;
             };
         terms =

@@ -96,7 +96,7 @@ fn fill_dictionary(
         out_bytes,
         out_map,
     );
-    merge_mapping::zero(&mut work[..n]);
+    runs::zero(&mut work[..n]);
     c
 }
 
@@ -181,6 +181,7 @@ fn join_tables(
                 offsets,
                 values,
                 out_map,
+                work,
                 out_ids,
                 out_offsets,
                 out_values,

@@ -5,15 +5,13 @@ use native.Mathlib.Omega.{arith}
 use mathlib.Core.Path.{_≡_, refl, sym, ap, _∙_, subst}
 use mathlib.Core.List.{List, [], _∷_, _++_, append-nil}
 use mathlib.Core.Bool.{Bool, true, false, not, cond}
-use lib.ListN.{length, take, drop, drop-of-length-le}
+use lib.ListN.{length, take, drop, replicate, drop-of-length-le}
 use lib.Dec.{eqb, ltb, leb}
 use borrow.Author.Tests.{eq-eqb, ne-eqb, not-true, not-false}
-use Rattle.definitions.specs.Lists.{sum}
 use Rattle.runs.specs.Put.{put, putIf, RoomIf}
 use Rattle.places.specs.Width.{idsOf, totalsOf}
 use Rattle.places.specs.Place.{widths}
 use Rattle.places.specs.Stack.{stackedWidths}
-use Rattle.column_index_merge.specs.declared.Counts.{Counts}
 use Rattle.column_values_merge.specs.Stack.{stackedWords}
 use Rattle.column_index_stacked.specs.Stacked.{Stacked}
 use Rattle.column_index_shuffled.specs.Order.{orderedWords, Ordered}
@@ -21,7 +19,7 @@ use Rattle.merge_column.specs.declared.Shape.{Shape}
 use Rattle.merge_column.specs.declared.Space.{Space}
 use Rattle.merge_column.specs.declared.Plan.{Plan}
 use Rattle.merge_column.specs.declared.Plan.the-variants.{Refused, Column}
-use Rattle.merge_column.specs.Plan.{classFor, widthsFor, Countable, idsFor, offsetsFor, enoughFor, wordsFor, Filling}
+use Rattle.merge_column.specs.Plan.{classFor, widthsFor, idsFor, offsetsFor, enoughFor, wordsFor, leftFor, Filling}
 
 -- put from the start over something as long
 pub put-whole : {A : Type 0} (vs old : List A) → length vs ≡ length old → put 0 vs old ≡ vs
@@ -73,16 +71,6 @@ module _ (mode : ℕ) (addresses places : List (List ℕ)) (ids offsets : List �
   unfolding widthsFor
   widths-ordered e = past-code mode 0 (stackedWidths places ids offsets) (widths places ids offsets addresses) e
 
-  module _ (k : Countable mode addresses places ids offsets) where
-    pub few-stacked : mode ≡ 0 → sum (stackedWidths places ids offsets) < 18446744073709551616
-    few-stacked e = omega (arith, k .few, ap sum (widths-stacked e))
-
-    pub few-ordered : (mode ≡ 0 → ⊥) → sum (widths places ids offsets addresses) < 18446744073709551616
-    few-ordered e = omega (arith, k .few, ap sum (widths-ordered e))
-
-pub counts-are : (x : Counts) (ws vs : List ℕ) → x .listed ≡ length (idsOf 0 ws) → x .values ≡ sum ws → ws ≡ vs → x ≡ record { listed = length (idsOf 0 vs); values = sum vs }
-counts-are x ws vs p q e = λ i. record { listed = (p ∙ ap (λ (l : List ℕ). length (idsOf 0 l)) e) i; values = (q ∙ ap sum e) i }
-
 module _ {mode class to : ℕ} {addresses places sources : List (List ℕ)} {ids offsets values map outIds outOffsets outValues : List ℕ}
     (g : Filling mode class to addresses places sources ids offsets values map outIds outOffsets outValues) where
   pub words-stacked : mode ≡ 0 → stackedWords to places sources values map ≡ wordsFor mode to addresses places sources ids offsets values map
@@ -130,3 +118,25 @@ filled-offsets old ws vs b p e = p ∙ ap (λ (l : List ℕ). putIf b 0 (0 ∷ t
 
 pub filled-values : {x : List ℕ} (old ws vs : List ℕ) → x ≡ put 0 ws old → ws ≡ vs → x ≡ put 0 vs old
 filled-values old ws vs p e = p ∙ ap (λ (l : List ℕ). put 0 l old) e
+
+-- ---- the working bytes
+
+pub left-stacked : (mode : ℕ) (work : List ℕ) → mode ≡ 0 → work ≡ leftFor mode work
+unfolding leftFor
+left-stacked mode work e = at-code mode 0 work (replicate (length work) 0) e
+
+pub left-ordered : (mode : ℕ) (work : List ℕ) → (mode ≡ 0 → ⊥) → replicate (length work) 0 ≡ leftFor mode work
+unfolding leftFor
+left-ordered mode work e = past-code mode 0 work (replicate (length work) 0) e
+
+-- zero bytes stay as they are
+pub left-clean : (mode : ℕ) (work before after : List ℕ) → work ≡ replicate (length work) 0 → before ≡ work → after ≡ leftFor mode before → after ≡ work
+unfolding leftFor
+left-clean mode work before after z e f = f ∙ go (eqb mode 0) ∙ e
+  where
+    zero-still : replicate (length before) 0 ≡ before
+    zero-still = ap (λ (w : List ℕ). replicate (length w) 0) e ∙ sym z ∙ sym e
+
+    go : (b : Bool) → cond b before (replicate (length before) 0) ≡ before
+    go true = refl
+    go false = zero-still

@@ -20,7 +20,7 @@ use Rattle.merge_type.specs.Parts.{partsFrom, typeAnswer}
 use Rattle.merge_column.specs.declared.Space.{Space}
 use Rattle.merge_column.specs.declared.Plan.{Plan}
 use Rattle.merge_column.specs.declared.Plan.the-variants.{Refused}
-use Rattle.merge_column.specs.Plan.{classFor, widthsFor, countsFor, Countable, planOf, planBy, planFor}
+use Rattle.merge_column.specs.Plan.{classFor, widthsFor, planOf, planBy, planFor}
 
 -- a row that is listed has a value
 ids-le : (n : ℕ) (ws : List ℕ) → length (idsOf n ws) ≤ sum ws
@@ -29,10 +29,8 @@ ids-le n [] = zero-le
 ids-le n (zero ∷ ws) = let h = ids-le (suc n) ws in omega arith
 ids-le n (suc w ∷ ws) = let h = ids-le (suc n) ws in omega arith
 
-pub listed-few : {mode : ℕ} {addresses places : List (List ℕ)} {ids offsets : List ℕ} → Countable mode addresses places ids offsets
-    → (x : Counts) → x ≡ countsFor mode addresses places ids offsets → x .listed < 18446744073709551615
-listed-few {mode} {addresses} {places} {ids} {offsets} k x e =
-    omega (arith, ap (λ (z : Counts). z .listed) e, ids-le 0 (widthsFor mode addresses places ids offsets), k .few)
+pub listed-few : (n : ℕ) (ws : List ℕ) → n ≡ length (idsOf 0 ws) → sum ws ≤ 4294967294 → n < 18446744073709551615
+listed-few n ws e h = omega (arith, ids-le 0 ws)
 
 module _ (mode required : ℕ) (records : List (List ℕ)) (ids offsets values lengths words : List ℕ) (addresses places alives : List (List ℕ)) (held : List ℕ) (space : Space)
     (x : TypeAnswer) (e : x ≡ typeAnswer required (partsFrom records values held)) where
@@ -45,12 +43,13 @@ module _ (mode required : ℕ) (records : List (List ℕ)) (ids offsets values l
       → class ≡ classFor typ (greatestIn places alives ids offsets words)
       → all ≡ total (λ (y : SegmentRecord). y .rows) (recordsOf records)
       → rows ≡ cond (eqb mode 0) all (length addresses)
-      → k ≡ countsFor mode addresses places ids offsets
+      → k .listed ≡ length (idsOf 0 (widthsFor mode addresses places ids offsets))
+      → k .values ≡ sum (widthsFor mode addresses places ids offsets)
       → terms ≡ toAt records held (length records)
       → bytes ≡ textAt records held lengths (length records)
       → r ≡ planFor mode required records ids offsets values lengths words addresses places alives held space
   unfolding planFor
-  planned-column typ q r class all rows k terms bytes re ce ae we ke te be =
+  planned-column typ q r class all rows k terms bytes re ce ae we le ve te be =
       re
-      ∙ (λ i. planOf typ (ce i) ((we ∙ ap (λ (n : ℕ). cond (eqb mode 0) n (length addresses)) ae) i) (ke i .listed) (ke i .values) (te i) (be i) space)
+      ∙ (λ i. planOf typ (ce i) ((we ∙ ap (λ (n : ℕ). cond (eqb mode 0) n (length addresses)) ae) i) (le i) (ve i) (te i) (be i) space)
       ∙ sym (ap (λ (t : TypeAnswer). planBy t mode records ids offsets lengths words addresses places alives held space) (sym e ∙ q))

@@ -4,7 +4,7 @@ use mathlib.Core.Path.{_≡_}
 use mathlib.Core.List.{List, [], _∷_}
 use mathlib.Core.Bool.{Bool, true, false, cond, not}
 use lib.Dec.{eqb, ltb, leb}
-use lib.ListN.{length}
+use lib.ListN.{length, replicate}
 use Rattle.definitions.specs.Lists.{sum}
 use Rattle.definitions.specs.Segment.{SegmentRecord}
 use Rattle.definitions.specs.Row.{noType}
@@ -12,12 +12,12 @@ use Rattle.definitions.specs.Answer.{total}
 use Rattle.segment.specs.Records.{recordsOf}
 use Rattle.runs.specs.Put.{RoomIf}
 use Rattle.places.specs.Width.{idsOf, totalsOf}
-use Rattle.places.specs.Place.{widths, Listed}
+use Rattle.places.specs.Place.{widths}
 use Rattle.places.specs.Places.{table}
-use Rattle.places.specs.Stack.{stackedWidths, AllSound}
-use Rattle.column_index_merge.specs.declared.Counts.{Counts}
+use Rattle.places.specs.Stack.{stackedWidths}
 use Rattle.column_index_merge.specs.Held.{heldAt}
 use Rattle.column_index_merge.specs.Class.{greatestIn, AllClassed}
+use Rattle.column_index_merge.specs.Counted.{countedAll}
 use Rattle.term_rows.specs.Runs.{posAt, toAt, textAt}
 use Rattle.merge_type.specs.declared.TypeAnswer.{TypeAnswer}
 use Rattle.merge_type.specs.declared.TypeAnswer.the-variants.{Wrong, Joined}
@@ -61,13 +61,10 @@ classFor type greatest = cond (eqb type noType) 0 greatest
 unfoldable pub widthsFor : ℕ → List (List ℕ) → List (List ℕ) → List ℕ → List ℕ → List ℕ
 widthsFor mode addresses places ids offsets = cond (eqb mode 0) (stackedWidths places ids offsets) (widths places ids offsets addresses)
 
-abbrev pub countsFor : ℕ → List (List ℕ) → List (List ℕ) → List ℕ → List ℕ → Counts
-countsFor mode addresses places ids offsets =
-    record { listed = length (idsOf 0 (widthsFor mode addresses places ids offsets)); values = sum (widthsFor mode addresses places ids offsets) }
-
-pub record Countable (mode : ℕ) (addresses places : List (List ℕ)) (ids offsets : List ℕ) : Type 0 where
-  pub stacked : mode ≡ 0 → AllSound places ids offsets
-  pub ordered : (mode ≡ 0 → ⊥) → Listed addresses places ids offsets
+-- the listed rows have as many values as the alive rows of the segments, and as many of them have one
+pub record Counted (mode : ℕ) (addresses places alives : List (List ℕ)) (ids offsets words : List ℕ) : Type 0 where
+  pub listed : length (idsOf 0 (widthsFor mode addresses places ids offsets)) ≡ length (idsOf 0 (countedAll places alives ids offsets words))
+  pub values : sum (widthsFor mode addresses places ids offsets) ≡ sum (countedAll places alives ids offsets words)
   pub few : sum (widthsFor mode addresses places ids offsets) ≤ 4294967294
 
 -- the terms of the records lie within the term lengths
@@ -107,7 +104,7 @@ pub record Planning (mode : ℕ) (records : List (List ℕ)) (ids offsets values
   pub few : length records ≤ 256
   pub lent : Lent records values held
   pub classed : AllClassed places alives ids offsets words
-  pub counted : Countable mode addresses places ids offsets
+  pub counted : Counted mode addresses places alives ids offsets words
   pub terms : HeldRuns records held lengths
 
 abbrev pub planBy : TypeAnswer → ℕ → List (List ℕ) → List ℕ → List ℕ → List ℕ → List ℕ → List (List ℕ) → List (List ℕ) → List (List ℕ) → List ℕ → Space → Plan
@@ -132,6 +129,10 @@ planFor mode required records ids offsets values lengths words addresses places 
 unfoldable pub wordsFor : ℕ → ℕ → List (List ℕ) → List (List ℕ) → List (List ℕ) → List ℕ → List ℕ → List ℕ → List ℕ → List ℕ
 wordsFor mode to addresses places sources ids offsets values map =
     cond (eqb mode 0) (stackedWords to places sources values map) (orderedWords to places sources ids offsets values map addresses)
+
+-- the working bytes: an ordered join leaves them zero
+unfoldable pub leftFor : ℕ → List ℕ → List ℕ
+leftFor mode work = cond (eqb mode 0) work (replicate (length work) 0)
 
 pub record Filling (mode class to : ℕ) (addresses places sources : List (List ℕ)) (ids offsets values map outIds outOffsets outValues : List ℕ) : Type 0 where
   pub stacked : mode ≡ 0 → Stacked places sources ids offsets values map

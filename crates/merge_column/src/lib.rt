@@ -10,7 +10,7 @@ ghost use Rattle.runs.specs.Put.{put, putIf};
 ghost use Rattle.places.specs.Width.{idsOf, totalsOf};
 ghost use Rattle.term_rows.specs.Runs.{toAt, textAt};
 ghost use Rattle.column_index_merge.specs.Class.{greatestIn, AllClassed};
-ghost use Rattle.merge_column.specs.Plan.{Preparing, Prepared, classFor, Countable, countsFor, HeldRuns, idsFor, offsetsFor, enoughFor, planOf, Planning, planFor, widthsFor, wordsFor, Filling};
+ghost use Rattle.merge_column.specs.Plan.{Preparing, Prepared, classFor, HeldRuns, idsFor, offsetsFor, enoughFor, planOf, Planning, planFor, widthsFor, wordsFor, leftFor, Filling};
 
 // Where the segments stand, which of them are held, and each one's part of the map.
 pub fn prepare(
@@ -49,23 +49,6 @@ fn joined_class(
         return 0;
     }
     column_index_merge::greatest_class(places, alives, ids, offsets, alive)
-}
-
-// How many rows have a value, and how many values they have.
-fn count_rows(
-    mode: u32,
-    addresses: &[[u32; 2]],
-    places: &[[usize; 8]],
-    ids: &[u32],
-    offsets: &[u32],
-) -> column_index_merge::Counts
-    requires { ⌜ Countable mode (now addresses) (now places) (now ids) (now offsets) ⌝ }
-    ensures { λ r. ⌜ r ≡ countsFor mode (now (addresses .entry)) (now (places .entry)) (now (ids .entry)) (now (offsets .entry)) ⌝ }
-{
-    if mode == 0 {
-        return column_index_merge::stacked_counts(places, ids, offsets);
-    }
-    column_index_merge::ordered_counts(addresses, places, ids, offsets)
 }
 
 // The held columns' number of terms, and of their bytes.
@@ -242,7 +225,7 @@ pub fn measure(
     let class = joined_class(typ, places, alives, ids, offsets, alive);
     let all = sections_fit::totals_of(records);
     let rows = rows_of(mode, all.rows, addresses.len());
-    let c = count_rows(mode, addresses, places, ids, offsets);
+    let c = column_index_merge::count_rows(places, alives, ids, offsets, alive);
     let h = held_terms(records, held, lengths);
     shape_of(typ, class, rows, c, h, space)
 }
@@ -259,6 +242,7 @@ pub fn fill_rows(
     offsets: &[u32],
     values: &[u64],
     map: &[u32],
+    work: &mut [u8],
     out_ids: &mut [u32],
     out_offsets: &mut [u32],
     out_values: &mut [u64],
@@ -267,6 +251,7 @@ pub fn fill_rows(
     ensures { λ _. ⌜ now («out_ids» .exit) ≡ putIf (not (eqb class 0)) 0 (idsOf 0 (widthsFor mode (now (addresses .entry)) (now (places .entry)) (now (ids .entry)) (now (offsets .entry)))) (now («out_ids» .entry)) ⌝ }
     ensures { λ _. ⌜ now («out_offsets» .exit) ≡ putIf (eqb class 2) 0 (0 ∷ totalsOf 0 (widthsFor mode (now (addresses .entry)) (now (places .entry)) (now (ids .entry)) (now (offsets .entry)))) (now («out_offsets» .entry)) ⌝ }
     ensures { λ _. ⌜ now («out_values» .exit) ≡ put 0 (wordsFor mode to (now (addresses .entry)) (now (places .entry)) (now (sources .entry)) (now (ids .entry)) (now (offsets .entry)) (now (values .entry)) (now (map .entry))) (now («out_values» .entry)) ⌝ }
+    ensures { λ _. ⌜ now (work .exit) ≡ leftFor mode (now (work .entry)) ⌝ }
 {
     if mode == 0 {
         column_index_stacked::stacked_rows(
@@ -294,6 +279,7 @@ pub fn fill_rows(
         offsets,
         values,
         map,
+        work,
         out_ids,
         out_offsets,
         out_values,

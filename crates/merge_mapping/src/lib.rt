@@ -11,17 +11,6 @@ ghost use Rattle.segment.specs.Records.{plain, recordsOf};
 ghost use Rattle.segment.specs.Lent.{address, addressesOf, lentInput};
 ghost use Rattle.merge_mapping.specs.Mapping.{rowsIn, startsOf, rowAlive, aliveIn, Found, allNew, marked, Markable, rowListed, Parts, rowsListed, listedFrom, eachOnce, Unmarked, addressesRight, Checked, roomEnough, answerToNine};
 
-// Sets every byte to 0.
-pub fn zero(work: &mut [u8])
-    ensures { λ _. ⌜ now (work .exit) ≡ replicate (length (now (work .entry))) 0 ⌝ }
-{
-    let mut i: usize = 0;
-    while i < work.len() {
-        work[i] = 0;
-        i += 1;
-    }
-}
-
 // The number of rows before each segment.
 pub fn row_starts(records: &[[u32; 8]], starts: &mut [usize])
     requires { ⌜ length (now records) ≤ 256 ⌝ }
@@ -196,7 +185,7 @@ fn addresses_fit(
         return addresses.len() == 0;
     }
     let fit = each_once(records, alive, addresses, &mut work[..rows]);
-    zero(&mut work[..rows]);
+    runs::zero(&mut work[..rows]);
     fit
 }
 
@@ -229,7 +218,7 @@ pub fn verdict(
     ensures { λ x. ⌜ x ≡ answerToNine (lentInput mode required (now (records .entry)) (now (ids .entry)) (now (offsets .entry)) (now (values .entry)) (now (lengths .entry)) (now (bytes .entry)) (now (alive .entry)) (now (addresses .entry)) (length (now (work .entry)))) ⌝ }
     ensures { λ _. ⌜ now (work .exit) ≡ replicate (length (now (work .entry))) 0 ⌝ }
 {
-    zero(work);
+    runs::zero(work);
     let first = first_seven(
         mode,
         required,

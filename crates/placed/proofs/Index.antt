@@ -21,7 +21,7 @@ use Rattle.definitions.proofs.Part.{map-twice}
 use Rattle.definitions.proofs.Accept.{lists-ordered, mem-stacked}
 use Rattle.segment.proofs.At.{sum-append}
 use Rattle.runs.proofs.Laws.{upFrom-length}
-use Rattle.places.specs.Place.{rowsAt, widthIn, widths, placeOf, rowOf, Inside, Listed}
+use Rattle.places.specs.Place.{rowsAt, widthIn, widths, placeOf, rowOf, Inside}
 use Rattle.places.specs.Stack.{segmentWidths, stackedWidths, allRows}
 use Rattle.places.proofs.Bulk.{seg-sum}
 use Rattle.places.proofs.Bridge.{count-stands, inside-stands, width-stands, sound-stands}
@@ -210,7 +210,3 @@ module _ {records : List (List ℕ)} {ids offsets values lengths bytes words : L
   module _ (addresses : List (List ℕ)) (o : T (listsAliveRows ss (orderOf addresses))) (k : ℕ) (h : k < length addresses) where
     pub ordered-inside : (getD (getD addresses k []) 0 0 < length places) × Inside (placeOf places (getD addresses k [])) ids offsets values (rowOf (getD addresses k []))
     ordered-inside = inside-at k addresses (known-rows addresses o) h
-
-  -- ordered_counts: what it asks
-  pub listed : (addresses : List (List ℕ)) → T (listsAliveRows ss (orderOf addresses)) → Listed addresses places ids offsets
-  listed addresses o = record { each = λ k h. let t = ordered-inside addresses o k h in (t .0, t .1 .within) }

@@ -141,10 +141,10 @@ module _ {records : List (List ℕ)} {ids offsets values lengths bytes words : L
 
     -- ---- the alive set
 
-    alive-flag : getD (aliveAt records k) 0 0 ≡ getD ss k absent .flag
+    pub alive-flag : getD (aliveAt records k) 0 0 ≡ getD ss k absent .flag
     alive-flag = flag-there records ids offsets values lengths bytes words runs-held k h
 
-    alive-run : run (getD (aliveAt records k) 1 0) (getD (aliveAt records k) 2 0) words ≡ getD ss k absent .alive
+    pub alive-run : run (getD (aliveAt records k) 1 0) (getD (aliveAt records k) 2 0) words ≡ getD ss k absent .alive
     alive-run = words-there records ids offsets values lengths bytes words runs-held k h
 
     classed-at : {p : List ℕ} {s : Segment} → Stands p ids offsets values s → T (listsFit s) → s .rows ≡ getD ss k absent .rows → Classed p (aliveAt records k) ids offsets words

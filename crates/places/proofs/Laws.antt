@@ -7,11 +7,10 @@ use mathlib.Core.Path.{_≡_, refl, sym, ap, _∙_}
 use mathlib.Core.List.{List, [], _∷_, _++_}
 use lib.ListN.{length, getD, set, drop, drop-of-length-le, length-set}
 use lib.Seq.{drop-cons, set-split, set-set, drop-set-lt}
-use Rattle.definitions.specs.Lists.{sum}
 use Rattle.runs.specs.Put.{put}
 use Rattle.runs.proofs.Laws.{Filling, fill-start, fill-more}
 use Rattle.places.specs.Width.{idPart, idsOf, totalsOf}
-use Rattle.places.specs.Place.{widthIn, widths, placeOf, rowOf, Within, Listed}
+use Rattle.places.specs.Place.{widthIn, widths, placeOf, rowOf}
 
 -- one element put
 pub put-one : (at x : ℕ) (old : List ℕ) → at < length old → set old at x ≡ put at (x ∷ []) old
@@ -78,20 +77,3 @@ module _ (places : List (List ℕ)) (ids offsets : List ℕ) (addresses : List (
   pub totals-end : length addresses ≤ j → (t : ℕ) → totalsOf t (widths places ids offsets (drop j addresses)) ≡ []
   unfolding totalsOf
   totals-end h t = rw (widths-end h)
-
-  pub sum-step : j < length addresses → (w : ℕ) → w ≡ widthNow
-      → sum (widths places ids offsets (drop j addresses)) ≡ w + sum (widths places ids offsets (drop (j + 1) addresses))
-  sum-step h w e = rw (widths-step h, e)
-
--- ---- a turn at the address j: s is the segment that was read, w the width that was found
-
-module _ {addresses places : List (List ℕ)} {ids offsets : List ℕ} (l : Listed addresses places ids offsets) {j s : ℕ} (h : j < length addresses) (e : s ≡ getD (getD addresses j []) 0 0) where
-  pub listed-now : (s < length places) × Within (getD places s []) ids offsets (rowOf (getD addresses j []))
-  listed-now = rw e (l .each j h)
-
-  module _ {w : ℕ} (q : w ≡ widthIn (getD places s []) ids offsets (rowOf (getD addresses j []))) where
-    width-now : w ≡ widthNow places ids offsets addresses j
-    width-now = q ∙ ap (λ (n : ℕ). widthIn (getD places n []) ids offsets (rowOf (getD addresses j []))) e
-
-    pub sum-now : sum (widths places ids offsets (drop j addresses)) ≡ w + sum (widths places ids offsets (drop (j + 1) addresses))
-    sum-now = sum-step places ids offsets addresses j h w width-now

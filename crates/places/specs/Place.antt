@@ -76,11 +76,6 @@ pub record Within (place ids offsets : List ℕ) (row : ℕ) : Type 0 where
   pub readable : Readable (kindAt place) (idsAt place ids) (offsetsAt place offsets) row
   pub rises : startIn place ids offsets row ≤ endIn place ids offsets row
 
--- every address is of a row that can be looked up
-pub record Listed (addresses places : List (List ℕ)) (ids offsets : List ℕ) : Type 0 where
-  pub each : (k : ℕ) → k < length addresses
-      → (getD (getD addresses k []) 0 0 < length places) × Within (placeOf places (getD addresses k [])) ids offsets (rowOf (getD addresses k []))
-
 -- the row's values lie within the segment's own
 pub record Inside (place ids offsets values : List ℕ) (row : ℕ) : Type 0 where
   pub within : Within place ids offsets row

@@ -7,8 +7,14 @@ ghost use Rattle.runs.specs.Put.{put};
 ghost use Rattle.places.specs.Place.{startIn, endIn, widthIn, Within};
 ghost use Rattle.places.specs.Places.{table, isSet, rawAt, placeIf, keptAt, aliveAt, sourceAt};
 
-// Where the values of a row of the placed segment stand among the segment's values.
-pub fn range_in(place: [usize; 8], ids: &[u32], offsets: &[u32], row: u32) -> column_index::Range
+// Where the values of a row of the placed segment stand among the segment's values; `near` is a guess at the row's rank.
+pub fn range_in(
+    place: [usize; 8],
+    ids: &[u32],
+    offsets: &[u32],
+    row: u32,
+    near: usize,
+) -> column_index::Range
     requires { ⌜ Within place (now ids) (now offsets) row ⌝ }
     ensures { λ r. ⌜ r .start ≡ startIn place (now (ids .entry)) (now (offsets .entry)) row ⌝ }
     ensures { λ r. ⌜ r .end ≡ endIn place (now (ids .entry)) (now (offsets .entry)) row ⌝ }
@@ -18,15 +24,15 @@ pub fn range_in(place: [usize; 8], ids: &[u32], offsets: &[u32], row: u32) -> co
     let b = place[3];
     let c = place[4];
     let d = place[5];
-    column_index::value_range(kind, &ids[a..b], &offsets[c..d], row)
+    column_index::value_range(kind, &ids[a..b], &offsets[c..d], row, near)
 }
 
-// How many values the row has.
-pub fn width_in(place: [usize; 8], ids: &[u32], offsets: &[u32], row: u32) -> usize
+// How many values the row has; `near` is a guess at its rank.
+pub fn width_in(place: [usize; 8], ids: &[u32], offsets: &[u32], row: u32, near: usize) -> usize
     requires { ⌜ Within place (now ids) (now offsets) row ⌝ }
     ensures { λ r. ⌜ r ≡ widthIn place (now (ids .entry)) (now (offsets .entry)) row ⌝ }
 {
-    let g = range_in(place, ids, offsets, row);
+    let g = range_in(place, ids, offsets, row, near);
     g.end - g.start
 }
 

@@ -6,13 +6,14 @@ use Prim.Native.Nat.{ℕ, zero, suc, _+_, _-_, _*_, _≤_, _<_, zero-le, suc-le-
 use native.Mathlib.Numerals.{add-one}
 use native.Mathlib.Omega.{arith}
 use lib.Dec.{eqb, ltb, leb}
-use lib.ListN.{length, drop, take, getD, drop-of-length-le}
-use lib.Seq.{drop-cons, drop-drop}
+use lib.ListN.{length, drop, getD, drop-of-length-le}
+use lib.Seq.{drop-cons}
 use borrow.Author.Tests.{eq-eqb, ne-eqb, lt-ltb, le-ltb, ltb-true, ltb-false, le-leb, lt-leb, leb-true}
-use Rattle.definitions.specs.Lists.{sum, all, any, last, upFrom, isBelow, compareBytes}
+use Rattle.definitions.specs.Lists.{all, any, last, upFrom}
 use Rattle.definitions.specs.Row.{bitAt}
 use Rattle.segment.proofs.Tests.{both-true}
-use Rattle.segment_fit.specs.Fits.{risesFrom, rises, lastOf, allBelow, termsRise, termsRiseFrom, pastRows, fitsOffsets}
+pub use Rattle.term_reader.proofs.Laws.{sum-step}
+use Rattle.segment_fit.specs.Fits.{risesFrom, rises, lastOf, allBelow, pastRows, fitsOffsets}
 
 -- ---- rises
 
@@ -113,38 +114,6 @@ module _ (values : ℕ) (xs : List ℕ) (n : length xs ≡ 0 → ⊥) where
   pub offsets-last : (a b : ℕ) → getD xs 0 0 ≡ 0 → a ≡ lastOf xs → b ≡ values → eqb a b ≡ fitsOffsets values xs
   unfolding fitsOffsets
   offsets-last a b k p q = rw (offsets-head, eq-eqb (getD xs 0 0) 0 k, p, q)
-
--- ---- terms
-
-pub sum-step : (xs : List ℕ) (i : ℕ) → i < length xs → sum (drop i xs) ≡ getD xs i 0 + sum (drop (i + 1) xs)
-sum-step xs i h = rw (add-one i, drop-cons xs i 0 h)
-
-pub terms-none : (lengths bytes : List ℕ) → length lengths ≡ 0 → true ≡ termsRise lengths bytes
-unfolding termsRise
-terms-none [] bytes h = refl
-terms-none (n ∷ ns) bytes h = absurd (omega arith)
-
-pub terms-start : (lengths bytes : List ℕ) (to : ℕ) → (length lengths ≡ 0 → ⊥) → to ≡ getD lengths 0 0
-    → termsRiseFrom (take (to - 0) (drop 0 bytes)) (drop 1 lengths) (drop to bytes) ≡ termsRise lengths bytes
-unfolding termsRise termsRiseFrom
-terms-start [] bytes to h e = absurd (h refl)
-terms-start (n ∷ ns) bytes to h e = rw (let z : to - 0 ≡ to = omega arith in z, e)
-
-module _ (t lengths bytes : List ℕ) (i x to end : ℕ) (h : i < length lengths) (e : x ≡ getD lengths i 0) (k : end ≡ to + x) where
-  terms-step : termsRiseFrom t (drop i lengths) (drop to bytes) ≡ isBelow (compareBytes t (take (end - to) (drop to bytes))) && termsRiseFrom (take (end - to) (drop to bytes)) (drop (i + 1) lengths) (drop end bytes)
-  unfolding termsRiseFrom
-  terms-step = rw (let z : end - to ≡ x = omega arith in z, k, ← drop-drop x to bytes, e, add-one i, drop-cons lengths i 0 h)
-
-  pub terms-low : {b : Bool} → b ≡ isBelow (compareBytes t (take (end - to) (drop to bytes))) → b ≡ false → false ≡ termsRiseFrom t (drop i lengths) (drop to bytes)
-  terms-low p q = rw (terms-step, ← p, q)
-
-  pub terms-next : {b : Bool} → b ≡ isBelow (compareBytes t (take (end - to) (drop to bytes))) → b ≡ true
-      → termsRiseFrom (take (end - to) (drop to bytes)) (drop (i + 1) lengths) (drop end bytes) ≡ termsRiseFrom t (drop i lengths) (drop to bytes)
-  terms-next p q = rw (terms-step, ← p, q)
-
-pub terms-end : (t lengths bytes : List ℕ) (i : ℕ) → length lengths ≤ i → true ≡ termsRiseFrom t (drop i lengths) bytes
-unfolding termsRiseFrom
-terms-end t lengths bytes i h = rw (drop-of-length-le lengths h)
 
 -- ---- bits past the rows
 

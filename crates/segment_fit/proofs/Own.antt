@@ -15,7 +15,8 @@ use Rattle.definitions.specs.Row.{hasAliveSet, noType}
 use Rattle.definitions.specs.Types.{isKnownType, hasTerms, BoolType}
 use Rattle.definitions.specs.Answer.{codesKnown, noColumnIsBare, idsFit, offsetsFit, emptyFits, fullFits, optionalFits, oldFits, newFits, listsFit, valuesFit, bitPastRows}
 use Rattle.segment.proofs.Tests.{empty-length}
-use Rattle.segment_fit.specs.Fits.{risesFrom, rises, lastOf, allBelow, bareCounts, fitsCodes, fitsIds, fitsOffsets, fitsEmpty, fitsFull, fitsOptional, fitsOld, fitsNew, fitsLists, termsRise, fitsWords, fitsTerms, fitsValues, pastRows}
+use Rattle.term_reader.specs.Read.{termsRise}
+use Rattle.segment_fit.specs.Fits.{risesFrom, rises, lastOf, allBelow, bareCounts, fitsCodes, fitsIds, fitsOffsets, fitsEmpty, fitsFull, fitsOptional, fitsOld, fitsNew, fitsLists, fitsWords, fitsTerms, fitsValues, pastRows}
 
 -- ---- lists
 

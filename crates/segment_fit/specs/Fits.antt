@@ -5,10 +5,11 @@ use mathlib.Core.List.{List, [], _∷_}
 use mathlib.Core.Bool.{Bool, true, _&&_, _||_, cond, not}
 use lib.ListN.{length, getD}
 use lib.Dec.{eqb, ltb, leb}
-use Rattle.definitions.specs.Lists.{all, any, last, upTo, termsAscending, termsAscendingFrom}
-use Rattle.definitions.specs.Segment.{SegmentRecord, byKind, cut}
+use Rattle.definitions.specs.Lists.{all, any, last, upTo}
+use Rattle.definitions.specs.Segment.{SegmentRecord, byKind}
 use Rattle.definitions.specs.Row.{bitAt, noType}
 use Rattle.definitions.specs.Types.{isKnownType, hasTerms, BoolType}
+use Rattle.term_reader.specs.Read.{termsRise}
 
 -- each element is at least step above the one before it
 unfoldable pub risesFrom : ℕ → ℕ → List ℕ → Bool
@@ -67,13 +68,6 @@ fitsLists r ids offsets =
     (fitsNew (r .rows) (r .values) ids offsets)
 
 -- ---- 5
-
-unfoldable pub termsRise : List ℕ → List ℕ → Bool
-termsRise lengths bytes = termsAscending (cut lengths bytes)
-
--- the terms from the one before on
-unfoldable pub termsRiseFrom : List ℕ → List ℕ → List ℕ → Bool
-termsRiseFrom t lengths bytes = termsAscendingFrom t (cut lengths bytes)
 
 unfoldable pub fitsWords : ℕ → ℕ → List ℕ → Bool
 fitsWords type terms values = cond (eqb type BoolType) (allBelow 2 values) (cond (hasTerms type) (allBelow terms values) true)

@@ -5,10 +5,10 @@ ghost use mathlib.Core.Bool.{_&&_};
 ghost use Prim.Native.Nat.{_<_, _≤_};
 ghost use lib.ListN.{length};
 ghost use lib.Dec.{eqb};
-ghost use Rattle.definitions.specs.Lists.{sum, compareBytes, isBelow};
+ghost use Rattle.definitions.specs.Lists.{sum};
 ghost use Rattle.definitions.specs.Types.{hasTerms};
 ghost use Rattle.segment.specs.Records.{plain};
-ghost use Rattle.segment_fit.specs.Fits.{rises, lastOf, allBelow, fitsCodes, bareCounts, fitsIds, fitsOffsets, fitsEmpty, fitsFull, fitsOptional, fitsOld, fitsNew, fitsLists, termsRise, fitsWords, fitsTerms, fitsValues, pastRows, fitsAlive};
+ghost use Rattle.segment_fit.specs.Fits.{rises, lastOf, allBelow, fitsCodes, bareCounts, fitsIds, fitsOffsets, fitsEmpty, fitsFull, fitsOptional, fitsOld, fitsNew, fitsLists, fitsWords, fitsTerms, fitsValues, pastRows, fitsAlive};
 
 // ---- scans
 
@@ -211,40 +211,6 @@ pub fn lists_fit(r: segment::Record, ids: &[u32], offsets: &[u32]) -> bool
 
 // ---- 5
 
-// Whether a comes strictly before b.
-fn comes_before(a: &[u8], b: &[u8]) -> bool
-    ensures { λ r. ⌜ r ≡ isBelow (compareBytes (now (a .entry)) (now (b .entry))) ⌝ }
-{
-    match term_order::compare_terms(a, b) {
-        term_order::TermOrder::Before => true,
-        term_order::TermOrder::Same => false,
-        term_order::TermOrder::After => false,
-    }
-}
-
-// Whether the terms, which are runs of bytes of the given lengths, are strictly ascending.
-fn terms_rise(lengths: &[u32], bytes: &[u8]) -> bool
-    requires { ⌜ sum (now lengths) ≤ length (now bytes) ⌝ }
-    ensures { λ r. ⌜ r ≡ termsRise (now (lengths .entry)) (now (bytes .entry)) ⌝ }
-{
-    if lengths.len() == 0 {
-        return true;
-    }
-    let mut from: usize = 0;
-    let mut to = segment::wide(lengths[0]);
-    let mut i: usize = 1;
-    while i < lengths.len() {
-        let end = to + segment::wide(lengths[i]);
-        if !comes_before(&bytes[from..to], &bytes[to..end]) {
-            return false;
-        }
-        from = to;
-        to = end;
-        i += 1;
-    }
-    true
-}
-
 // A Bool is at most 1, and an ordinal is below the terms.
 fn words_fit(t: u32, terms: usize, values: &[u64]) -> bool
     ensures { λ r. ⌜ r ≡ fitsWords t terms (now (values .entry)) ⌝ }
@@ -272,7 +238,7 @@ fn terms_fit(t: u32, kind: u32, lengths: &[u32], bytes: &[u8]) -> bool
     if kind == 0 {
         return false;
     }
-    terms_rise(lengths, bytes)
+    term_reader::terms_rise(lengths, bytes)
 }
 
 // Check 5 of one segment.

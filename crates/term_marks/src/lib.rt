@@ -39,7 +39,7 @@ fn mark_row(
     if !column_index::is_alive(alive, segment::wide(row)) {
         return;
     }
-    let at = column_index::value_range(kind, ids, offsets, row);
+    let at = column_index::value_range(kind, ids, offsets, row, ids.len());
     let a = at.start;
     let e = at.end;
     mark_values(&values[a..e], marks);

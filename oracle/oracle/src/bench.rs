@@ -1,115 +1,111 @@
-//! Times of the crate's merge on large inputs: merge_columnar with the serializer replaced by loops
-//! that push row ids, offsets and values into lists already touched (hook::Mode::Drain), less the
-//! opening of the stand-in storage. Values come from a list of words instead of a bit packed codec,
-//! terms from memory instead of a compressed file: the crate over its own storage is slower.
-//! With the library linked in, the joiner's own times beside them, all checks included, on the same
-//! lists in the same run.
+//! Times of the crate's merge and of the joiner on the same lists in one run, and of a plain copy of
+//! what they make. Times are processor time of the one thread that works, where the system tells it
+//! (hook::now). A round measures the crate, then the joiner, then the copy; the least of seven rounds
+//! counts. Inputs of less than a million rows are joined several times in a round, and their mean
+//! is taken. The clock's own time is subtracted.
+//!
+//! The crate: merge_columnar with the serializer replaced by loops that push row ids, offsets and
+//! values into lists already touched (hook::Mode::Drain), less the opening of the stand-in storage.
+//! It checks nothing of what it is handed. Its storage is not its own: values come from a list of
+//! words instead of a bit packed codec, terms from memory instead of a compressed file, and which
+//! rows have a value is looked up by the stand-in for its sets of 65,536 rows, so that these lookups
+//! are not the crate's code. What its own storage would take has not been measured.
+//! The row order, which merge_columnar takes and frees, is made before the clock starts. Freed
+//! memory stays with the process (keep_memory), so that neither the freeing of storage and row order
+//! nor the first touch of what the crate allocates is the system's work on its time.
+//!
+//! The joiner: the whole call, with all checks, into lists already touched, and with the zeroing of
+//! the working bytes, of which all rows plus all terms are lent also where the join is stacked and
+//! needs none.
+//!
+//! The plain copy: the joined row ids (4 bytes each), offsets (4 bytes) and values (8 bytes), no
+//! more, each list by one copy_from_slice from where the joiner left it to a list of the same
+//! length already touched. Terms and map are not copied.
+mod inputs;
+mod plot;
+mod report;
+
 use std::time::Duration;
 
-use hook::Mode;
-use tantivy_columnar::{ColumnarReader, merge_columnar};
+use hook::{Captured, Mode};
+use tantivy_columnar::{ColumnarReader, ColumnarWriter, merge_columnar};
 
-use crate::rng::Rng;
-use crate::run::{merge_order, segment_file};
-use crate::wire::{Input, Seg};
+use crate::ours::{Joiner, Lists};
+use crate::run::{corner, merge_order, segment_file};
+use crate::table::Lent;
+use crate::wire::{Input, Sections};
+use inputs::Line;
 
-const COLUMNS: &[&str] = &["full", "opt", "optsparse", "multi", "multi-old", "mixed", "str"];
-const ORDERS: &[&str] = &["stacked", "interleaved", "shuffled", "interleaved-alive"];
+pub use plot::plot;
+pub use report::{growth, table};
 
-/// Deterministic: seed = 1 + segment number; rng = splitmix64.
-/// full       kind 1, U64, value = next() >> 24
-/// opt        kind 2, U64, a row has a value if next() is even
-/// optsparse  kind 2, U64, a row has a value if next() % 50 == 0
-/// multi      kind 4, U64, next() % 4 values in a row
-/// multi-old  the same as kind 3
-/// mixed      kind 1, I64 and U64 in turn, value = next() >> 24 (joined type I64)
-/// str        kind 1, Str, 100,000 terms ("term" and 8 digits, of 200,000), value = next() % terms
-fn build(column: &str, order: &str, segs: usize, rows: u32) -> Input {
-    let mut input = Input { mode: (order != "stacked") as u32, required: 255, ..Input::default() };
-    for i in 0..segs {
-        let mut rng = Rng::new(1 + i as u64);
-        let mut s = Seg { ty: 1, rows, ..Seg::default() };
-        if order == "interleaved-alive" {
-            // one row in ten withdrawn
-            let mut words = vec![0u64; rows.div_ceil(64) as usize];
-            for r in 0..rows {
-                if rng.below(10) != 0 {
-                    words[(r / 64) as usize] |= 1 << (r % 64);
-                }
-            }
-            s.alive = Some(words);
-        }
-        match column {
-            "full" | "mixed" => {
-                s.kind = 1;
-                if column == "mixed" {
-                    s.ty = i as u32 % 2;
-                }
-                s.values = (0..rows).map(|_| rng.next() >> 24).collect();
-            }
-            "opt" | "optsparse" => {
-                s.kind = 2;
-                let one_in = if column == "opt" { 2 } else { 50 };
-                s.ids = (0..rows).filter(|_| rng.below(one_in) == 0).collect();
-                s.values = s.ids.iter().map(|_| rng.next() >> 24).collect();
-            }
-            "multi" | "multi-old" => {
-                let old = column == "multi-old";
-                s.kind = if old { 3 } else { 4 };
-                s.offsets.push(0);
-                let mut total = 0;
-                for r in 0..rows {
-                    let n = rng.below(4) as u32;
-                    total += n;
-                    if n > 0 && !old {
-                        s.ids.push(r);
-                    }
-                    if n > 0 || old {
-                        s.offsets.push(total);
-                    }
-                }
-                s.values = (0..total).map(|_| rng.next() >> 24).collect();
-            }
-            "str" => {
-                s.ty = 4;
-                s.kind = 1;
-                // each term of the 200,000 with chance one half, then cut to 100,000
-                for t in 0..200_000u32 {
-                    if rng.below(2) == 0 && s.terms.len() < 100_000 {
-                        s.terms.push(format!("term{t:08}").into_bytes());
-                    }
-                }
-                let n = s.terms.len() as u64;
-                s.values = (0..rows).map(|_| rng.below(n)).collect();
-            }
-            _ => panic!("column {column}?"),
-        }
-        input.segs.push(s);
-    }
-    if input.mode == 1 {
-        // row 0 of each segment, row 1 of each segment, ..
-        for r in 0..rows {
-            for i in 0..segs as u32 {
-                if input.segs[i as usize].is_alive(r) {
-                    input.addresses.push([i, r]);
-                }
-            }
-        }
-        if order == "shuffled" {
-            let mut rng = Rng::new(0);
-            for i in (1..input.addresses.len()).rev() {
-                let j = rng.below(i as u64 + 1) as usize;
-                input.addresses.swap(i, j);
-            }
-        }
-    }
-    input
+const ROUNDS: usize = 7;
+
+/// What was measured of a line: numbers of joined rows and values, ns per joined row, checksums of
+/// the crate's lists and of the joiner's.
+pub struct Measured {
+    pub line: Line,
+    pub rows: usize,
+    pub values: usize,
+    pub theirs: f64,
+    pub ours: f64,
+    pub copy: f64,
+    pub sums: [u64; 2],
 }
 
+fn measure(line: Line, segs: usize, rows: u32) -> Measured {
+    let input = line.input(segs, rows);
+    let joined = match input.mode {
+        0 => segs * rows as usize,
+        _ => input.addresses.len(),
+    };
+    let repeats = (1_000_000 / joined.max(1)).clamp(1, 100) as u32;
+    let mut theirs = Theirs::new(&input, line, joined);
+    let mut ours = Ours::new(&input, joined);
+    let mut copy = PlainCopy::default();
+    let mut clock = Clock { look: Duration::MAX, opening: Duration::MAX };
+    let mut least = [Duration::MAX; 3];
+    for _ in 0..ROUNDS {
+        clock = clock.least(Clock::new());
+        let times = [theirs.time(repeats), ours.time(repeats), copy.time(ours.lists())];
+        least = std::array::from_fn(|i| least[i].min(times[i]));
+    }
+    let looks = [theirs.looks(&clock), clock.look / repeats, clock.look / copy.copies];
+    let per_row = |i: usize| least[i].saturating_sub(looks[i]).as_nanos() as f64 / joined as f64;
+    ours.check_type(line);
+    let (ids, offsets, values) = ours.lists();
+    Measured {
+        line,
+        rows: joined,
+        values: values.len(),
+        theirs: per_row(0),
+        ours: per_row(1),
+        copy: per_row(2),
+        sums: [theirs.checksum(), checksum(ids, offsets, values)],
+    }
+}
+
+/// Freed memory is kept for the next allocation and not handed back to the system, by the C
+/// library's M_MMAP_MAX 0 and M_TRIM_THRESHOLD -1.
+#[cfg(all(target_os = "linux", target_env = "gnu"))]
+fn keep_memory() {
+    unsafe extern "C" {
+        fn mallopt(parameter: i32, value: i32) -> i32;
+    }
+    // Two settings of the allocator, before its lists are made.
+    unsafe {
+        mallopt(-4, 0);
+        mallopt(-1, -1);
+    }
+}
+
+#[cfg(not(all(target_os = "linux", target_env = "gnu")))]
+fn keep_memory() {}
+
 /// h = (h ^ x) * 0x100000001B3 mod 2^64 over ids, offsets and values (words), from
-/// 0xCBF29CE484222325: to see that a port gives the same lists.
-fn checksum(c: &hook::Captured) -> u64 {
-    let words = c.ids.iter().chain(&c.offsets).map(|&x| x as u64).chain(c.values.iter().copied());
+/// 0xCBF29CE484222325.
+fn checksum(ids: &[u32], offsets: &[u32], values: &[u64]) -> u64 {
+    let words = ids.iter().chain(offsets).map(|&x| x as u64).chain(values.iter().copied());
     words.fold(0xCBF29CE484222325, |h, x| (h ^ x).wrapping_mul(0x100000001B3))
 }
 
@@ -119,111 +115,197 @@ fn touched<T: Clone>(n: usize, el: T) -> Vec<T> {
     list
 }
 
-/// The joiner's least time of five, and the checksum of its lists.
-#[cfg(library)]
-fn ours(input: &Input, joined: usize) -> (Duration, u64) {
-    use crate::library::Library;
-    use crate::ours::{Joiner, Lists};
-    let s = input.sections();
-    let rows: usize = input.segs.iter().map(|s| s.rows as usize).sum();
-    let terms = s.term_lengths.len();
-    let lent = crate::table::Lent {
-        working: rows + terms,
-        ids: joined,
-        offsets: joined + 1,
-        values: s.values.len(),
-        term_lengths: terms,
-        term_bytes: s.term_bytes.len(),
-        map: terms,
-    };
-    let mut lists = Lists::new(lent, 1);
-    let mut best = Duration::MAX;
-    for _ in 0..5 {
+/// What the clock itself takes. The least of all rounds is subtracted from the least times.
+struct Clock {
+    /// One look at it.
+    look: Duration,
+    /// What one hook::opening adds beyond the time that it records.
+    opening: Duration,
+}
+
+impl Clock {
+    /// Means of some looks and openings.
+    fn new() -> Clock {
+        const LOOKS: u32 = 50;
         let t = hook::now();
-        let answer = Library.join(&s, &mut lists);
-        best = best.min(hook::now() - t);
-        assert_eq!(answer, 0);
+        for _ in 1..LOOKS {
+            hook::now();
+        }
+        let look = (hook::now() - t) / LOOKS;
+        hook::start(Mode::Drain);
+        let t = hook::now();
+        for _ in 0..LOOKS {
+            hook::opening(|| ());
+        }
+        let all = hook::now() - t;
+        let opening = all.saturating_sub(hook::take().opening + look) / LOOKS;
+        Clock { look, opening }
     }
-    let n: Vec<usize> = lists.numbers.lent().iter().map(|&n| n as usize).collect();
-    let column = hook::Captured {
-        ids: lists.ids.lent()[..n[3]].to_vec(),
-        offsets: lists.offsets.lent()[..n[4]].to_vec(),
-        values: lists.values.lent()[..n[5]].to_vec(),
-        ..Default::default()
-    };
-    (best, checksum(&column))
+
+    fn least(self, other: Clock) -> Clock {
+        Clock { look: self.look.min(other.look), opening: self.opening.min(other.opening) }
+    }
+}
+
+/// The crate's side: the opened segments, and the lists and the file that each merge fills again.
+struct Theirs<'a> {
+    input: &'a Input,
+    line: Line,
+    readers: Vec<ColumnarReader>,
+    column: Captured,
+    spare32: Vec<Vec<u32>>,
+    spare64: Vec<Vec<u64>>,
+    file: Vec<u8>,
+}
+
+impl<'a> Theirs<'a> {
+    fn new(input: &'a Input, line: Line, joined: usize) -> Theirs<'a> {
+        hook::start(Mode::Off);
+        let values = input.segs.iter().map(|s| s.values.len()).sum();
+        Theirs {
+            input,
+            line,
+            readers: input.segs.iter().map(|s| ColumnarReader::open(segment_file(s)).unwrap()).collect(),
+            column: Captured::default(),
+            // in the stacked corner one offset for each row
+            spare32: vec![touched(joined + 1, 1), touched(joined + 1, 1)],
+            spare64: vec![touched(values, 1)],
+            file: touched(64 << 20, 1),
+        }
+    }
+
+    /// The mean of the repeats.
+    fn time(&mut self, repeats: u32) -> Duration {
+        (0..repeats).map(|_| self.merge()).sum::<Duration>() / repeats
+    }
+
+    fn merge(&mut self) -> Duration {
+        self.lend();
+        let readers: Vec<&ColumnarReader> = self.readers.iter().collect();
+        let order = merge_order(self.input, &readers);
+        let t = hook::now();
+        merge_columnar(&readers, &[], order, &mut self.file).unwrap();
+        let total = hook::now() - t;
+        let state = hook::take();
+        self.column = state.columns.into_iter().next().unwrap();
+        self.spare32 = state.pool32;
+        self.spare64 = state.pool64;
+        total.saturating_sub(state.opening)
+    }
+
+    /// The clock's part of a merge: its own look, three of the serializer's wrapper, the openings.
+    fn looks(&self, clock: &Clock) -> Duration {
+        let openings = self.readers.len() as u32 * self.line.openings();
+        clock.opening * openings + clock.look * 4
+    }
+
+    /// Hands the lists of the last merge to the next one, empty.
+    fn lend(&mut self) {
+        let Captured { ids, offsets, values, .. } = std::mem::take(&mut self.column);
+        self.spare32.extend([ids, offsets].into_iter().filter(|list| list.capacity() > 0));
+        self.spare64.extend([values].into_iter().filter(|list| list.capacity() > 0));
+        self.spare32.iter_mut().for_each(Vec::clear);
+        self.spare64.iter_mut().for_each(Vec::clear);
+        self.file.clear();
+        hook::start(Mode::Drain);
+        hook::with(|s| {
+            s.pool32 = std::mem::take(&mut self.spare32);
+            s.pool64 = std::mem::take(&mut self.spare64);
+        });
+    }
+
+    /// Of the last merge's lists in document 01's form: values as words, and without the crate's
+    /// repeated offsets in the stacked corner.
+    fn checksum(mut self) -> u64 {
+        let ty = self.line.joined_type();
+        for value in &mut self.column.values {
+            *value = ColumnarWriter::internal_to_word(ty, *value);
+        }
+        if corner(self.input) {
+            self.column.offsets.dedup();
+        }
+        checksum(&self.column.ids, &self.column.offsets, &self.column.values)
+    }
+}
+
+/// The joiner's side: the sections and what is lent.
+struct Ours {
+    joiner: Box<dyn Joiner>,
+    sections: Sections,
+    lent: Lists,
+}
+
+impl Ours {
+    fn new(input: &Input, joined: usize) -> Ours {
+        let sections = input.sections();
+        let rows: usize = input.segs.iter().map(|s| s.rows as usize).sum();
+        let terms = sections.term_lengths.len();
+        let lent = Lent {
+            working: rows + terms,
+            ids: joined,
+            offsets: joined + 1,
+            values: sections.values.len(),
+            term_lengths: terms,
+            term_bytes: sections.term_bytes.len(),
+            map: terms,
+        };
+        Ours { joiner: library(), sections, lent: Lists::new(lent, 1) }
+    }
+
+    /// The mean of the repeats.
+    fn time(&mut self, repeats: u32) -> Duration {
+        let t = hook::now();
+        for _ in 0..repeats {
+            let answer = self.joiner.join(&self.sections, &mut self.lent);
+            assert_eq!(answer, 0);
+        }
+        (hook::now() - t) / repeats
+    }
+
+    fn check_type(&mut self, line: Line) {
+        assert_eq!(self.lent.numbers.lent()[0], line.joined_type().to_code() as u64);
+    }
+
+    /// Joined row ids, offsets and values.
+    fn lists(&mut self) -> (&[u32], &[u32], &[u64]) {
+        let Lists { ids, offsets, values, numbers, .. } = &mut self.lent;
+        let n: [usize; 3] = std::array::from_fn(|i| numbers.lent()[3 + i] as usize);
+        (&ids.lent()[..n[0]], &offsets.lent()[..n[1]], &values.lent()[..n[2]])
+    }
+}
+
+#[cfg(library)]
+fn library() -> Box<dyn Joiner> {
+    Box::new(crate::library::Library)
 }
 
 #[cfg(not(library))]
-fn ours(_: &Input, _: usize) -> (Duration, u64) {
-    (Duration::ZERO, 0)
+fn library() -> Box<dyn Joiner> {
+    panic!("built without the library")
 }
 
-pub fn bench(segs: usize, rows: u32, filter: &str) {
-    println!("{segs} segments of {rows} rows; ns per joined row, processor time, least of 5");
-    println!(
-        "{:<10} {:<18} {:>9} {:>9} {:>8} {:>8} {:>8} {:>8} {:>8} {:>6} {:>17}",
-        "column", "order", "rows", "values", "total", "index", "values", "rest", "ours", "ratio", "checksum"
-    );
-    for column_name in COLUMNS {
-        for order in ORDERS {
-            if !format!("{column_name} {order}").contains(filter) {
-                continue;
-            }
-            let input = build(column_name, order, segs, rows);
-            hook::start(Mode::Off);
-            let readers: Vec<ColumnarReader> =
-                input.segs.iter().map(|s| ColumnarReader::open(segment_file(s)).unwrap()).collect();
-            let readers: Vec<&ColumnarReader> = readers.iter().collect();
-            let values: usize = input.segs.iter().map(|s| s.values.len()).sum();
-            let joined = match input.mode {
-                0 => segs * rows as usize,
-                _ => input.addresses.len(),
-            };
-            let mut best = (Duration::MAX, Duration::ZERO, Duration::ZERO);
-            let mut joined_values = 0;
-            let mut sum = 0;
-            for _ in 0..5 {
-                let merge_row_order = merge_order(&input, &readers);
-                hook::start(Mode::Drain);
-                hook::with(|s| {
-                    s.pool32 = vec![touched(joined + 1, 1u32), touched(joined + 1, 1u32)];
-                    s.pool64 = vec![touched(values, 1u64)];
-                });
-                let mut file: Vec<u8> = touched(64 << 20, 1u8);
-                let t = hook::now();
-                merge_columnar(&readers, &[], merge_row_order, &mut file).unwrap();
-                let total = hook::now() - t;
-                let state = hook::take();
-                let mut column = state.columns.into_iter().next().unwrap();
-                if *column_name == "mixed" {
-                    // joined type I64: words instead of the monotonic form
-                    column.values.iter_mut().for_each(|v| *v ^= 1 << 63);
-                }
-                joined_values = column.values.len();
-                sum = checksum(&column);
-                let total = total.saturating_sub(state.opening);
-                if total < best.0 {
-                    best = (total, state.index_time, state.values_time);
-                }
-            }
-            let per = |d: Duration| d.as_nanos() as f64 / joined as f64;
-            let (time, our_sum) = ours(&input, joined);
-            println!(
-                "{:<10} {:<18} {:>9} {:>9} {:>8.2} {:>8.2} {:>8.2} {:>8.2} {:>8.2} {:>6.2}  {:016x}{}",
-                column_name,
-                order,
-                joined,
-                joined_values,
-                per(best.0),
-                per(best.1),
-                per(best.2),
-                per(best.0.saturating_sub(best.1 + best.2)),
-                per(time),
-                best.0.as_secs_f64() / time.as_secs_f64(),
-                sum,
-                if our_sum == sum { "" } else { " ours differs" }
-            );
+/// The plain copy: lists to copy to, and how often, as many as make 8 million bytes, at most 1000.
+#[derive(Default)]
+struct PlainCopy {
+    to: Captured,
+    copies: u32,
+}
+
+impl PlainCopy {
+    /// The mean of the copies. The first call makes the lists, and touches them.
+    fn time(&mut self, (ids, offsets, values): (&[u32], &[u32], &[u64])) -> Duration {
+        let bytes = 4 * (ids.len() + offsets.len()) + 8 * values.len();
+        self.copies = (8_000_000 / bytes.max(1)).clamp(1, 1000) as u32;
+        self.to.ids.resize(ids.len(), 1);
+        self.to.offsets.resize(offsets.len(), 1);
+        self.to.values.resize(values.len(), 1);
+        let t = hook::now();
+        for _ in 0..self.copies {
+            self.to.ids.copy_from_slice(ids);
+            self.to.offsets.copy_from_slice(offsets);
+            self.to.values.copy_from_slice(values);
+            std::hint::black_box(&mut self.to);
         }
+        (hook::now() - t) / self.copies
     }
 }

@@ -33,7 +33,10 @@ oracle raw                   what the crate itself writes: every category's colu
 oracle wire MODE REQUIRED [TYPE/KIND/ROWS[/ids=..][/off=..][/val=..][/terms=..][/alive=..]].. [addr=S:R,..]
                              an input in wire form on stdout
 oracle bench SEGMENTS ROWS [WORD]
-                             times of the crate's merge, ns per joined row (lines that contain WORD)";
+                             times of the crate's merge and of the joiner, a table (see bench/run)
+oracle growth SEGMENTS ROWS [WORD]
+                             the same at growing sizes, from 1,000 rows a segment to ROWS
+oracle plot                  what growth printed, on stdin; a picture of it, SVG";
 
 fn main() -> ExitCode {
     let args: Vec<String> = std::env::args().skip(1).collect();
@@ -71,10 +74,12 @@ fn run(args: &[String]) -> Result<bool, String> {
             std::fs::write(inputs, input_file).map_err(|e| format!("{inputs}: {e}"))?;
             std::fs::write(listings, listing_file).map_err(|e| format!("{listings}: {e}"))?;
         }
-        ["bench", segs, rows, ref word @ ..] => {
-            let segs = segs.parse().map_err(|_| USAGE)?;
-            bench::bench(segs, rows.parse().map_err(|_| USAGE)?, word.first().copied().unwrap_or(""));
+        [what @ ("bench" | "growth"), segs, rows, ref word @ ..] => {
+            let report = if what == "bench" { bench::table } else { bench::growth };
+            let (segs, rows) = (segs.parse().map_err(|_| USAGE)?, rows.parse().map_err(|_| USAGE)?);
+            return report(segs, rows, word.first().copied().unwrap_or(""));
         }
+        ["plot"] => print(bench::plot(&String::from_utf8_lossy(&stdin()))?.as_bytes()),
         ["wire", ..] => print(&wire::from_words(&args[1..])?.sections().encode()),
         _ => return Err(USAGE.into()),
     }

@@ -1,85 +1,46 @@
 use borrow.Author.Needs.{needs}
 use native.Mathlib.Omega.{arith}
-use Prim.Native.Nat.{ℕ, _+_, _-_, _/_, _≤_, _<_}
-use lib.ListN.{length, getD}
-use Rattle.column_index.proofs.Laws.{counted, asc-sorted}
+use Prim.Native.Nat.{_≤_, zero-le}
+use Rattle.column_index.specs.Lookup.{rankIn}
+use borrow.Author.Tests.{not-true, not-false, leb-true}
+use mathlib.Core.Path.{sym, _∙_}
+use Rattle.column_index.proofs.Laws.{rank-fits, lesser-below, lesser-le}
 use Rattle.column_index.proofs.rank.Statement.{statement}
 use Rattle.column_index.proofs.rank.Tie as tie
-use Rattle.column_index.proofs.rank.Reads as reads
-use Rattle.column_index.proofs.rank.Lts as lts
 
-abbrev Inv-loop : tie.InvT-loop
-Inv-loop ids row lo₀ hi₀ lo hi = (lo ≤ hi) × (hi ≤ length ids) × ((k : ℕ) → k < lo → getD ids k 0 < row) × ((k : ℕ) → hi ≤ k → k < length ids → row ≤ getD ids k 0)
+reaches-requires : tie.Need-reaches-requires
+reaches-requires c κs = search needs
 
-abbrev μ-loop : tie.MeasureT-loop
-μ-loop ids row lo₀ hi₀ lo hi = hi - lo
+rank-above-requires : tie.Need-rank-above-requires
+rank-above-requires c κs = (c .before .before .before .pre, zero-le)
 
--- src/lib.rt:30:5
-loop-holds : tie.Need-loop-holds Inv-loop μ-loop
-loop-holds c = (search needs, search needs, (λ k h. omega arith), (λ k h l. omega arith))
+returns : tie.Need-returns
+returns c = search needs
 
--- src/lib.rt:31:25
-sub-mid : tie.Need-sub-mid Inv-loop μ-loop
-sub-mid c = search needs
+climb-requires : tie.Need-climb-requires
+climb-requires c κs = (c .before .before .before .pre, leb-true _ _ (sym (c .before .reaches .ensures) ∙ not-false _ (c .if1 .left)))
 
--- src/lib.rt:31:19
-add-mid : tie.Need-add-mid Inv-loop μ-loop
-add-mid c = search needs
+add-if2 : tie.Need-add-if2
+add-if2 c = let r = rank-fits (c .before .before .before .before .args .row) (c .before .before .before .before .args .ids .now) in let p : c .before .before .before .before .args .near ≤ rankIn (c .before .before .before .before .args .row) (c .before .before .before .before .args .ids .now) = leb-true _ _ (sym (c .before .before .reaches .ensures) ∙ not-false _ (c .before .if1 .left)) in search needs
 
--- src/lib.rt:32:12
-mul-if1 : tie.Need-mul-if1 Inv-loop μ-loop
-mul-if1 c = search needs
+returns-2 : tie.Need-returns-2
+returns-2 c = lesser-below _ _ _ (c .before .climb .ensures) (c .if2 .taken)
 
--- src/lib.rt:32:12
-shared-slice-read-if1 : tie.Need-shared-slice-read-if1 Inv-loop μ-loop
-shared-slice-read-if1 c = search needs
+rank-above-requires-2 : tie.Need-rank-above-requires-2
+rank-above-requires-2 c κs = (c .before .before .before .before .before .pre, lesser-le _ _ _ (c .before .climb .ensures))
 
--- src/lib.rt:33:18
-add-lo : tie.Need-add-lo Inv-loop μ-loop
-add-lo c = search needs
-
--- src/lib.rt:30:5
-loop-less : tie.Need-loop-less Inv-loop μ-loop
-loop-less c = search needs
-
--- src/lib.rt:30:5
-loop-again : tie.Need-loop-again Inv-loop μ-loop
-loop-again c =
-    let t = c .before .before in
-    let l = t .before in
-    (omega arith, omega arith, (λ k h. let s = asc-sorted (l .before .args .ids .now) (l .before .pre) k (l .loop .lo + (l .loop .hi - l .loop .lo) / 2) (omega arith) (omega arith) in omega arith), l .loop .inv .3)
-
--- src/lib.rt:30:5
-loop-less-2 : tie.Need-loop-less-2 Inv-loop μ-loop
-loop-less-2 c = search needs
-
--- src/lib.rt:30:5
-loop-again-2 : tie.Need-loop-again-2 Inv-loop μ-loop
-loop-again-2 c =
-    let t = c .before .before in
-    let l = t .before in
-    (omega arith, omega arith, l .loop .inv .2, (λ k h m. let s = asc-sorted (l .before .args .ids .now) (l .before .pre) (l .loop .lo + (l .loop .hi - l .loop .lo) / 2) k (omega arith) (omega arith) in omega arith))
-
--- src/lib.rt:24:1
-returns : tie.Need-returns Inv-loop μ-loop
-returns c =
-    let l = c .before in
-    counted _ _ _ (omega arith) (l .loop .inv .2) (λ k h m. l .loop .inv .3 k (omega arith) m)
+returns-3 : tie.Need-returns-3
+returns-3 c = search needs
 
 pub rank-spec : {M : Type 1} → statement M
 rank-spec =
     tie.close
     (tie.spec
-    Inv-loop
-    μ-loop
-    loop-holds
-    sub-mid
-    add-mid
-    mul-if1
-    shared-slice-read-if1
-    add-lo
-    loop-less
-    loop-again
-    loop-less-2
-    loop-again-2
-    returns)
+    reaches-requires
+    rank-above-requires
+    returns
+    climb-requires
+    add-if2
+    returns-2
+    rank-above-requires-2
+    returns-3)

@@ -1,0 +1,170 @@
+//! The table and the growth series as text, and the machine that they were made on.
+use super::inputs::{Line, lines};
+use super::{Measured, ROUNDS, keep_memory, measure};
+use crate::compare::has_library;
+
+/// The lines whose growth is measured if none are named.
+const GROWTH: &[Line] = &[
+    Line { column: "full", order: "stacked" },
+    Line { column: "opt", order: "stacked" },
+    Line { column: "multi", order: "stacked" },
+    Line { column: "full", order: "shuffled" },
+    Line { column: "multi", order: "interleaved" },
+    Line { column: "str", order: "interleaved-alive" },
+];
+
+/// Prints the table of the lines that have `word` in their name. False if checksums differ.
+pub fn table(segs: usize, rows: u32, word: &str) -> Result<bool, String> {
+    let lines = begin(lines(word))?;
+    print_head(segs, rows);
+    let (mut met, mut equal) = (0, 0);
+    for &line in &lines {
+        let m = measure(line, segs, rows);
+        let missed = missed(&m);
+        met += missed.is_none() as usize;
+        equal += (m.sums[0] == m.sums[1]) as usize;
+        println!("{}", table_row(&m, missed.as_deref()));
+        progress(&m);
+    }
+    println!("\nTargets met on {met} of {} lines; checksums equal on {equal}.", lines.len());
+    Ok(equal == lines.len())
+}
+
+fn print_head(segs: usize, rows: u32) {
+    println!("{}\n", machine());
+    println!(
+        "{segs} segments of {} rows. Times in ns per joined row, processor time, least of {ROUNDS} rounds.\n",
+        grouped(rows as usize)
+    );
+    println!(
+        "| Column | Order | Joined rows | Values | Crate | Ours | Crate / ours | Plain copy | Ours / copy | Target met | Checksum of both |"
+    );
+    println!("|---|---|--:|--:|--:|--:|--:|--:|--:|---|---|");
+}
+
+fn table_row(m: &Measured, missed: Option<&str>) -> String {
+    let sum = match m.sums[0] == m.sums[1] {
+        true => format!("{:016x}", m.sums[0]),
+        false => "DIFFER".to_string(),
+    };
+    format!(
+        "| {} | {} | {} | {} | {} | {} | {} | {} | {} | {} | {sum} |",
+        m.line.column,
+        m.line.order,
+        grouped(m.rows),
+        grouped(m.values),
+        digits(m.theirs),
+        digits(m.ours),
+        digits(m.theirs / m.ours),
+        digits(m.copy),
+        digits(m.ours / m.copy),
+        missed.map_or("yes".to_string(), |text| format!("**no**: {text}"))
+    )
+}
+
+/// The target that a line misses: at least as fast as the crate; at least four times as fast on
+/// stacked Full, Optional and multivalued; stacked Full within three times a plain copy.
+fn missed(m: &Measured) -> Option<String> {
+    let stacked = m.line.order == "stacked";
+    let plain = matches!(m.line.column, "full" | "opt" | "optsparse" | "multi" | "multi-old");
+    let wanted = if stacked && plain { 4.0 } else { 1.0 };
+    if m.theirs < m.ours {
+        return Some("slower than the crate".to_string());
+    }
+    if m.theirs < wanted * m.ours {
+        return Some(format!("below {wanted} times the crate"));
+    }
+    if stacked && m.line.column == "full" && m.ours > 3.0 * m.copy {
+        return Some("above 3 plain copies".to_string());
+    }
+    None
+}
+
+/// Prints, as comma-separated values, the times at sizes that grow by half powers of ten from 1,000
+/// rows a segment to `most`. False if checksums differ.
+pub fn growth(segs: usize, most: u32, word: &str) -> Result<bool, String> {
+    let lines = begin(if word.is_empty() { GROWTH.to_vec() } else { lines(word) })?;
+    println!("column,order,joined_rows,crate_ns_per_row,ours_ns_per_row,copy_ns_per_row");
+    let mut equal = true;
+    for line in lines {
+        for rows in sizes(most) {
+            let m = measure(line, segs, rows);
+            let (column, order) = (m.line.column, m.line.order);
+            println!("{column},{order},{},{:.5},{:.5},{:.5}", m.rows, m.theirs, m.ours, m.copy);
+            progress(&m);
+            equal &= m.sums[0] == m.sums[1];
+        }
+    }
+    Ok(equal)
+}
+
+fn sizes(most: u32) -> impl Iterator<Item = u32> {
+    (0..).map(|i| 10f64.powf(3.0 + i as f64 / 2.0).round() as u32).take_while(move |&rows| rows <= most)
+}
+
+fn begin(lines: Vec<Line>) -> Result<Vec<Line>, String> {
+    if !has_library() {
+        return Err("built without the library: set JADMIRUS_LIB to its path when building".into());
+    }
+    if lines.is_empty() {
+        return Err("no line has that word in its name".into());
+    }
+    keep_memory();
+    Ok(lines)
+}
+
+fn progress(m: &Measured) {
+    let equal = if m.sums[0] == m.sums[1] { "" } else { ", CHECKSUMS DIFFER" };
+    eprintln!(
+        "{:<28} {:>10} rows: crate {:>8}, ours {:>8}, copy {:>8} ns per row{equal}",
+        m.line.name(),
+        m.rows,
+        digits(m.theirs),
+        digits(m.ours),
+        digits(m.copy)
+    );
+}
+
+/// At least three digits that count.
+fn digits(x: f64) -> String {
+    let places = match x {
+        x if x < 0.1 => 4,
+        x if x < 1.0 => 3,
+        x if x < 10.0 => 2,
+        x if x < 100.0 => 1,
+        _ => 0,
+    };
+    format!("{x:.places$}")
+}
+
+/// 1234567 as 1,234,567.
+fn grouped(n: usize) -> String {
+    let digits = n.to_string();
+    let mut text = String::new();
+    for (i, digit) in digits.chars().enumerate() {
+        if i > 0 && (digits.len() - i).is_multiple_of(3) {
+            text.push(',');
+        }
+        text.push(digit);
+    }
+    text
+}
+
+/// Processor, its number of cores and largest cache, and the compiler of the crate.
+fn machine() -> String {
+    let info = std::fs::read_to_string("/proc/cpuinfo").unwrap_or_default();
+    let field = |name: &str| {
+        let line = info.lines().find(|l| l.starts_with(name))?;
+        Some(line.split_once(':')?.1.trim().to_string())
+    };
+    let model = field("model name").unwrap_or("processor unknown".into());
+    let cores = std::thread::available_parallelism().map_or(1, |n| n.get());
+    let cache = field("cache size").map_or(String::new(), |size| format!(", cache {size}"));
+    let rustc = std::process::Command::new("rustc").arg("--version").output();
+    let rustc = rustc.map_or(String::new(), |o| String::from_utf8_lossy(&o.stdout).trim().to_string());
+    format!(
+        "{model}, {cores} cores{cache}; {} {}; crate built by {rustc}",
+        std::env::consts::OS,
+        std::env::consts::ARCH
+    )
+}
