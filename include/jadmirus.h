@@ -27,6 +27,9 @@ extern "C" {
  *   10  types of two categories, or a column that can't be coerced
  *   11  an output is shorter than its list; those of terms and map, than the held columns' sums
  *
+ * Check 2 compares sums: lists of two segments whose wrong lengths cancel are cut where the records say, and later checks see what stands there. A caller that builds
+ * the lists segment by segment sees to it that each has the length that its record announces.
+ *
  * With 1 to 11 no output is changed. Elements beyond a list keep their values. The working bytes are zero on return. */
 uint32_t jadmirus_join(
     uint32_t mode,                                               /* 0 stacked, 1 in the order of the addresses */

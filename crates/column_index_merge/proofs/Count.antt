@@ -1,23 +1,28 @@
 -- Lengths of the lists of row ids, turn by turn. Assumes nothing.
-use Prim.Native.Nat.{ℕ, zero, suc, _+_, _-_, _≤_, _<_}
-use native.Mathlib.Nat.{zero-add}
+use Prim.Native.Nat.{ℕ, zero, suc, _+_, _-_, _≤_, _<_, zero-le, suc-le-suc}
+use native.Mathlib.Nat.{zero-add, le-refl, le-of-suc-le-suc}
+use native.Mathlib.Numerals.{add-one}
 use native.Mathlib.Omega.{arith}
 use mathlib.Core.Path.{_≡_, refl, sym, ap, ap₂, _∙_}
 use mathlib.Core.List.{List, [], _∷_, _++_, map}
 use mathlib.Core.Bool.{Bool, true, false, cond}
-use lib.ListN.{length, getD, drop, drop-of-length-le}
-use lib.Seq.{drop-cons}
-use lib.Dec.{eqb}
-use borrow.Author.Tests.{eq-eqb, ne-eqb}
-use Rattle.definitions.specs.Lists.{count, upFrom}
+use mathlib.Core.Logic.{_⊎_, inl, inr}
+use lib.ListN.{length, getD, drop, drop-of-length-le, length-drop}
+use lib.Seq.{drop-cons, getD-take, getD-drop, length-take-le}
+use lib.Dec.{T, eqb, ltb, ltb→lt}
+use borrow.Author.Tests.{eq-eqb, ne-eqb, eqb-true, eqb-false, ltb-true, ltb-false}
+use Rattle.definitions.specs.Lists.{count, upFrom, elem, all, ascending, ascendingFrom}
 use Rattle.definitions.specs.Lists.{sum}
 use Rattle.places.specs.Width.{idPart, idsOf}
 use Rattle.definitions.specs.Row.{bitAt}
 use Rattle.places.specs.Place.{run, kindAt, rowsAt, idsAt, offsetsAt, startIn, endIn, widthIn}
-use Rattle.column_index.specs.Lookup.{widthOf}
-use Rattle.places.proofs.Stack.{width-full}
-use Rattle.places.specs.Stack.{diffs, segmentWidths, stackedWidths}
+use Rattle.column_index.specs.Lookup.{widthOf, Ranked}
+use Rattle.column_index.proofs.Laws.{asc-tail, asc-at, elem-above, four-le}
+use Rattle.places.proofs.Stack.{width-full, width-none}
+use Rattle.places.specs.Stack.{diffs, segmentWidths, stackedWidths, SoundAt}
 use Rattle.places.proofs.Bulk.{diffs-now}
+use Rattle.definitions.proofs.Group.{all-mem}
+use Rattle.definitions.proofs.Cell.{mem-at}
 use Rattle.segment.proofs.At.{sum-append}
 use Rattle.column_index_merge.specs.Counted.{aliveWidth, aliveWidths, countedIn, countedAll}
 
@@ -110,6 +115,117 @@ module _ (f : ℕ → ℕ) where
 
   pub rows-end : (r rows : ℕ) → rows ≤ r → map f (upFrom r (rows - r)) ≡ []
   rows-end r rows h = ap (λ (n : ℕ). map f (upFrom r n)) (let z : rows - r ≡ 0 = omega arith in z)
+
+-- ---- rows by their ids
+
+equal? : (a b : ℕ) → (a ≡ b) ⊎ (a ≡ b → ⊥)
+equal? a b = go (eqb a b) refl
+  where
+    go : (t : Bool) → eqb a b ≡ t → (a ≡ b) ⊎ (a ≡ b → ⊥)
+    go true e = inl (eqb-true a b e)
+    go false e = inr (eqb-false a b e)
+
+above-other : (s i : ℕ) → s ≤ i → (i ≡ s → ⊥) → suc s ≤ i
+above-other s i h d = go (ltb s i) refl
+  where
+    go : (b : Bool) → ltb s i ≡ b → suc s ≤ i
+    go true e = ltb-true s i e
+    go false e = absurd (d (let x = ltb-false s i e in omega arith))
+
+not-listed : (s i : ℕ) (is : List ℕ) → T (ascendingFrom i is) → s < i → elem s (i ∷ is) ≡ false
+not-listed s i is a h = rw (ne-eqb s i (λ e. omega arith)) (none (elem s is) refl)
+  where
+    none : (b : Bool) → elem s is ≡ b → b ≡ false
+    none false q = refl
+    none true q = absurd (let x = elem-above s i is a q in omega arith)
+
+-- what is nothing for the rows that are no ids sums up over the ids
+over-ids : (f : ℕ → ℕ) (s n : ℕ) (ids : List ℕ) → T (ascending ids) → ((k : ℕ) → k < length ids → s ≤ getD ids k 0) → ((k : ℕ) → k < length ids → getD ids k 0 < s + n)
+    → ((r : ℕ) → s ≤ r → elem r ids ≡ false → f r ≡ 0) → sum (map f (upFrom s n)) ≡ sum (map f ids)
+over-ids f s zero [] a l u z = refl
+over-ids f s zero (i ∷ is) a l u z = absurd (let p = l 0 (suc-le-suc zero-le) in let q = u 0 (suc-le-suc zero-le) in omega arith)
+over-ids f s (suc n) [] a l u z = ap₂ (λ (x y : ℕ). x + y) (z s (le-refl s) refl) (over-ids f (suc s) n [] tt (λ k h. absurd (omega arith)) (λ k h. absurd (omega arith)) (λ r h e. z r (omega arith) e))
+over-ids f s (suc n) (i ∷ is) a l u z =
+    go
+    (λ e. over-ids f (suc s) n is (asc-tail i is a) (λ k h. let x = asc-at i is k a h in omega arith) (λ k h. let x = u (suc k) (suc-le-suc h) in omega arith)
+    (λ r h q. z r (omega arith) (rw (ne-eqb r i (λ x. omega arith)) q)))
+    (λ d. over-ids f (suc s) n (i ∷ is) a (λ k h. from k h (above-other s i (l 0 (suc-le-suc zero-le)) d)) (λ k h. let x = u k h in omega arith) (λ r h q. z r (omega arith) q))
+    (equal? i s)
+  where
+    from : (k : ℕ) → k < length (i ∷ is) → suc s ≤ i → suc s ≤ getD (i ∷ is) k 0
+    from zero h x = x
+    from (suc k) h x = let y = asc-at i is k a (le-of-suc-le-suc h) in omega arith
+
+    go : (i ≡ s → sum (map f (upFrom (suc s) n)) ≡ sum (map f is)) → ((i ≡ s → ⊥) → sum (map f (upFrom (suc s) n)) ≡ f i + sum (map f is))
+        → (i ≡ s) ⊎ (i ≡ s → ⊥) → f s + sum (map f (upFrom (suc s) n)) ≡ f i + sum (map f is)
+    go p q (inl e) = ap₂ (λ (x y : ℕ). x + y) (ap f (sym e)) (p e)
+    go p q (inr d) =
+        ap (λ (x : ℕ). x + sum (map f (upFrom (suc s) n))) (z s (le-refl s) (not-listed s i is a (above-other s i (l 0 (suc-le-suc zero-le)) d)))
+        ∙ zero-add (sum (map f (upFrom (suc s) n))) ∙ q d
+
+module _ {place ids offsets : List ℕ} (words : List ℕ) (sa : SoundAt place ids offsets) (rk : Ranked (kindAt place)) where
+  abbrev own : List ℕ
+  own = idsAt place ids
+
+  abbrev w : ℕ → ℕ
+  w = aliveWidth place ids offsets words
+
+  own-small : (k : ℕ) → k < length own → getD own k 0 < 0 + rowsAt place
+  own-small k h = let x = ltb→lt (getD own k 0) (rowsAt place) all-get in omega arith
+    where
+      small : T (all (λ n. ltb n (rowsAt place)) own)
+      small = pick (equal? (kindAt place) 2)
+        where
+          pick : (kindAt place ≡ 2) ⊎ (kindAt place ≡ 2 → ⊥) → T (all (λ n. ltb n (rowsAt place)) own)
+          pick (inl e) = sa .sound .optional e .0
+          pick (inr d) = sa .sound .new (four-le (kindAt place) (rk .0) (rk .1) d (rk .2)) .0
+
+      all-get : T (ltb (getD own k 0) (rowsAt place))
+      all-get = all-mem (λ n. ltb n (rowsAt place)) own small (mem-at own k 0 h)
+
+  no-width : (r : ℕ) → elem r own ≡ false → w r ≡ 0
+  unfolding aliveWidth widthIn startIn endIn widthOf
+  no-width r e = ap (λ (x : ℕ). cond (bitAt words r) x 0) (width-none (kindAt place) own (offsetsAt place offsets) r (rk .0) (rk .1) (rk .2) e) ∙ none (bitAt words r)
+    where
+      none : (b : Bool) → _≡_ {A = ℕ} (cond b 0 0) 0
+      none true = refl
+      none false = refl
+
+  pub ids-sum : sum (map w own) ≡ sum (aliveWidths place ids offsets words 0 (rowsAt place))
+  ids-sum = sym (over-ids w 0 (rowsAt place) own (sa .sound .ascends) (λ k h. zero-le) own-small (λ r h e. no-width r e))
+
+  ones : (l : List ℕ) → countOf (map w l) ≡ sum (map (λ r. length (idPart 0 (w r))) l)
+  ones [] = count-nil
+  ones (x ∷ xs) = count-cons (w x) (map w xs) ∙ ap (λ (n : ℕ). length (idPart 0 (w x)) + n) (ones xs)
+
+  pub ids-listed : countOf (map w own) ≡ countOf (aliveWidths place ids offsets words 0 (rowsAt place))
+  ids-listed =
+      ones own
+      ∙ sym (over-ids (λ r. length (idPart 0 (w r))) 0 (rowsAt place) own (sa .sound .ascends) (λ k h. zero-le) own-small (λ r h e. ap (λ (n : ℕ). length (idPart 0 n)) (no-width r e)))
+      ∙ sym (ones (upFrom 0 (rowsAt place)))
+
+  -- a turn: row is id k of the segment, v its alive width
+  module _ (k : ℕ) (h : k < length own) (row v : ℕ) (re : row ≡ getD own k 0) (ve : v ≡ w row) where
+    ids-step : map w (drop k own) ≡ v ∷ map w (drop (k + 1) own)
+    ids-step = ap (map w) (drop-cons own k 0 h) ∙ ap₂ (λ (x m : ℕ). x ∷ map w (drop m own)) (ap w (sym re) ∙ sym ve) (sym (add-one k))
+
+    pub ids-count-now : countOf (map w (drop k own)) ≡ length (idPart 0 v) + countOf (map w (drop (k + 1) own))
+    ids-count-now = ap countOf ids-step ∙ count-cons v (map w (drop (k + 1) own))
+
+    pub ids-sum-now : sum (map w (drop k own)) ≡ v + sum (map w (drop (k + 1) own))
+    ids-sum-now = ap sum ids-step
+
+  pub ids-over : (k : ℕ) → length own ≤ k → map w (drop k own) ≡ []
+  ids-over k h = ap (map w) (drop-of-length-le own h)
+
+  pub own-long : length own ≡ getD place 3 0 - getD place 2 0
+  own-long = length-take-le (getD place 3 0 - getD place 2 0) (drop (getD place 2 0) ids) (let x = sa .ids-end in omega (arith, length-drop (getD place 2 0) ids))
+
+  pub own-at : (k : ℕ) → k < getD place 3 0 - getD place 2 0 → getD ids (getD place 2 0 + k) 0 ≡ getD own k 0
+  own-at k h = sym (getD-take (getD place 3 0 - getD place 2 0) (drop (getD place 2 0) ids) k 0 h ∙ getD-drop (getD place 2 0) ids k 0)
+
+  pub own-row : (k row : ℕ) → k < getD place 3 0 - getD place 2 0 → row ≡ getD ids (getD place 2 0 + k) 0 → row < rowsAt place
+  own-row k row h e = let x = own-small k (omega (arith, own-long)) in let y = own-at k h in omega arith
 
 -- every row of kind 1 has one value
 module _ (place ids offsets words : List ℕ) (e : kindAt place ≡ 1) where

@@ -6,6 +6,7 @@ ghost use lib.Dec.{T};
 ghost use Rattle.definitions.specs.Lists.{sum, notFalling};
 ghost use Rattle.runs.specs.Put.{put};
 ghost use Rattle.places.specs.Width.{idPart, idsOf};
+ghost use Rattle.column_index.specs.Lookup.{Ranked};
 ghost use Rattle.places.specs.Place.{Within};
 ghost use mathlib.Core.Bool.{cond};
 ghost use Rattle.definitions.specs.Row.{bitAt};
@@ -241,17 +242,6 @@ pub struct Counts {
     pub values: usize,
 }
 
-// 1 if the row has a value, else 0.
-fn one_if(w: usize) -> usize
-    ensures { λ r. ⌜ r ≡ length (idPart 0 w) ⌝ }
-    ensures { λ r. ⌜ r ≤ 1 ⌝ }
-{
-    if w == 0 {
-        return 0;
-    }
-    1
-}
-
 // How many rows of kind 3 have a value.
 fn count_risen(offsets: &[u32]) -> usize
     requires { ⌜ T (notFalling (now offsets)) ⌝ }
@@ -261,7 +251,7 @@ fn count_risen(offsets: &[u32]) -> usize
     let mut n: usize = 0;
     while j + 1 < offsets.len() {
         let w = segment::wide(offsets[j + 1] - offsets[j]);
-        n += one_if(w);
+        n += places::one_if(w);
         j += 1;
     }
     n
@@ -298,9 +288,36 @@ fn if_alive(words: &[u64], row: usize, w: usize) -> usize
     w
 }
 
-// Of a segment with an alive set. Each row of a full one has a value; other rows are looked up in turn, so that the number of those with a value so far is the
-// rank of the next one.
-fn alive_counts(place: [usize; 8], ids: &[u32], offsets: &[u32], words: &[u64]) -> Counts
+// Of a segment of kind 2 or 4 with an alive set: the rows that have values are its ids.
+fn id_counts(place: [usize; 8], ids: &[u32], offsets: &[u32], words: &[u64]) -> Counts
+    requires { ⌜ SoundAt place (now ids) (now offsets) ⌝ }
+    requires { ⌜ Ranked (getD place 0 0) ⌝ }
+    requires { ⌜ getD place 1 0 ≤ 64 * length (now words) ⌝ }
+    requires { ⌜ sum (aliveWidths place (now ids) (now offsets) (now words) 0 (getD place 1 0)) < 18446744073709551616 ⌝ }
+    ensures { λ c. ⌜ c .listed ≡ length (idsOf 0 (aliveWidths place (now (ids .entry)) (now (offsets .entry)) (now (words .entry)) 0 (getD place 1 0))) ⌝ }
+    ensures { λ c. ⌜ c .values ≡ sum (aliveWidths place (now (ids .entry)) (now (offsets .entry)) (now (words .entry)) 0 (getD place 1 0)) ⌝ }
+{
+    let a = place[2];
+    let n = place[3] - a;
+    let mut k: usize = 0;
+    let mut listed: usize = 0;
+    let mut values: usize = 0;
+    while k < n {
+        let row = ids[a + k];
+        let w = places::width_in(place, ids, offsets, row, k);
+        let v = if_alive(words, segment::wide(row), w);
+        listed += places::one_if(v);
+        values += v;
+        k += 1;
+    }
+    Counts {
+        listed: listed,
+        values: values,
+    }
+}
+
+// Of a segment of kind 0 or 3 with an alive set, row by row.
+fn row_counts(place: [usize; 8], ids: &[u32], offsets: &[u32], words: &[u64]) -> Counts
     requires { ⌜ SoundAt place (now ids) (now offsets) ⌝ }
     requires { ⌜ getD place 1 0 ≤ 4294967296 ⌝ }
     requires { ⌜ getD place 1 0 ≤ 64 * length (now words) ⌝ }
@@ -309,22 +326,13 @@ fn alive_counts(place: [usize; 8], ids: &[u32], offsets: &[u32], words: &[u64]) 
     ensures { λ c. ⌜ c .values ≡ sum (aliveWidths place (now (ids .entry)) (now (offsets .entry)) (now (words .entry)) 0 (getD place 1 0)) ⌝ }
 {
     let rows = place[1];
-    if place[0] == 1 {
-        let n = column_index::alive_before(words, rows);
-        return Counts {
-            listed: n,
-            values: n,
-        };
-    }
     let mut r: usize = 0;
-    let mut near: usize = 0;
     let mut listed: usize = 0;
     let mut values: usize = 0;
     while r < rows {
-        let w = places::width_in(place, ids, offsets, r as u32, near);
-        near += one_if(w);
+        let w = places::width_in(place, ids, offsets, r as u32, 0);
         let v = if_alive(words, r, w);
-        listed += one_if(v);
+        listed += places::one_if(v);
         values += v;
         r += 1;
     }
@@ -332,6 +340,32 @@ fn alive_counts(place: [usize; 8], ids: &[u32], offsets: &[u32], words: &[u64]) 
         listed: listed,
         values: values,
     }
+}
+
+// Of a segment with an alive set. Each row of kind 1 has a value, so its alive rows are counted.
+fn alive_counts(place: [usize; 8], ids: &[u32], offsets: &[u32], words: &[u64]) -> Counts
+    requires { ⌜ SoundAt place (now ids) (now offsets) ⌝ }
+    requires { ⌜ getD place 1 0 ≤ 4294967296 ⌝ }
+    requires { ⌜ getD place 1 0 ≤ 64 * length (now words) ⌝ }
+    requires { ⌜ sum (aliveWidths place (now ids) (now offsets) (now words) 0 (getD place 1 0)) < 18446744073709551616 ⌝ }
+    ensures { λ c. ⌜ c .listed ≡ length (idsOf 0 (aliveWidths place (now (ids .entry)) (now (offsets .entry)) (now (words .entry)) 0 (getD place 1 0))) ⌝ }
+    ensures { λ c. ⌜ c .values ≡ sum (aliveWidths place (now (ids .entry)) (now (offsets .entry)) (now (words .entry)) 0 (getD place 1 0)) ⌝ }
+{
+    let kind = place[0];
+    if kind == 0 {
+        return row_counts(place, ids, offsets, words);
+    }
+    if kind == 1 {
+        let n = column_index::alive_before(words, place[1]);
+        return Counts {
+            listed: n,
+            values: n,
+        };
+    }
+    if kind == 3 {
+        return row_counts(place, ids, offsets, words);
+    }
+    id_counts(place, ids, offsets, words)
 }
 
 // Of a segment's alive rows; alive has the flag, then start and end of the alive words.

@@ -13,7 +13,7 @@ use borrow.Author.Tests.{ne-eqb}
 use Rattle.definitions.specs.Types.{hasTerms, integerOf, doubleOf, coerced}
 use Rattle.column_index.proofs.Walk.{map-same}
 use Rattle.runs.specs.Put.{put, looked}
-use Rattle.runs.proofs.Laws.{Filling, fill-room, fill-more, looked-length, put-one}
+use Rattle.runs.proofs.Laws.{Filling, fill-room, fill-more, looked-length, put-one, put-nil}
 use Rattle.places.specs.Place.{run, valuesAt}
 use Rattle.column_values_merge.specs.Word.{doubles, coercedAll, mapAt, wordsFor, Worded}
 use Rattle.column_values_merge.specs.Stack.{stackedWords, AllWorded}
@@ -86,6 +86,22 @@ ordinal-in source table w g e =
   where
     run-short : (a b : ℕ) (l : List ℕ) → b ≤ length l → length (run a b l) ≤ b - a
     run-short a b l h = le-of-eq (length-take-le (b - a) (drop a l) (omega (arith, length-drop a l)))
+
+-- a row of no value
+words-none : (to : ℕ) (source table : List ℕ) → wordsFor to source table [] ≡ []
+unfolding wordsFor looked coercedAll
+words-none to source table = go (hasTerms (getD source 0 0))
+  where
+    go : (b : Bool) → _≡_ {A = List ℕ} (cond b [] []) []
+    go true = refl
+    go false = refl
+
+pub none-put : (to : ℕ) (source table l out : List ℕ) (a b at : ℕ) → b ≡ a → out ≡ put at (wordsFor to source table (run a b l)) out
+none-put to source table l out a b at e =
+    sym (put-nil at out) ∙ ap (λ (vs : List ℕ). put at vs out) (sym (ap (wordsFor to source table) empty ∙ words-none to source table))
+  where
+    empty : run a b l ≡ []
+    empty = ap (λ (n : ℕ). take n (drop a l)) (let z : b - a ≡ 0 = omega arith in z)
 
 -- a row of one value
 pub one-worded : {source table : List ℕ} (l : List ℕ) (a b : ℕ) → b ≡ a + 1 → a < length l → Worded source table (run a b l) → Worded source table (getD l a 0 ∷ [])

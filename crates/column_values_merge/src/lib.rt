@@ -106,6 +106,9 @@ pub fn append_row(
     ensures { λ _. ⌜ now (out .exit) ≡ put at (wordsFor to source (now (map .entry)) (run (base + g .start) (base + g .end) (now (values .entry)))) (now (out .entry)) ⌝ }
 {
     let w = g.end - g.start;
+    if w == 0 {
+        return at;
+    }
     let start = base + g.start;
     if w == 1 {
         out[at] = new_word(to, source, values[start], map);

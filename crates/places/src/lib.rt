@@ -4,6 +4,7 @@ ghost use mathlib.Core.Bool.{cond};
 ghost use Prim.Native.Nat.{_<_, _≤_};
 ghost use lib.ListN.{length, getD};
 ghost use Rattle.runs.specs.Put.{put};
+ghost use Rattle.places.specs.Width.{idPart};
 ghost use Rattle.places.specs.Place.{startIn, endIn, widthIn, Within};
 ghost use Rattle.places.specs.Places.{table, isSet, rawAt, placeIf, keptAt, aliveAt, sourceAt};
 
@@ -34,6 +35,17 @@ pub fn width_in(place: [usize; 8], ids: &[u32], offsets: &[u32], row: u32, near:
 {
     let g = range_in(place, ids, offsets, row, near);
     g.end - g.start
+}
+
+// 1 if the row has a value, else 0.
+pub fn one_if(w: usize) -> usize
+    ensures { λ r. ⌜ r ≡ length (idPart 0 w) ⌝ }
+    ensures { λ r. ⌜ r ≤ 1 ⌝ }
+{
+    if w == 0 {
+        return 0;
+    }
+    1
 }
 
 // Where the segments' runs stand, each as if it were held.

@@ -1,93 +1,52 @@
 use borrow.Author.Needs.{needs}
 use native.Mathlib.Omega.{arith}
-use Prim.Native.Nat.{ℕ, _+_, _-_, _≤_}
-use mathlib.Core.Path.{_≡_, _∙_}
-use lib.ListN.{length}
-use Rattle.definitions.specs.Lists.{sum}
+use mathlib.Core.Path.{_∙_}
 use Rattle.places.specs.Place.{rowsAt}
-use Rattle.places.proofs.Cells.{sound-within}
-use Rattle.column_index_merge.specs.Counted.{aliveWidth, aliveWidths}
-use Rattle.column_index_merge.proofs.Count.{countOf, count-sum, count-done, sum-done, alive-width, rows-begin, rows-count, rows-sum, rows-end, full-sum, full-count}
+use Rattle.column_index_merge.proofs.Count.{full-sum, full-count}
 use Rattle.column_index_merge.proofs.alive_counts.Statement.{statement}
 use Rattle.column_index_merge.proofs.alive_counts.Tie as tie
 
-abbrev Inv-loop : tie.InvT-loop
-Inv-loop ids offsets words place rows r₀ near₀ listed₀ values₀ r near listed values = (r ≤ rows) × (near ≤ r) × (listed + countOf (aliveWidths place ids offsets words r (rows - r)) ≡ countOf (aliveWidths place ids offsets words 0 rows)) × (values + sum (aliveWidths place ids offsets words r (rows - r)) ≡ sum (aliveWidths place ids offsets words 0 rows))
+array-read-kind : tie.Need-array-read-kind
+array-read-kind c = search needs
 
-abbrev μ-loop : tie.MeasureT-loop
-μ-loop ids offsets words place rows r₀ near₀ listed₀ values₀ r near listed values = rows - r
+row-counts-requires : tie.Need-row-counts-requires
+row-counts-requires c κs = search needs
 
-array-read-rows : tie.Need-array-read-rows Inv-loop μ-loop
-array-read-rows c = search needs
+returns : tie.Need-returns
+returns c = search needs
 
-array-read-if1 : tie.Need-array-read-if1 Inv-loop μ-loop
-array-read-if1 c = search needs
+array-read-alive-before : tie.Need-array-read-alive-before
+array-read-alive-before c = search needs
 
-alive-before-requires : tie.Need-alive-before-requires Inv-loop μ-loop
-alive-before-requires c κs = (c .before .before .before .before .pre .1 .1 .0, c .before .before .before .before .pre .1 .0)
+alive-before-requires : tie.Need-alive-before-requires
+alive-before-requires c κs = (c .before .before .before .before .before .pre .1 .1 .0, c .before .before .before .before .before .pre .1 .0)
 
-returns : tie.Need-returns Inv-loop μ-loop
-returns c = (c .alive-before .ensures ∙ full-count (c .before .before .before .before .before .args .t1) (c .before .before .before .before .before .args .ids .now) (c .before .before .before .before .before .args .offsets .now) (c .before .before .before .before .before .args .words .now) (c .before .if1 .taken) (rowsAt (c .before .before .before .before .before .args .t1)), c .alive-before .ensures ∙ full-sum (c .before .before .before .before .before .args .t1) (c .before .before .before .before .before .args .ids .now) (c .before .before .before .before .before .args .offsets .now) (c .before .before .before .before .before .args .words .now) (c .before .if1 .taken) 0 (rowsAt (c .before .before .before .before .before .args .t1)))
+returns-2 : tie.Need-returns-2
+returns-2 c = (c .alive-before .ensures ∙ full-count (c .before .before .before .before .before .before .args .t1) (c .before .before .before .before .before .before .args .ids .now) (c .before .before .before .before .before .before .args .offsets .now) (c .before .before .before .before .before .before .args .words .now) (c .before .if2 .taken) (rowsAt (c .before .before .before .before .before .before .args .t1)), c .alive-before .ensures ∙ full-sum (c .before .before .before .before .before .before .args .t1) (c .before .before .before .before .before .before .args .ids .now) (c .before .before .before .before .before .before .args .offsets .now) (c .before .before .before .before .before .before .args .words .now) (c .before .if2 .taken) 0 (rowsAt (c .before .before .before .before .before .before .args .t1)))
 
-loop-holds : tie.Need-loop-holds Inv-loop μ-loop
-loop-holds c = (search needs, search needs, rows-begin (aliveWidth (c .before .before .before .before .args .t1) (c .before .before .before .before .args .ids .now) (c .before .before .before .before .args .offsets .now) (c .before .before .before .before .args .words .now)) countOf (rowsAt (c .before .before .before .before .args .t1)), rows-begin (aliveWidth (c .before .before .before .before .args .t1) (c .before .before .before .before .args .ids .now) (c .before .before .before .before .args .offsets .now) (c .before .before .before .before .args .words .now)) sum (rowsAt (c .before .before .before .before .args .t1)))
+row-counts-requires-2 : tie.Need-row-counts-requires-2
+row-counts-requires-2 c κs = search needs
 
-cast-width-in : tie.Need-cast-width-in Inv-loop μ-loop
-cast-width-in c = let p = c .before .before .before .before .before .before .pre .1 .0 in search needs
+returns-3 : tie.Need-returns-3
+returns-3 c = search needs
 
-width-in-requires : tie.Need-width-in-requires Inv-loop μ-loop
-width-in-requires c κs = sound-within (c .before .before .before .before .before .before .pre .0) (c .before .loop .r) (c .loop-test .taken)
+id-counts-requires : tie.Need-id-counts-requires
+id-counts-requires c κs = (c .before .before .before .before .before .before .pre .0, ((c .before .before .if1 .left, c .before .if2 .left, c .if3 .left), (c .before .before .before .before .before .before .pre .1 .1 .0, c .before .before .before .before .before .before .pre .1 .1 .1)))
 
-one-if-requires : tie.Need-one-if-requires Inv-loop μ-loop
-one-if-requires c κs = search needs
-
-add-near : tie.Need-add-near Inv-loop μ-loop
-add-near c = omega (arith, c .before .before .before .loop .inv .1, c .before .before .loop-test .taken, c .before .before .before .before .before .before .before .before .pre .1 .0, c .one-if .ensures .1)
-
-if-alive-requires : tie.Need-if-alive-requires Inv-loop μ-loop
-if-alive-requires c κs = omega (arith, c .before .before .loop-test .taken, c .before .before .before .before .before .before .before .before .pre .1 .1 .0)
-
-one-if-requires-2 : tie.Need-one-if-requires-2 Inv-loop μ-loop
-one-if-requires-2 c κs = search needs
-
-add-listed : tie.Need-add-listed Inv-loop μ-loop
-add-listed c = let k = rows-count (aliveWidth (c .before .before .before .before .before .before .before .before .before .before .args .t1) (c .before .before .before .before .before .before .before .before .before .before .args .ids .now) (c .before .before .before .before .before .before .before .before .before .before .args .offsets .now) (c .before .before .before .before .before .before .before .before .before .before .args .words .now)) (c .before .before .before .before .before .loop .r) _ (c .before .before .before .before .loop-test .taken) _ (alive-width (c .before .before .before .before .before .before .before .before .before .before .args .t1) (c .before .before .before .before .before .before .before .before .before .before .args .ids .now) (c .before .before .before .before .before .before .before .before .before .before .args .offsets .now) (c .before .before .before .before .before .before .before .before .before .before .args .words .now) (c .before .before .before .before .before .loop .r) _ _ (c .before .before .before .width-in .ensures) (c .before .if-alive .ensures)) in let m = count-sum (aliveWidths (c .before .before .before .before .before .before .before .before .before .before .args .t1) (c .before .before .before .before .before .before .before .before .before .before .args .ids .now) (c .before .before .before .before .before .before .before .before .before .before .args .offsets .now) (c .before .before .before .before .before .before .before .before .before .before .args .words .now) 0 (rowsAt (c .before .before .before .before .before .before .before .before .before .before .args .t1))) in omega (arith, c .before .before .before .before .before .loop .inv .2, c .before .before .before .before .before .before .before .before .before .before .pre .1 .1 .1, c .one-if2 .ensures .0)
-
-add-values : tie.Need-add-values Inv-loop μ-loop
-add-values c = let k = rows-sum (aliveWidth (c .before .before .before .before .before .before .before .before .before .before .args .t1) (c .before .before .before .before .before .before .before .before .before .before .args .ids .now) (c .before .before .before .before .before .before .before .before .before .before .args .offsets .now) (c .before .before .before .before .before .before .before .before .before .before .args .words .now)) (c .before .before .before .before .before .loop .r) _ (c .before .before .before .before .loop-test .taken) _ (alive-width (c .before .before .before .before .before .before .before .before .before .before .args .t1) (c .before .before .before .before .before .before .before .before .before .before .args .ids .now) (c .before .before .before .before .before .before .before .before .before .before .args .offsets .now) (c .before .before .before .before .before .before .before .before .before .before .args .words .now) (c .before .before .before .before .before .loop .r) _ _ (c .before .before .before .width-in .ensures) (c .before .if-alive .ensures)) in omega (arith, c .before .before .before .before .before .loop .inv .3, c .before .before .before .before .before .before .before .before .before .before .pre .1 .1 .1)
-
-add-r : tie.Need-add-r Inv-loop μ-loop
-add-r c = let p = c .before .before .before .before .before .before .before .before .before .before .pre .1 .0 in search needs
-
-loop-less : tie.Need-loop-less Inv-loop μ-loop
-loop-less c = search needs
-
-loop-again : tie.Need-loop-again Inv-loop μ-loop
-loop-again c = let k = rows-count (aliveWidth (c .before .before .before .before .before .before .before .before .before .before .args .t1) (c .before .before .before .before .before .before .before .before .before .before .args .ids .now) (c .before .before .before .before .before .before .before .before .before .before .args .offsets .now) (c .before .before .before .before .before .before .before .before .before .before .args .words .now)) (c .before .before .before .before .before .loop .r) _ (c .before .before .before .before .loop-test .taken) _ (alive-width (c .before .before .before .before .before .before .before .before .before .before .args .t1) (c .before .before .before .before .before .before .before .before .before .before .args .ids .now) (c .before .before .before .before .before .before .before .before .before .before .args .offsets .now) (c .before .before .before .before .before .before .before .before .before .before .args .words .now) (c .before .before .before .before .before .loop .r) _ _ (c .before .before .before .width-in .ensures) (c .before .if-alive .ensures)) in let m = rows-sum (aliveWidth (c .before .before .before .before .before .before .before .before .before .before .args .t1) (c .before .before .before .before .before .before .before .before .before .before .args .ids .now) (c .before .before .before .before .before .before .before .before .before .before .args .offsets .now) (c .before .before .before .before .before .before .before .before .before .before .args .words .now)) (c .before .before .before .before .before .loop .r) _ (c .before .before .before .before .loop-test .taken) _ (alive-width (c .before .before .before .before .before .before .before .before .before .before .args .t1) (c .before .before .before .before .before .before .before .before .before .before .args .ids .now) (c .before .before .before .before .before .before .before .before .before .before .args .offsets .now) (c .before .before .before .before .before .before .before .before .before .before .args .words .now) (c .before .before .before .before .before .loop .r) _ _ (c .before .before .before .width-in .ensures) (c .before .if-alive .ensures)) in (search needs, omega (arith, c .before .before .before .before .before .loop .inv .1, c .before .before .one-if .ensures .1), omega (arith, c .before .before .before .before .before .loop .inv .2, c .one-if2 .ensures .0), omega (arith, c .before .before .before .before .before .loop .inv .3))
-
-returns-2 : tie.Need-returns-2 Inv-loop μ-loop
-returns-2 c = let e = rows-end (aliveWidth (c .before .before .before .before .before .before .args .t1) (c .before .before .before .before .before .before .args .ids .now) (c .before .before .before .before .before .before .args .offsets .now) (c .before .before .before .before .before .before .args .words .now)) (c .before .loop .r) (rowsAt (c .before .before .before .before .before .before .args .t1)) (omega (arith, c .loop-test .left)) in (count-done _ _ _ e (c .before .loop .inv .2), sum-done _ (aliveWidths (c .before .before .before .before .before .before .args .t1) (c .before .before .before .before .before .before .args .ids .now) (c .before .before .before .before .before .before .args .offsets .now) (c .before .before .before .before .before .before .args .words .now) 0 (rowsAt (c .before .before .before .before .before .before .args .t1))) _ e (c .before .loop .inv .3))
+returns-4 : tie.Need-returns-4
+returns-4 c = search needs
 
 pub alive-counts-spec : {M : Type 1} → statement M
 alive-counts-spec =
     tie.close
     (tie.spec
-    Inv-loop
-    μ-loop
-    array-read-rows
-    array-read-if1
-    alive-before-requires
+    array-read-kind
+    row-counts-requires
     returns
-    loop-holds
-    cast-width-in
-    width-in-requires
-    one-if-requires
-    add-near
-    if-alive-requires
-    one-if-requires-2
-    add-listed
-    add-values
-    add-r
-    loop-less
-    loop-again
-    returns-2)
+    array-read-alive-before
+    alive-before-requires
+    returns-2
+    row-counts-requires-2
+    returns-3
+    id-counts-requires
+    returns-4)

@@ -2,12 +2,15 @@ use borrow.Author.Needs.{needs}
 use native.Mathlib.Omega.{arith}
 use Prim.Native.Nat.{_+_}
 use mathlib.Core.Path.{refl}
-use Rattle.column_values_merge.proofs.Laws.{one-worded, one-put}
+use Rattle.column_values_merge.proofs.Laws.{none-put, one-worded, one-put}
 use Rattle.column_values_merge.proofs.append_row.Statement.{statement}
 use Rattle.column_values_merge.proofs.append_row.Tie as tie
 
 sub-w : tie.Need-sub-w
 sub-w c = search needs
+
+returns : tie.Need-returns
+returns c = (omega (arith, c .if1 .taken), none-put (c .before .before .before .before .before .args .to) (c .before .before .before .before .before .args .source) (c .before .before .before .before .before .args .map .now) (c .before .before .before .before .before .args .values .now) (c .before .before .before .before .before .args .out .now) (c .before .before .before .before .before .args .base + c .before .before .before .before .before .args .g .start) (c .before .before .before .before .before .args .base + c .before .before .before .before .before .args .g .end) (c .before .before .before .before .before .args .at) (omega (arith, c .if1 .taken, c .before .before .before .before .before .pre .0)))
 
 add-start : tie.Need-add-start
 add-start c = search needs
@@ -19,7 +22,7 @@ shared-slice-read-new-word : tie.Need-shared-slice-read-new-word
 shared-slice-read-new-word c = search needs
 
 new-word-requires : tie.Need-new-word-requires
-new-word-requires c κs = one-worded (c .before .before .before .before .before .before .before .args .values .now) (c .before .before .before .before .before .before .before .args .base + c .before .before .before .before .before .before .before .args .g .start) (c .before .before .before .before .before .before .before .args .base + c .before .before .before .before .before .before .before .args .g .end) (omega (arith, c .before .if1 .taken, c .before .before .before .before .before .before .before .pre .0)) (omega (arith, c .before .if1 .taken, c .before .before .before .before .before .before .before .pre .0, c .before .before .before .before .before .before .before .pre .1 .0)) (c .before .before .before .before .before .before .before .pre .1 .1 .0)
+new-word-requires c κs = one-worded (c .before .before .before .before .before .before .before .before .args .values .now) (c .before .before .before .before .before .before .before .before .args .base + c .before .before .before .before .before .before .before .before .args .g .start) (c .before .before .before .before .before .before .before .before .args .base + c .before .before .before .before .before .before .before .before .args .g .end) (omega (arith, c .before .if2 .taken, c .before .before .before .before .before .before .before .before .pre .0)) (omega (arith, c .before .if2 .taken, c .before .before .before .before .before .before .before .before .pre .0, c .before .before .before .before .before .before .before .before .pre .1 .0)) (c .before .before .before .before .before .before .before .before .pre .1 .1 .0)
 
 mul-out : tie.Need-mul-out
 mul-out c = search needs
@@ -33,8 +36,8 @@ add-result c = search needs
 same-length : tie.Need-same-length
 same-length c = search needs
 
-returns : tie.Need-returns
-returns c = (omega (arith, c .before .before .if1 .taken), one-put (c .before .before .before .before .before .before .before .before .args .to) (c .before .before .before .before .before .before .before .before .args .source) (c .before .before .before .before .before .before .before .before .args .map .now) (c .before .before .before .before .before .before .before .before .args .values .now) (c .before .before .before .before .before .before .before .before .args .out .now) _ (c .before .before .before .before .before .before .before .before .args .base + c .before .before .before .before .before .before .before .before .args .g .start) (c .before .before .before .before .before .before .before .before .args .base + c .before .before .before .before .before .before .before .before .args .g .end) (c .before .before .before .before .before .before .before .before .args .at) _ (omega (arith, c .before .before .if1 .taken, c .before .before .before .before .before .before .before .before .pre .0)) (omega (arith, c .before .before .if1 .taken, c .before .before .before .before .before .before .before .before .pre .0, c .before .before .before .before .before .before .before .before .pre .1 .0)) (omega (arith, c .before .before .if1 .taken, c .before .before .before .before .before .before .before .before .pre .1 .1 .1)) (c .new-word .ensures) refl)
+returns-2 : tie.Need-returns-2
+returns-2 c = (omega (arith, c .before .before .if2 .taken), one-put (c .before .before .before .before .before .before .before .before .before .args .to) (c .before .before .before .before .before .before .before .before .before .args .source) (c .before .before .before .before .before .before .before .before .before .args .map .now) (c .before .before .before .before .before .before .before .before .before .args .values .now) (c .before .before .before .before .before .before .before .before .before .args .out .now) _ (c .before .before .before .before .before .before .before .before .before .args .base + c .before .before .before .before .before .before .before .before .before .args .g .start) (c .before .before .before .before .before .before .before .before .before .args .base + c .before .before .before .before .before .before .before .before .before .args .g .end) (c .before .before .before .before .before .before .before .before .before .args .at) _ (omega (arith, c .before .before .if2 .taken, c .before .before .before .before .before .before .before .before .before .pre .0)) (omega (arith, c .before .before .if2 .taken, c .before .before .before .before .before .before .before .before .before .pre .0, c .before .before .before .before .before .before .before .before .before .pre .1 .0)) (omega (arith, c .before .before .if2 .taken, c .before .before .before .before .before .before .before .before .before .pre .1 .1 .1)) (c .new-word .ensures) refl)
 
 add-end : tie.Need-add-end
 add-end c = search needs
@@ -60,14 +63,15 @@ add-result-2 c = search needs
 same-length-2 : tie.Need-same-length-2
 same-length-2 c = search needs
 
-returns-2 : tie.Need-returns-2
-returns-2 c = search needs
+returns-3 : tie.Need-returns-3
+returns-3 c = search needs
 
 pub append-row-spec : {M : Type 1} → statement M
 append-row-spec =
     tie.close
     (tie.spec
     sub-w
+    returns
     add-start
     mul-new-word
     shared-slice-read-new-word
@@ -76,7 +80,7 @@ append-row-spec =
     slice-write-out
     add-result
     same-length
-    returns
+    returns-2
     add-end
     mul-append-words
     sub-append-words
@@ -85,4 +89,4 @@ append-row-spec =
     append-words-requires
     add-result-2
     same-length-2
-    returns-2)
+    returns-3)

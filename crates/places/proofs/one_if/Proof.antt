@@ -1,9 +1,9 @@
 use borrow.Author.Needs.{needs}
 use mathlib.Core.Path.{sym, ap}
 use lib.ListN.{length}
 use Rattle.places.proofs.Laws.{part-some}
-use Rattle.column_index_merge.proofs.one_if.Statement.{statement}
-use Rattle.column_index_merge.proofs.one_if.Tie as tie
+use Rattle.places.proofs.one_if.Statement.{statement}
+use Rattle.places.proofs.one_if.Tie as tie
 
 returns : tie.Need-returns
 returns c = search needs
