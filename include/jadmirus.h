@@ -1,7 +1,7 @@
 /* The proved joiner of play-log columns and their time order, for C. Link with target/staticlib/libjadmirus.a (rt staticlib jadmirus).
  *
- * The proof takes for granted what a caller in C must see to: each pointer is of as many elements as the count after it says (a pointer may be any aligned
- * one where the count is 0), and no run that is written overlaps another run. */
+ * The proof takes for granted what a caller in C must see to: each pointer is of as many elements as the count after it says (any aligned one, NULL too, where
+ * the count is 0), and no run that is written overlaps another run. */
 #ifndef JADMIRUS_H
 #define JADMIRUS_H
 
@@ -12,7 +12,12 @@
 extern "C" {
 #endif
 
-/* Joins the segments of one column. Returns the answer:
+/* Joins the segments of one column.
+ *
+ * Types: 0 I64, 1 U64, 2 F64, 3 Bytes, 4 Str, 5 Bool, 7 DateTime, 255 no column. Kinds: 0 Empty, 1 Full, 2 Optional, 3 old multivalued, 4 new multivalued.
+ * Classes: 0 Full, 1 Optional, 2 Multivalued.
+ *
+ * Returns the answer, the least number that applies:
  *
  *    0  accepted: the lists are written, and out_numbers
  *    1  more than 256 segments
@@ -35,20 +40,20 @@ uint32_t jadmirus_join(
     uint32_t mode,                                               /* 0 stacked, 1 in the order of the addresses */
     uint32_t required,                                           /* the required type, 255 for none */
     const uint32_t (*records)[8], size_t records_count,          /* type, kind, rows, numbers of ids, offsets, values and terms, flag */
-    const uint32_t *ids, size_t ids_count,                       /* the segments' row ids, one segment after another; so the next five */
-    const uint32_t *offsets, size_t offsets_count,
-    const uint64_t *values, size_t values_count,
-    const uint32_t *term_lengths, size_t term_lengths_count,
-    const uint8_t *term_bytes, size_t term_bytes_count,
+    const uint32_t *ids, size_t ids_count,                       /* row ids of kinds 2 and 4, one segment's after another's; so all lists up to alive */
+    const uint32_t *offsets, size_t offsets_count,               /* kind 3: one more than rows; kind 4: one more than ids */
+    const uint64_t *values, size_t values_count,                 /* 64-bit words: two's complement (0, 7), IEEE bits (2), ordinals of the segment's terms (3, 4), 0 or 1 (5) */
+    const uint32_t *term_lengths, size_t term_lengths_count,     /* bytes of each term */
+    const uint8_t *term_bytes, size_t term_bytes_count,          /* the terms, each segment's bytewise ascending */
     const uint64_t *alive, size_t alive_count,                   /* a word for each 64 rows or part of them, of segments with flag 1 */
     const uint32_t (*addresses)[2], size_t addresses_count,      /* segment and row of each new row, ordered */
     uint8_t *working, size_t working_count,                      /* ordered: a byte for each row and each term of all segments */
-    uint32_t *out_ids, size_t out_ids_count,
-    uint32_t *out_offsets, size_t out_offsets_count,
-    uint64_t *out_values, size_t out_values_count,
-    uint32_t *out_term_lengths, size_t out_term_lengths_count,
-    uint8_t *out_term_bytes, size_t out_term_bytes_count,
-    uint32_t *out_map, size_t out_map_count,                     /* new ordinals of the held columns' terms, one segment after another */
+    uint32_t *out_ids, size_t out_ids_count,                     /* class 1 and 2: new rows with a value; values_count elements always suffice */
+    uint32_t *out_offsets, size_t out_offsets_count,             /* class 2: 0, then the running total after each such row; values_count + 1 suffice */
+    uint64_t *out_values, size_t out_values_count,               /* in row order, of the joined type; values_count suffice */
+    uint32_t *out_term_lengths, size_t out_term_lengths_count,   /* of the joined terms, ascending; term_lengths_count suffice */
+    uint8_t *out_term_bytes, size_t out_term_bytes_count,        /* their bytes; term_bytes_count suffice */
+    uint32_t *out_map, size_t out_map_count,                     /* new ordinals of the held columns' terms, one segment's after another's, 0 for a term not kept; term_lengths_count suffice */
     uint64_t out_numbers[9]);                                    /* type, class, rows; elements of ids, offsets, values, terms, term bytes, map */
 
 /* The time order of the segments of a column of times (type 7, or 255 for none): their alive rows sorted by time, segment and row. A row without a time takes the

@@ -27,7 +27,11 @@ fn archive() -> Result<PathBuf, String> {
         let path = PathBuf::from(path);
         return match path.is_file() {
             true => Ok(path),
-            false => Err(format!("JADMIRUS_LIB names no file: {}", path.display())),
+            false => Err(format!(
+                "JADMIRUS_LIB names no file: {} (one that doesn't begin with '/' is looked for from \
+                 this crate's folder)",
+                path.display()
+            )),
         };
     }
     let manifest = variable("CARGO_MANIFEST_DIR")?;

@@ -6,6 +6,9 @@
 //! functions here are safe.
 use crate::sections::{Address, Record, Sections};
 
+// The library counts in 64 bits, and so do the sums of lengths in this crate.
+const _: () = assert!(usize::BITS == 64);
+
 unsafe extern "C" {
     fn jadmirus_join(
         mode: u32,

@@ -35,7 +35,8 @@ pub enum Value<'a> {
     Bytes(&'a [u8]),
 }
 
-/// As a value is written in a sheet: a text is quoted, bytes that are none are in hexadecimal.
+/// As in a sheet, a term as it stands among the terms: a text is quoted, bytes that are none are in
+/// hexadecimal. But a NaN is `NaN`, whatever its bits are.
 impl fmt::Display for Value<'_> {
     fn fmt(&self, f: &mut fmt::Formatter<'_>) -> fmt::Result {
         match self {

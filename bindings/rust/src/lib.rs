@@ -97,6 +97,7 @@ pub fn join(
 
 /// The alive rows of columns of times (or of none) sorted by time, then segment, then row. A row
 /// without a time has the last time before it in its segment, else it stands before all times.
+/// [`Refusal::OutputSpace`] means that there is no memory for so many addresses.
 pub fn time_order(segments: &[Segment]) -> Result<Vec<Address>, Refusal> {
     Sections::of(segments)?.time_order()
 }

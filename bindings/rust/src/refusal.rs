@@ -6,29 +6,29 @@ use std::fmt;
 #[derive(Clone, Copy, Debug, PartialEq, Eq, Hash)]
 #[non_exhaustive]
 pub enum Refusal {
-    /// 1
+    /// 1: more than 256 segments.
     TooManySegments,
-    /// 2
+    /// 2: a list's length is not what is announced.
     Lengths,
-    /// 3
+    /// 3: an unknown mode, type, kind or flag, or lists of no column.
     UnknownCode,
-    /// 4
+    /// 4: row ids, offsets or the number of values don't fit the kind.
     RowLists,
-    /// 5
+    /// 5: values or terms don't fit the type.
     Contents,
-    /// 6
+    /// 6: an alive set past the rows, or in a stacked join.
     AliveSet,
-    /// 7
+    /// 7: rows, values or term bytes sum above 4294967294.
     TooLarge,
-    /// 8
+    /// 8: too little working space; not by this crate's calls.
     WorkingSpace,
-    /// 9
+    /// 9: the addresses are not the alive rows, each once.
     Addresses,
-    /// 10
+    /// 10: types that can't be one column.
     Types,
-    /// 11
+    /// 11: too little space for the result; a time order gives it if memory is short.
     OutputSpace,
-    /// 12
+    /// 12: no column of times, several times in a row, or falling times.
     Times,
     /// An answer that this crate doesn't know: the library is of another version.
     Unlisted(u32),

@@ -1,6 +1,6 @@
 //! The level of the library's own lists: what a call is lent, list by list.
 use crate::alive::{is_alive, words_for};
-use crate::codes::{ColumnType, kind, mode};
+use crate::codes::{ColumnType, NO_TYPE, kind, mode};
 use crate::joined::Joined;
 use crate::refusal::Refusal;
 use crate::{ffi, joined};
@@ -47,7 +47,7 @@ pub struct Address {
 ///
 /// The fields may hold anything: what doesn't fit together is refused by number, as the library
 /// refuses it. [`join`](crate::join) and [`time_order`](crate::time_order) make them for you.
-#[derive(Clone, Debug, Default, PartialEq, Eq)]
+#[derive(Clone, Debug, PartialEq, Eq)]
 pub struct Sections {
     /// 0 stacked, 1 ordered.
     pub mode: u32,
@@ -61,6 +61,24 @@ pub struct Sections {
     pub term_bytes: Vec<u8>,
     pub alive: Vec<u64>,
     pub addresses: Vec<Address>,
+}
+
+/// A stacked join of no segments, without a required type. (The number 0 would require I64.)
+impl Default for Sections {
+    fn default() -> Sections {
+        Sections {
+            mode: mode::STACKED,
+            required: NO_TYPE,
+            records: Vec::new(),
+            ids: Vec::new(),
+            offsets: Vec::new(),
+            values: Vec::new(),
+            term_lengths: Vec::new(),
+            term_bytes: Vec::new(),
+            alive: Vec::new(),
+            addresses: Vec::new(),
+        }
+    }
 }
 
 /// From that many addresses on, the time order is asked for its answer before they get space.
@@ -251,6 +269,14 @@ impl<'a> Cut<'a> {
             };
             (row, part)
         })
+    }
+
+    /// The row that has the value at that place. For a segment whose lists fit its kind.
+    pub fn row_of(&self, place: usize) -> Option<u32> {
+        let mut cells = self.cells();
+        cells
+            .find(|(_, part)| part.contains(&place))
+            .map(|(row, _)| row)
     }
 
     /// Whether the column is held: it has values, and one in an alive row.

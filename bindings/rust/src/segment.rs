@@ -1,5 +1,5 @@
 use crate::alive::{AliveSet, words_for};
-use crate::codes::{ColumnType, code_of, kind, mode};
+use crate::codes::{ColumnType, code_of, kind};
 use crate::refusal::Refusal;
 use crate::sections::{Record, Sections};
 use crate::terms::Terms;
@@ -118,9 +118,11 @@ impl Segment {
         self
     }
 
-    /// The segment with an alive set in which all rows but these are alive.
-    pub fn without_rows(self, withdrawn: impl IntoIterator<Item = u32>) -> Segment {
-        let mut alive = AliveSet::all(u32::try_from(self.rows).unwrap_or(u32::MAX));
+    /// The segment with these rows withdrawn, and those that were withdrawn before. It has an alive
+    /// set then, even if no row is named. A row that the segment doesn't have is passed over.
+    pub fn without_rows(mut self, withdrawn: impl IntoIterator<Item = u32>) -> Segment {
+        let rows = u32::try_from(self.rows).unwrap_or(u32::MAX);
+        let mut alive = self.alive.take().unwrap_or_else(|| AliveSet::all(rows));
         withdrawn.into_iter().for_each(|row| alive.withdraw(row));
         self.with_alive(alive)
     }
@@ -266,11 +268,7 @@ impl Segment {
 impl Sections {
     /// The sections of a stacked join of the segments without a required type.
     pub fn of(segments: &[Segment]) -> Result<Sections, Refusal> {
-        let mut sections = Sections {
-            mode: mode::STACKED,
-            required: code_of(None),
-            ..Sections::default()
-        };
+        let mut sections = Sections::default();
         segments
             .iter()
             .try_for_each(|segment| sections.push(segment))?;
@@ -327,6 +325,14 @@ mod tests {
             ..Segment::no_column(0)
         };
         assert_eq!(Sections::of(&[segment]), Err(Refusal::TooLarge));
+    }
+
+    #[test]
+    fn rows_withdrawn_in_turn() {
+        let segment = Segment::no_column(65).without_rows([1, 64, 65, 200]);
+        let words = |segment: &Segment| segment.alive.as_ref().unwrap().words().to_vec();
+        assert_eq!(words(&segment), [!2, 0]);
+        assert_eq!(words(&segment.without_rows([0])), [!3, 0]);
     }
 
     #[test]

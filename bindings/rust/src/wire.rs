@@ -150,7 +150,9 @@ impl<R: Read> Words<R> {
         let word = self.word(what)?;
         T::try_from(word).map_err(|_| {
             let bits = 8 * size_of::<T>();
-            self.fault(format!("{what} {word} is too wide: it has {bits} bits"))
+            self.fault(format!(
+                "{what} {word} is too wide: it must fit {bits} bits"
+            ))
         })
     }
 
@@ -229,13 +231,8 @@ mod tests {
     #[test]
     fn no_segments() {
         let sections = Sections::read_wire(&bytes(&NOTHING)[..]).unwrap();
-        assert_eq!(
-            sections,
-            Sections {
-                required: 255,
-                ..Sections::default()
-            }
-        );
+        assert_eq!((sections.mode, sections.required), (0, 255));
+        assert_eq!(sections, Sections::default());
     }
 
     #[test]
@@ -280,7 +277,7 @@ mod tests {
         let text = fault(&bytes(&[2, 0, 255, 0, 0, 1, 1 << 32, 0, 0, 0, 0, 0]));
         assert_eq!(
             text,
-            "byte 48: offset 4294967296 is too wide: it has 32 bits"
+            "byte 48: offset 4294967296 is too wide: it must fit 32 bits"
         );
         let values = bytes(&[2, 0, 255, 0, 0, 0, 1, u64::MAX, 0, 0, 0, 0]);
         assert_eq!(Sections::read_wire(&values[..]).unwrap().values, [u64::MAX]);

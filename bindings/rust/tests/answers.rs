@@ -63,7 +63,6 @@ fn three() {
         ..Record::default()
     };
     let sections = Sections {
-        required: 255,
         records: vec![type_6],
         values: vec![0],
         ..Sections::default()

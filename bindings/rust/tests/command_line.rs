@@ -93,7 +93,8 @@ fn refusals() {
         "{err}"
     );
     let (out, err, status) = run(&["check", &path], b"");
-    let text = "answer 5 (values or terms)\nsegment 0, value 2 (the 1st): a Bool is 0 or 1\n";
+    let text = "answer 5 (values or terms)\n\
+        segment 0, row 0, value 2 (the 1st): a Bool is 0 or 1\n";
     assert_eq!((&*out, &*err, status), (text, "", 1));
 }
 
@@ -165,8 +166,19 @@ fn places_of_faults() {
         ),
         (
             "required I64 segment type U64 kind Full values 1 9223372036854775808",
-            "segment 0, value 9223372036854775808 (the 2nd): of type U64, and can't become the \
-             required type I64",
+            "segment 0, row 1, value 9223372036854775808 (the 2nd): of type U64, and can't become \
+             the required type I64",
+        ),
+        (
+            "required I64 segment type F64 kind Full values 1e300",
+            "segment 0, row 0, value 1e300 (the 1st): of type F64, and can't become the required \
+             type I64",
+        ),
+        (
+            "mode ordered required U64 segment type I64 kind NewMultivalued rows 9 ids 3 7 \
+             offsets 0 2 3 values 1 2 -3 withdrawn 0 1 2 4 5 6 7 8 addresses 0:3",
+            "segment 0, row 7 (withdrawn), value -3 (the 3rd): of type I64, and can't become the \
+             required type U64",
         ),
     ];
     for (sheet, text) in cases {
@@ -190,7 +202,8 @@ fn time_order() {
     assert_eq!((&*out, status), ("answer 12\n", 1));
     assert!(err.contains("answer 12 (times)"));
     let (out, _, status) = run(&["check", "--times", "-"], falling.as_bytes());
-    let text = "answer 12 (times)\nsegment 0, time 4 (the 2nd): before the one above it, 5\n";
+    let text = "answer 12 (times)\n\
+        segment 0, row 1, time 4 (the 2nd): earlier than the one before it, 5\n";
     assert_eq!((&*out, status), (text, 1));
 }
 
@@ -201,7 +214,13 @@ fn results_are_handed_on() {
     let sheet =
         "segment\ntype Str\nkind Optional\nrows 4\nids 1 2 3\nvalues 1 1 0\nterms \"a\" \"b\"\n";
     assert_eq!(fs::read_to_string(&week).unwrap(), sheet);
-    assert!(!PathBuf::from(format!("{week}.part")).exists());
+    let folder = PathBuf::from(&week).parent().unwrap().to_path_buf();
+    let names = fs::read_dir(folder).unwrap().map(|entry| entry.unwrap());
+    let parts = names.filter(|entry| {
+        let name = entry.file_name().into_string().unwrap();
+        name.starts_with("week.result.")
+    });
+    assert_eq!(parts.count(), 0);
     assert_eq!(accepted(&["join", "-", "--output=-"], C1.as_bytes()), sheet);
     // Sheets of results can be put together.
     let two = format!("{sheet}{sheet}");
@@ -239,6 +258,33 @@ fn damaged_wire_forms() {
     assert_eq!(run(&["join", "-"], &first).0, "answer 2\n");
 }
 
+/// A link stays, and what it leads to is replaced with its permissions, unless it is read-only; a
+/// neighbour's name is left alone.
+#[cfg(unix)]
+#[test]
+fn a_result_by_a_link() {
+    let (path, link, part) = (file("linked"), file("link"), file("linked.part"));
+    fs::write(&path, C1).unwrap();
+    fs::write(&part, "mine").unwrap();
+    let private = std::os::unix::fs::PermissionsExt::from_mode(0o600);
+    fs::set_permissions(&path, private).unwrap();
+    let _ = fs::remove_file(&link);
+    std::os::unix::fs::symlink(&path, &link).unwrap();
+    accepted(&["join", "--output", &link, "--", &link], b"");
+    assert!(fs::symlink_metadata(&link).unwrap().is_symlink());
+    let written = fs::read_to_string(&path).unwrap();
+    assert!(written.starts_with("segment\ntype Str\n"));
+    assert_eq!(fs::read_to_string(&part).unwrap(), "mine");
+    let mut permissions = fs::metadata(&path).unwrap().permissions();
+    let mode = std::os::unix::fs::PermissionsExt::mode(&permissions);
+    assert_eq!(mode & 0o777, 0o600);
+    permissions.set_readonly(true);
+    fs::set_permissions(&path, permissions).unwrap();
+    assert_eq!(run(&["join", "--output", &link, &link], b"").2, 2);
+    assert_eq!(fs::read_to_string(&path).unwrap(), written);
+    fs::remove_file(&path).unwrap();
+}
+
 /// Sections that don't fit their records are shown as wholes, and come back too.
 #[test]
 fn sections_as_wholes() {
@@ -274,7 +320,14 @@ fn faults_of_sheets() {
             "7",
             "line 1: '7' begins no entry; the words that do are mode, required, segment",
         ),
-        ("segment\nrows 2 3", "line 2: rows: takes one word"),
+        (
+            "segment\nrows 2 3",
+            "line 2: rows: takes one word, and '3' begins no entry",
+        ),
+        (
+            "segment type U64 kind Full\nvalue 7",
+            "line 2: kind: takes one word, and 'value' begins no entry",
+        ),
         (
             "segment rows 1\nids 0 x",
             "line 2: ids: 'x' is no number from 0 to 4294967295",
@@ -304,8 +357,16 @@ fn faults_of_sheets() {
             "line 2: values: 'x' is no decimal number",
         ),
         (
+            "segment type F64 kind Full\nvalues 1e309",
+            "line 2: values: '1e309' is larger than any",
+        ),
+        (
             "segment type Bool kind Full\nvalues yes",
             "line 2: values: 'yes' is neither true nor",
+        ),
+        (
+            "segment type Str kind Full\nvalues Air",
+            "line 2: values: 'Air' is neither an ordinal nor a quoted text",
         ),
         (
             "segment rows 1\nrows 2",
@@ -342,6 +403,10 @@ fn faults_of_sheets() {
         (
             "addresses 0:1 2",
             "line 1: addresses: '2' is no address, which is written SEGMENT:ROW",
+        ),
+        (
+            "addresses 0:",
+            "line 1: addresses: '0:': '' is no number from 0 to 4294967295",
         ),
         ("rows 1", "line 1: 'rows' stands before the first 'segment'"),
         (
@@ -390,7 +455,7 @@ fn usage() {
         assert!(help.contains("Exit status: "));
     }
     assert!(accepted(&["--version"], b"").starts_with("jadmirus "));
-    let wrong: [&[&str]; 8] = [
+    let wrong: [&[&str]; 13] = [
         &[],
         &["merge"],
         &["join"],
@@ -399,6 +464,11 @@ fn usage() {
         &["join", "a", "--output"],
         &["join", "a", "--from", "csv"],
         &["check", "--output", "b", "a"],
+        &["check", "--times=no", "a"],
+        &["join", "--rows=1", "a"],
+        &["join", "--as", "wire", "a"],
+        &["join", "--rows", "--output", "-", "a"],
+        &["join", "--", "--rows", "a"],
     ];
     for words in wrong {
         let (out, err, status) = run(words, b"");

@@ -1,5 +1,5 @@
 //! Answers 5 to 7: values, terms, alive sets, totals.
-use super::words::{element, of_type};
+use super::words::{element, of_type, value_of};
 use crate::codes::{ColumnType, kind};
 use crate::sections::{Cut, Sections};
 use crate::sheet::term_text;
@@ -33,7 +33,7 @@ fn values(cut: &Cut<'_>) -> Option<String> {
     let place = cut.values.iter().position(|&value| value >= limit)?;
     Some(format!(
         "{}: {why}",
-        element("value", cut.values[place], place)
+        value_of(cut, "value", cut.values[place], place)
     ))
 }
 

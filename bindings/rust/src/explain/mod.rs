@@ -19,8 +19,8 @@ use std::fmt;
 #[derive(Clone, Debug, PartialEq, Eq)]
 pub struct Fault {
     pub refusal: Refusal,
-    /// The place and what is wrong there, as in "segment 3, row id 7 (the 2nd): not above the one
-    /// before it".
+    /// The place and what is wrong there, as in "segment 3, row 7, value 2 (the 5th): a Bool is 0
+    /// or 1".
     pub text: String,
 }
 

@@ -1,5 +1,5 @@
 //! Answer 12: what the time order takes.
-use super::words::{element, of_type};
+use super::words::{of_type, value_of};
 use crate::codes::ColumnType;
 use crate::sections::Cut;
 
@@ -24,7 +24,7 @@ pub fn times(cut: &Cut<'_>) -> Option<String> {
     let place = cut.values.windows(2).position(falls)? + 1;
     let [before, time] = [place - 1, place].map(|place| cut.values[place] as i64);
     Some(format!(
-        "{}: before the one above it, {before}",
-        element("time", time, place)
+        "{}: earlier than the one before it, {before}",
+        value_of(cut, "time", time, place)
     ))
 }

@@ -1,7 +1,8 @@
 //! Answer 10: types that can't be one column.
 use super::each;
-use super::words::{element, type_name};
+use super::words::{type_name, value_of};
 use crate::codes::{ColumnType, NO_TYPE};
+use crate::joined::Value;
 use crate::sections::{Cut, Sections};
 
 pub fn types(s: &Sections, segments: &[Cut<'_>]) -> Option<String> {
@@ -49,9 +50,9 @@ fn not_coerced(cut: &Cut<'_>, to: ColumnType) -> Option<String> {
     let place = cut.values.iter().position(|&word| !fits(word))?;
     let word = cut.values[place];
     let value = match from {
-        ColumnType::I64 => element("value", word as i64, place),
-        ColumnType::F64 => element("value", f64::from_bits(word), place),
-        _ => element("value", word, place),
+        ColumnType::I64 => value_of(cut, "value", word as i64, place),
+        ColumnType::F64 => value_of(cut, "value", Value::F64(f64::from_bits(word)), place),
+        _ => value_of(cut, "value", word, place),
     };
     let (from, to) = (from.name(), to.name());
     Some(format!(

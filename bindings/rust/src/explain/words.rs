@@ -20,6 +20,17 @@ pub fn element(name: &str, element: impl std::fmt::Display, place: usize) -> Str
     format!("{name} {element} (the {})", nth(place))
 }
 
+/// A value with its row and its place, as "row 4, value 7 (the 2nd)". A withdrawn row's value is
+/// looked at like the others, which is worth a word.
+pub fn value_of(cut: &Cut<'_>, name: &str, value: impl std::fmt::Display, place: usize) -> String {
+    let value = element(name, value, place);
+    match cut.row_of(place) {
+        Some(row) if cut.is_alive(row) => format!("row {row}, {value}"),
+        Some(row) => format!("row {row} (withdrawn), {value}"),
+        None => value,
+    }
+}
+
 pub fn of_type(cut: &Cut<'_>) -> String {
     type_name(cut.record.typ)
 }

@@ -31,18 +31,27 @@ pub fn value(word: &str, typ: u32) -> Result<u64, String> {
                 .map(|v| v as u64)
                 .map_err(|_| format!("'{word}' is no number from {} to {}", i64::MIN, i64::MAX))
         }
-        (Some(ColumnType::F64), _) => {
-            let parsed = word.parse::<f64>();
-            parsed
-                .map(f64::to_bits)
-                .map_err(|_| format!("'{word}' is no decimal number"))
-        }
+        (Some(ColumnType::F64), _) => double(word).map(f64::to_bits),
         (Some(ColumnType::Bool), "false") => Ok(0),
         (Some(ColumnType::Bool), "true") => Ok(1),
         (Some(ColumnType::Bool), _) => {
             number(word).map_err(|_| format!("'{word}' is neither true nor false"))
         }
+        (Some(ColumnType::Bytes | ColumnType::Str), _) => {
+            number(word).map_err(|_| format!("'{word}' is neither an ordinal nor a quoted text"))
+        }
         _ => number(word),
+    }
+}
+
+/// A number that no double comes near must not become infinite unsaid.
+fn double(word: &str) -> Result<f64, String> {
+    let parsed: f64 = word
+        .parse()
+        .map_err(|_| format!("'{word}' is no decimal number"))?;
+    match parsed.is_infinite() && word.contains(|c: char| c.is_ascii_digit()) {
+        true => Err(format!("'{word}' is larger than any double but inf")),
+        false => Ok(parsed),
     }
 }
 
@@ -110,9 +119,10 @@ pub fn address(word: &str) -> Result<Address, String> {
     let (segment, row) = word
         .split_once(':')
         .ok_or_else(|| format!("'{word}' is no address, which is written SEGMENT:ROW, as 0:3"))?;
+    let part = |digits| number(digits).map_err(|text| format!("'{word}': {text}"));
     Ok(Address {
-        segment: number(segment)?,
-        row: number(row)?,
+        segment: part(segment)?,
+        row: part(row)?,
     })
 }
 
@@ -203,6 +213,17 @@ mod tests {
             for typ in [0, 1, 2, 3, 4, 5, 6, 7, 255] {
                 assert_eq!(value(&value_text(word, typ), typ), Ok(word), "{typ}");
             }
+        }
+    }
+
+    #[test]
+    fn doubles() {
+        let f64s = ColumnType::F64.code();
+        assert_eq!(value("-inf", f64s), Ok(f64::NEG_INFINITY.to_bits()));
+        assert_eq!(value("-0.0", f64s), Ok(1 << 63));
+        assert_eq!(value("NaN", f64s), Ok(0x7ff8000000000000));
+        for word in ["1e309", "-2e308", "", "1,5"] {
+            assert!(value(word, f64s).is_err(), "{word}");
         }
     }
 

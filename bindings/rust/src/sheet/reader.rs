@@ -114,11 +114,7 @@ impl Reader {
         entry.words += 1;
         let keyword = entry.keyword;
         let result = match keyword.words() {
-            Some(words) if entry.words > words => Err(match words {
-                0 => "takes nothing after it but entries of its own".to_string(),
-                1 => "takes one word".to_string(),
-                _ => format!("takes {words} numbers"),
-            }),
+            Some(words) if entry.words > words => Err(too_many(&token, words)),
             _ => self.element(keyword, token),
         };
         result.map_err(|text| SheetFault {
@@ -139,9 +135,11 @@ impl Reader {
         if let Some(draft) = self.draft.take() {
             draft.finish(&mut self.sections)?;
         }
-        self.sections.mode = self.mode.unwrap_or(mode::STACKED);
-        self.sections.required = self.required.unwrap_or(NO_TYPE);
-        Ok(self.sections)
+        Ok(Sections {
+            mode: self.mode.unwrap_or(mode::STACKED),
+            required: self.required.unwrap_or(NO_TYPE),
+            ..self.sections
+        })
     }
 
     /// Whether the entry that ends has all its words.
@@ -275,6 +273,19 @@ fn no_entry(token: &Token<'_>) -> String {
             )
         }
         Token::Text(_) => "a quoted text stands before the first entry".to_string(),
+    }
+}
+
+/// Often a misspelt word that was to begin an entry.
+fn too_many(token: &Token<'_>, words: usize) -> String {
+    let takes = match words {
+        0 => "nothing after it but entries".to_string(),
+        1 => "one word".to_string(),
+        _ => format!("{words} numbers"),
+    };
+    match token {
+        Token::Word(word) => format!("takes {takes}, and '{word}' begins no entry"),
+        Token::Text(_) => format!("takes {takes}, and no quoted text"),
     }
 }
 

@@ -7,13 +7,16 @@ pub enum Token<'a> {
     Text(Vec<u8>),
 }
 
-/// The tokens of a line up to its comment.
+/// The tokens of a line outside its comment. A comment ends with a carriage return too: in a file
+/// whose lines end with nothing else, it would hide all that follows.
 pub fn tokens(line: &str) -> impl Iterator<Item = Result<Token<'_>, String>> {
     let mut rest = line;
     std::iter::from_fn(move || {
         rest = rest.trim_start();
+        while rest.starts_with('#') {
+            rest = rest.find('\r').map_or("", |end| rest[end..].trim_start());
+        }
         match rest.chars().next()? {
-            '#' => None,
             '"' => Some(quoted(&mut rest).map(Token::Text)),
             _ => {
                 let ends = |c: char| c.is_whitespace() || c == '#' || c == '"';
@@ -84,6 +87,7 @@ mod tests {
             words,
             [Token::Word("ids"), Token::Word("1"), Token::Word("2")]
         );
+        assert_eq!(all("# 1\r# 2\r3 # 4\r\n").unwrap(), [Token::Word("3")]);
         let terms = all("terms \"\" \"a # b\" \"Bj\u{f6}rk\"#").unwrap();
         let expected = [
             Token::Word("terms"),

@@ -35,8 +35,8 @@ pub struct Arguments {
     /// The input's form; none if it is to be seen from the input.
     pub from: Option<Form>,
     pub output: Option<Place>,
-    /// The form of a joined column's output.
-    pub output_form: Form,
+    /// The form of a joined column's output, if it is named.
+    pub output_form: Option<Form>,
     /// To check for the time order, not for a join.
     pub times: bool,
     /// To print a joined column's rows, not its listing.
@@ -111,26 +111,24 @@ fn of_command(
         input: Place::Standard,
         from: None,
         output: None,
-        output_form: Form::Sheet,
+        output_form: None,
         times: false,
         rows: false,
     };
     while let Some(word) = words.next() {
-        let text = word.to_string_lossy();
-        if text == "--help" || text == "-h" {
-            return Ok(Request::Print(help::of(command).to_string()));
+        match word.to_str() {
+            Some("--help" | "-h") => return Ok(Request::Print(help::of(command).to_string())),
+            // What stands behind it is no option, whatever it begins with.
+            Some("--") => inputs.extend(words.by_ref().map(place)),
+            _ if word == "-" || !word.as_encoded_bytes().starts_with(b"-") => {
+                inputs.push(place(word));
+            }
+            _ => take_option(&mut arguments, &word, &mut words)
+                .map_err(|text| usage(command, &text))?,
         }
-        if text == "-" || !text.starts_with('-') {
-            inputs.push(place(word));
-            continue;
-        }
-        // An option's value stands after it, or behind an equals sign.
-        let (option, value) = match text.split_once('=') {
-            Some((option, value)) => (option, Some(OsString::from(value))),
-            None => (&*text, None),
-        };
-        take_option(&mut arguments, option, || value.or_else(|| words.next()))
-            .map_err(|text| usage(command, &text))?;
+    }
+    if let Some(text) = contradiction(&arguments) {
+        return Err(usage(command, text));
     }
     arguments.input = match <[Place; 1]>::try_from(inputs) {
         Ok([input]) => input,
@@ -140,21 +138,49 @@ fn of_command(
     Ok(Request::Run(arguments))
 }
 
+/// Why options don't go together: none is passed over unsaid.
+fn contradiction(arguments: &Arguments) -> Option<&'static str> {
+    match &arguments.output {
+        None if arguments.output_form.is_some() => {
+            Some("'--as' is the form of what '--output' writes")
+        }
+        Some(Place::Standard) if arguments.rows => {
+            Some("'--rows' and '--output -' both write to standard output")
+        }
+        _ => None,
+    }
+}
+
+/// Takes an option. Its value stands after it, or behind an equals sign.
 fn take_option(
     arguments: &mut Arguments,
-    option: &str,
-    value: impl FnOnce() -> Option<OsString>,
+    word: &OsStr,
+    words: &mut dyn Iterator<Item = OsString>,
 ) -> Result<(), String> {
+    let text = word.to_str().ok_or_else(|| {
+        let shown = word.display();
+        format!("'{shown}' is no UTF-8 text: write a file's name as a word of its own")
+    })?;
+    let (option, behind) = match text.split_once('=') {
+        Some((option, value)) => (option, Some(OsString::from(value))),
+        None => (text, None),
+    };
     if !arguments.command.takes(option) {
         return Err(format!("'{option}' is no option of it"));
     }
-    let value = || value().ok_or_else(|| format!("'{option}' wants a word after it"));
+    if behind.is_some() && matches!(option, "--times" | "--rows") {
+        return Err(format!("'{option}' takes no value"));
+    }
+    let value = || {
+        let value = behind.or_else(|| words.next());
+        value.ok_or_else(|| format!("'{option}' wants a word after it"))
+    };
     match option {
         "--times" => arguments.times = true,
         "--rows" => arguments.rows = true,
         "--output" => arguments.output = Some(place(value()?)),
         "--from" => arguments.from = Some(form_of(&value()?)?),
-        _ => arguments.output_form = form_of(&value()?)?,
+        _ => arguments.output_form = Some(form_of(&value()?)?),
     }
     Ok(())
 }

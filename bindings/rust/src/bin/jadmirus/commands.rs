@@ -45,7 +45,8 @@ fn join(arguments: &Arguments, input: Input) -> Result<Status, Failure> {
     drop(sections);
     // First the file: who sees a listing can rely on it.
     if let Some(output) = &arguments.output {
-        hand_on(joined.clone(), output, arguments.output_form)?;
+        let form = arguments.output_form.unwrap_or(Form::Sheet);
+        hand_on(joined.clone(), output, form)?;
     }
     if arguments.output != Some(Place::Standard) {
         to_stdout(|out| match arguments.rows {
@@ -102,6 +103,7 @@ fn check(arguments: &Arguments, input: Input) -> Result<Status, Failure> {
         true => (explain::time_order(&sections), sections.time_order().err()),
         false => (explain::join(&sections), sections.join().err()),
     };
+    space(arguments, answered)?;
     to_stdout(|out| match (answered, &found) {
         (None, _) => writeln!(out, "answer 0\naccepted"),
         (Some(refusal), found) => {
@@ -119,8 +121,6 @@ fn check(arguments: &Arguments, input: Input) -> Result<Status, Failure> {
 fn agree(answered: Option<Refusal>, found: Option<Fault>) -> Result<Status, Failure> {
     let explained = found.as_ref().map(|fault| fault.refusal);
     match answered {
-        // Space is short on this machine; the file is not at fault.
-        Some(Refusal::WorkingSpace | Refusal::OutputSpace) => return Ok(Status::Refused),
         Some(_) if answered == explained => return Ok(Status::Refused),
         None if explained.is_none() => return Ok(Status::Accepted),
         _ => {}
@@ -163,7 +163,19 @@ fn unrefused(arguments: &Arguments, input: Input) -> Result<Sections, Failure> {
     input.map_err(|fault| Failure::of(&input::name(&arguments.input), fault))
 }
 
+/// 8 and 11 come from this machine's memory here, and not from the file: no refusal of it.
+fn space(arguments: &Arguments, answered: Option<Refusal>) -> Result<(), Failure> {
+    match answered {
+        Some(Refusal::WorkingSpace | Refusal::OutputSpace) => {
+            let text = "there is not enough memory for the result";
+            Err(Failure::of(&input::name(&arguments.input), text))
+        }
+        _ => Ok(()),
+    }
+}
+
 fn refuse(arguments: &Arguments, refusal: Refusal) -> Result<Status, Failure> {
+    space(arguments, Some(refusal))?;
     to_stdout(|out| writeln!(out, "answer {}", refusal.number()))?;
     eprintln!("jadmirus: {}: {refusal}", input::name(&arguments.input));
     if let Place::File(path) = &arguments.input {
@@ -203,7 +215,6 @@ mod tests {
         let types = Some(Refusal::Types);
         assert_eq!(told(None, None), Ok(Status::Accepted));
         assert_eq!(told(types, fault(Refusal::Types)), Ok(Status::Refused));
-        assert_eq!(told(Some(Refusal::OutputSpace), None), Ok(Status::Refused));
         let differs = [
             (
                 None,

@@ -13,7 +13,7 @@ Joins the segments of one play-log column, by the proved library of Jadmirus.
 FILE is a sheet (text, see below) or a wire form (64-bit words), which is told from its
 first bytes; '-' is standard input. 'jadmirus COMMAND --help' says more of each command.
 
-Exit status: 0 accepted; 1 refused; 2 bad usage, or the input can't be read.
+Exit status: 0 accepted; 1 refused; 2 failed (usage, files, memory).
 
 A sheet, here of two days:
 
@@ -47,10 +47,10 @@ where it comes from.
   --output FILE   write the joined column too, as one segment to be joined again: sheets of
                   results can be put together ('cat week1 week2 | jadmirus join -').
                   '-': to standard output, in the listing's place
-  --as FORM       the form of that output: sheet (what is meant by default) or wire
+  --as FORM       the form of that output: sheet (if it isn't said) or wire
   --from FORM     the form of the input, if it can't be told from its first bytes
 
-Exit status: 0 joined; 1 refused; 2 bad usage, or the input can't be read.
+Exit status: 0 joined; 1 refused; 2 failed (usage, files, memory).
 ";
 
 const ORDER: &str = "\
@@ -65,7 +65,7 @@ refusal prints 'answer' and its number.
   --output FILE   write to that file instead of standard output
   --from FORM     the form of the input (sheet or wire), if it can't be told
 
-Exit status: 0 ordered; 1 refused; 2 bad usage, or the input can't be read.
+Exit status: 0 ordered; 1 refused; 2 failed (usage, files, memory).
 ";
 
 const CHECK: &str = "\
@@ -79,7 +79,7 @@ library's answer; should they differ, that is said, and the status is 2.
   --times         check for the time order ('jadmirus order'), not for a join
   --from FORM     the form of the input (sheet or wire), if it can't be told
 
-Exit status: 0 accepted; 1 refused; 2 bad usage, or the input can't be read.
+Exit status: 0 accepted; 1 refused; 2 failed (usage, files, memory).
 ";
 
 const ENCODE: &str = "\
@@ -91,7 +91,7 @@ word with the lowest byte first. It is what the joining program reads.
   --output FILE   write to that file instead of standard output
   --from FORM     the form of the input (sheet or wire), if it can't be told
 
-Exit status: 0 written; 2 bad usage, or the input can't be read.
+Exit status: 0 written; 2 failed (usage, files, memory).
 ";
 
 const SHOW: &str = "\
@@ -103,7 +103,7 @@ that don't fit the segments' records stand as wholes, with a word on where they 
   --output FILE   write to that file instead of standard output
   --from FORM     the form of the input (sheet or wire), if it can't be told
 
-Exit status: 0 written; 2 bad usage, or the input can't be read.
+Exit status: 0 written; 2 failed (usage, files, memory).
 ";
 
 pub fn of(command: Command) -> &'static str {
