@@ -12,28 +12,17 @@ ghost use Rattle.places.specs.Stack.{diffs, segmentWidths, stackedWidths, allRo
 ghost use Rattle.column_values_merge.specs.Stack.{stackedWords};
 ghost use Rattle.column_index_stacked.specs.Stacked.{Stacked};
 
-// A row's number if it has a value, else what stands there already.
-fn id_or(w: usize, row: u32, old: u32) -> u32
-    ensures { λ r. ⌜ r ≡ getD (idPart row w) 0 old ⌝ }
-{
-    if w == 0 {
-        return old;
-    }
-    row
-}
-
-// Writes the new row's number if it has a value; returns the index after it. A row of no value writes back what stands there, which saves a branch that can't be
-// foreseen.
+// Writes the new row's number if it has a value; returns the index after it.
 fn put_id(w: usize, row: u32, out: &mut [u32], at: usize) -> usize
     requires { ⌜ at + length (idPart row w) ≤ length (now out) ⌝ }
     ensures { λ e. ⌜ e ≡ at + length (idPart row w) ⌝ }
     ensures { λ _. ⌜ now (out .exit) ≡ put at (idPart row w) (now (out .entry)) ⌝ }
 {
-    if out.len() <= at {
+    if w == 0 {
         return at;
     }
-    out[at] = id_or(w, row, out[at]);
-    at + places::one_if(w)
+    out[at] = row;
+    at + 1
 }
 
 // The rows between whose offsets there is a value, numbered from first on (kind 3); returns the index after them.

@@ -6,9 +6,9 @@ use native.Mathlib.Omega.{arith}
 use mathlib.Core.Path.{_≡_, refl, sym, ap, _∙_}
 use mathlib.Core.List.{List, [], _∷_, _++_}
 use lib.ListN.{length, getD, set, drop, drop-of-length-le, length-set}
-use lib.Seq.{drop-cons, set-getD, set-split, set-set, drop-set-lt}
+use lib.Seq.{drop-cons, set-split, set-set, drop-set-lt}
 use Rattle.runs.specs.Put.{put}
-use Rattle.runs.proofs.Laws.{Filling, fill-start, fill-more, put-nil}
+use Rattle.runs.proofs.Laws.{Filling, fill-start, fill-more}
 use Rattle.places.specs.Width.{idPart, idsOf, totalsOf}
 use Rattle.places.specs.Place.{widthIn, widths, placeOf, rowOf}
 
@@ -77,16 +77,3 @@ module _ (places : List (List ℕ)) (ids offsets : List ℕ) (addresses : List (
   pub totals-end : length addresses ≤ j → (t : ℕ) → totalsOf t (widths places ids offsets (drop j addresses)) ≡ []
   unfolding totalsOf
   totals-end h t = rw (widths-end h)
-
--- ---- a row's own part written over what stands there
-
-pub part-past : (row w at n : ℕ) → at + length (idPart row w) ≤ n → n ≤ at → idPart row w ≡ []
-part-past row zero at n h k = refl
-part-past row (suc w) at n h k = absurd (omega arith)
-
-pub part-or : (row w old : ℕ) → (w ≡ 0 → ⊥) → row ≡ getD (idPart row w) 0 old
-part-or row w old n = ap (λ (l : List ℕ). getD l 0 old) (sym (part-some row w n))
-
-pub put-part : (row w at x : ℕ) (out : List ℕ) → at < length out → x ≡ getD (idPart row w) 0 (getD out at 0) → set out at x ≡ put at (idPart row w) out
-put-part row zero at x out h e = ap (set out at) e ∙ set-getD out at 0 ∙ sym (put-nil at out)
-put-part row (suc w) at x out h e = ap (set out at) e ∙ put-one at row out h

@@ -1,54 +1,41 @@
 use borrow.Author.Needs.{needs}
 use native.Mathlib.Omega.{arith}
-use mathlib.Core.Path.{_≡_, sym, ap, _∙_}
+use mathlib.Core.Path.{_≡_, refl, sym}
 use native.Mathlib.Nat.{add-zero}
-use Prim.Native.Nat.{ℕ, _+_}
+use Prim.Native.Nat.{ℕ, _+_, _≤_, _<_}
+use lib.ListN.{length}
 use Rattle.runs.proofs.Laws.{put-nil}
-use Rattle.places.proofs.Laws.{part-past, part-length, put-part}
+use Rattle.places.specs.Width.{idPart}
+use Rattle.places.proofs.Laws.{part-none, part-some, put-one}
 use Rattle.column_index_stacked.proofs.put_id.Statement.{statement}
 use Rattle.column_index_stacked.proofs.put_id.Tie as tie
 
+room : (row w at n : ℕ) → (w ≡ 0 → ⊥) → at + length (idPart row w) ≤ n → at < n
+room row w at n e h = let k : at + 1 ≤ n = rw (part-some row w e) at h in omega arith
+
 returns : tie.Need-returns
-returns c = rw (part-past (c .before .before .args .row) (c .before .before .args .w) _ _ (c .before .before .pre) (c .if1 .taken)) (sym (add-zero _), sym (put-nil _ _))
-
-mul-id-or : tie.Need-mul-id-or
-mul-id-or c = search needs
-
-slice-read-id-or : tie.Need-slice-read-id-or
-slice-read-id-or c = search needs
-
-id-or-requires : tie.Need-id-or-requires
-id-or-requires c κs = search needs
+returns c =
+    let s = c .before .args in
+    rw (part-none (s .row) (s .w) (c .if1 .taken)) (sym (add-zero _), sym (put-nil _ _))
 
 mul-out : tie.Need-mul-out
 mul-out c = search needs
 
 slice-write-out : tie.Need-slice-write-out
-slice-write-out c = search needs
-
-one-if-requires : tie.Need-one-if-requires
-one-if-requires c κs = search needs
+slice-write-out c =
+    let s = c .before .args in
+    room (s .row) (s .w) _ _ (c .if1 .left) (c .before .pre)
 
 add-result : tie.Need-add-result
-add-result c = let p = (c .before .before .before .before .before .pre) in let o = c .one-if .ensures .1 in search needs
+add-result c = search needs
 
 same-length : tie.Need-same-length
 same-length c = search needs
 
 returns-2 : tie.Need-returns-2
-returns-2 c = (ap (λ (n : ℕ). c .before .before .before .before .before .args .at + n) (c .one-if .ensures .0 ∙ sym (part-length (c .before .before .before .before .before .args .row) (c .before .before .before .before .before .args .w))), put-part (c .before .before .before .before .before .args .row) (c .before .before .before .before .before .args .w) _ _ _ (omega (arith, c .before .before .before .if1 .left)) (c .before .id-or .ensures))
+returns-2 c =
+    let s = c .before .args in
+    rw (part-some (s .row) (s .w) (c .if1 .left)) (refl, put-one _ _ _ (room (s .row) (s .w) _ _ (c .if1 .left) (c .before .pre)))
 
 pub put-id-spec : {M : Type 1} → statement M
-put-id-spec =
-    tie.close
-    (tie.spec
-    returns
-    mul-id-or
-    slice-read-id-or
-    id-or-requires
-    mul-out
-    slice-write-out
-    one-if-requires
-    add-result
-    same-length
-    returns-2)
+put-id-spec = tie.close (tie.spec returns mul-out slice-write-out add-result same-length returns-2)
