@@ -15,8 +15,8 @@
 //! nor the first touch of what the crate allocates is the system's work on its time.
 //!
 //! The joiner: the whole call, with all checks, into lists already touched, and with the zeroing of
-//! the working bytes, of which all rows plus all terms are lent also where the join is stacked and
-//! needs none.
+//! the working bytes: all rows plus all terms are lent to an ordered join, none to a stacked one,
+//! which needs none.
 //!
 //! The plain copy: the joined row ids (4 bytes each), offsets (4 bytes) and values (8 bytes), no
 //! more, each list by one copy_from_slice from where the joiner left it to a list of the same
@@ -241,7 +241,7 @@ impl Ours {
         let rows: usize = input.segs.iter().map(|s| s.rows as usize).sum();
         let terms = sections.term_lengths.len();
         let lent = Lent {
-            working: rows + terms,
+            working: if input.mode == 0 { 0 } else { rows + terms },
             ids: joined,
             offsets: joined + 1,
             values: sections.values.len(),
