@@ -1,7 +1,7 @@
 /* The proved joiner of play-log columns and their time order, for C. Link with target/staticlib/libjadmirus.a (rt staticlib jadmirus).
  *
- * The proof takes for granted what a caller in C must see to: each pointer is of as many elements as the count after it says (any aligned one, NULL too, where
- * the count is 0), and no run that is written overlaps another run. */
+ * The proof takes for granted what a caller in C must see to: each pointer is of as many elements as the count after it says (where the count is 0, any aligned
+ * one that is not NULL), and no run that is written overlaps another run. */
 #ifndef JADMIRUS_H
 #define JADMIRUS_H
 

@@ -106,7 +106,7 @@ module _ {records : List (List ℕ)} {ids offsets values lengths bytes words : L
 
   -- ---- the lengths of all lists, before anything is written
 
-  -- what stacked_counts gives
+  -- stacked
   pub stacked-ids-length : length (joinedColumn required ss (stackedFrom 0 ss) .ids) ≡ cond (eqb (joinedClass required ss) 0) 0 (length (idsOf 0 (stackedWidths places ids offsets)))
   unfolding joinedColumn encode
   stacked-ids-length = count-ids (joinedClass required ss) (stackedWidths places ids offsets) (joinedCells required ss (stackedFrom 0 ss)) (stacked-widths c f required)
@@ -120,7 +120,7 @@ module _ {records : List (List ℕ)} {ids offsets values lengths bytes words : L
   stacked-values-length = count-values 0 (stackedWidths places ids offsets) (joinedCells required ss (stackedFrom 0 ss)) (stacked-widths c f required)
 
   module _ (addresses : List (List ℕ)) (o : T (listsAliveRows ss (orderOf addresses))) where
-    -- what ordered_counts gives
+    -- ordered
     pub ordered-ids-length : length (joinedColumn required ss (orderOf addresses) .ids) ≡ cond (eqb (joinedClass required ss) 0) 0 (length (idsOf 0 (widths places ids offsets addresses)))
     unfolding joinedColumn encode
     ordered-ids-length = count-ids (joinedClass required ss) (widths places ids offsets addresses) (joinedCells required ss (orderOf addresses)) (ordered-widths c f addresses o required)
