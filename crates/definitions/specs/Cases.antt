@@ -13,7 +13,7 @@ use Rattle.definitions.specs.Class.{kindClass, aliveClass, classOf, grea
 use Rattle.definitions.specs.Join.{Column, rowOrder, isUsed, keptTerms, termsOf, ordinalOf, mapOf, newWord, cellOf, encode, joinedType, joinedClass, joinedCells, joinedColumn, joinRules, kindOf, asSegment}
 use Rattle.definitions.specs.Answer.{tooManySegments, lengthsWrong, codesKnown, noColumnIsBare, segmentCodesWrong, codesWrong, idsFit, offsetsFit, emptyFits, fullFits, optionalFits, oldFits, newFits, listsFit, listsWrong, valuesFit, valuesWrong, bitPastRows, aliveWrong, sumsTooLarge, workingTooSmall, isAliveAt, aliveAddresses, listsAliveRows, addressesWrong, presentTypes, oneCategory, allCoercible, typesWrong, outputTooShort, answer}
 use Rattle.definitions.specs.Outcome.{Buffers, Numbers, Answer, accepted, refused, Outcome, numberOf, spaceOf, numbersOf, refusedBuffers, acceptedBuffers, Lent, inputOf, joinOutcome, readBack}
-use Rattle.definitions.specs.TimeOrder.{TimeInput, TimeAnswer, ordered, unordered, timeNumberOf, TimeOutcome, keyOf, isBefore, timeOrder, timesWrong, timeSegments, timeAnswer, timeOutcome}
+use Rattle.definitions.specs.TimeOrder.{TimeInput, TimeAnswer, sorted, unsorted, timeNumberOf, TimeOutcome, keyOf, isBefore, timeOrder, timesWrong, timeAnswer, timeOutcome}
 use Rattle.definitions.specs.Book.{Call, Standing, first, result, Entry, lentTo, callLent, callOutcome, callAnswer, afterCall, answersOf, standsAfter, firstEntry, oneJoin, standingOf, joinedEntry, bookAnswer, bookAfterCall, bookAnswers, bookAfter}
 
 -- ---- how the tables are written
@@ -243,7 +243,7 @@ timesOf ss space = record { records = map recordOf ss; sections = sectionsOf ss;
 
 -- a call that is lent an output of so many addresses (9, 9)
 timeSheetOf : List Segment → ℕ → TimeOutcome
-unfolding ofInt toBits aliveWords firstSegment afterFirst segmentsOf recordOf sectionsOf rowValues bitAt isAlive aliveRows isDropped isHeld heldOf asEmpty effective isKnownType isNumerical hasTerms sameCategory hasType everyValue onlyType numericalType typeOf signedOf integerOf doubleOf coerced isCoercible kindClass aliveClass classOf greatestClass rowOrder isUsed keptTerms termsOf ordinalOf mapOf newWord cellOf encode joinedType joinedClass joinedCells joinedColumn joinRules tooManySegments lengthsWrong codesKnown noColumnIsBare segmentCodesWrong codesWrong idsFit offsetsFit emptyFits fullFits optionalFits oldFits newFits listsFit listsWrong valuesFit valuesWrong bitPastRows aliveWrong sumsTooLarge workingTooSmall isAliveAt aliveAddresses listsAliveRows addressesWrong presentTypes oneCategory allCoercible typesWrong outputTooShort answer spaceOf numbersOf refusedBuffers acceptedBuffers inputOf joinOutcome readBack keyOf isBefore timeOrder timesWrong timeSegments timeAnswer timeOutcome timesOf at
+unfolding ofInt toBits aliveWords firstSegment afterFirst segmentsOf recordOf sectionsOf rowValues bitAt isAlive aliveRows isDropped isHeld heldOf asEmpty effective isKnownType isNumerical hasTerms sameCategory hasType everyValue onlyType numericalType typeOf signedOf integerOf doubleOf coerced isCoercible kindClass aliveClass classOf greatestClass rowOrder isUsed keptTerms termsOf ordinalOf mapOf newWord cellOf encode joinedType joinedClass joinedCells joinedColumn joinRules tooManySegments lengthsWrong codesKnown noColumnIsBare segmentCodesWrong codesWrong idsFit offsetsFit emptyFits fullFits optionalFits oldFits newFits listsFit listsWrong valuesFit valuesWrong bitPastRows aliveWrong sumsTooLarge workingTooSmall isAliveAt aliveAddresses listsAliveRows addressesWrong presentTypes oneCategory allCoercible typesWrong outputTooShort answer spaceOf numbersOf refusedBuffers acceptedBuffers inputOf joinOutcome readBack keyOf isBefore timeOrder timesWrong timeAnswer timeOutcome timesOf at
 timeSheetOf ss space = timeOutcome (timesOf ss space) (replicate space (at 9 9))
 
 record TimeCase : Type 0 where
@@ -260,9 +260,9 @@ thirteen = plain 7 2 3 (0 ∷ 2 ∷ []) [] (10 ∷ 30 ∷ []) [] ∷ plain 7 2 2
 
 timeCases : List TimeCase
 timeCases =
-    timeCase thirteen 6 (ordered 5) (at 1 0 ∷ at 0 0 ∷ at 0 1 ∷ at 1 1 ∷ at 0 2 ∷ at 9 9 ∷ [])
+    timeCase thirteen 6 (sorted 5) (at 1 0 ∷ at 0 0 ∷ at 0 1 ∷ at 1 1 ∷ at 0 2 ∷ at 9 9 ∷ [])
     -- a withdrawn row still gives its time, and a time is signed: -1 is before 0
-    ∷ timeCase (plain 7 1 1 [] [] (0 ∷ []) [] ∷ withAlive (2 ∷ []) (plain 7 2 2 (0 ∷ []) [] (0xffffffffffffffff ∷ []) []) ∷ []) 2 (ordered 2)
+    ∷ timeCase (plain 7 1 1 [] [] (0 ∷ []) [] ∷ withAlive (2 ∷ []) (plain 7 2 2 (0 ∷ []) [] (0xffffffffffffffff ∷ []) []) ∷ []) 2 (sorted 2)
     (at 1 1 ∷ at 0 0 ∷ [])
     ∷ []
 

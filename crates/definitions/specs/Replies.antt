@@ -6,7 +6,7 @@ use Prim.Native.String.{String}
 use mathlib.Core.List.{List, [], _∷_, _++_, map}
 use lib.ListN.{take}
 use lib.Ieee.{ofInt, toBits}
-use Rattle.definitions.specs.Lists.{concat, upTo}
+use Rattle.definitions.specs.Lists.{concat, upTo, allBelow}
 use Rattle.definitions.specs.Segment.{aliveWords, firstSegment, afterFirst, segmentsOf}
 use Rattle.definitions.specs.Row.{rowValues, bitAt, isAlive, aliveRows, isDropped, isHeld, heldOf, asEmpty, effective}
 use Rattle.definitions.specs.Types.{isKnownType, isNumerical, hasTerms, sameCategory, hasType, everyValue, onlyType, numericalType, typeOf, signedOf, integerOf, doubleOf, coerced, isCoercible}
@@ -14,13 +14,13 @@ use Rattle.definitions.specs.Class.{kindClass, aliveClass, classOf, grea
 use Rattle.definitions.specs.Join.{rowOrder, isUsed, keptTerms, termsOf, ordinalOf, mapOf, newWord, cellOf, encode, joinedType, joinedClass, joinedCells, joinedColumn, joinRules}
 use Rattle.definitions.specs.Answer.{tooManySegments, lengthsWrong, codesKnown, noColumnIsBare, segmentCodesWrong, codesWrong, idsFit, offsetsFit, emptyFits, fullFits, optionalFits, oldFits, newFits, listsFit, listsWrong, valuesFit, valuesWrong, bitPastRows, aliveWrong, sumsTooLarge, workingTooSmall, isAliveAt, aliveAddresses, listsAliveRows, addressesWrong, presentTypes, oneCategory, allCoercible, typesWrong, outputTooShort, answer}
 use Rattle.definitions.specs.Outcome.{spaceOf, numbersOf, refusedBuffers, acceptedBuffers, inputOf, joinOutcome, readBack}
-use Rattle.definitions.specs.Wire.{wordsIn, wordsOf, sectionsBy, wordSections, endsFrom, allBelow, widthsFit, wordsFit, wholeWords, bytesFit, grouped, recordGroups, addressGroups, programBuffers, lentFrom, lentBy}
+use Rattle.definitions.specs.Wire.{wordsIn, wordsOf, sectionsBy, wordSections, endsFrom, widthsFit, wordsFit, wholeWords, bytesFit, grouped, recordGroups, addressGroups, programBuffers, lentFrom, lentBy}
 use Rattle.definitions.specs.Listing.{text, decimal, hexadecimal, termText, numbersText, termsText, valueLine, listLine, termsLine, numbersPart, listsPart, termsPart, acceptedText, columnText, listing, reply}
 
 -- every definition is opened here, once
-written : List ℕ → List ℕ
+printed : List ℕ → List ℕ
 unfolding ofInt toBits aliveWords firstSegment afterFirst segmentsOf rowValues bitAt isAlive aliveRows isDropped isHeld heldOf asEmpty effective isKnownType isNumerical hasTerms sameCategory hasType everyValue onlyType numericalType typeOf signedOf integerOf doubleOf coerced isCoercible kindClass aliveClass classOf greatestClass rowOrder isUsed keptTerms termsOf ordinalOf mapOf newWord cellOf encode joinedType joinedClass joinedCells joinedColumn joinRules tooManySegments lengthsWrong codesKnown noColumnIsBare segmentCodesWrong codesWrong idsFit offsetsFit emptyFits fullFits optionalFits oldFits newFits listsFit listsWrong valuesFit valuesWrong bitPastRows aliveWrong sumsTooLarge workingTooSmall isAliveAt aliveAddresses listsAliveRows addressesWrong presentTypes oneCategory allCoercible typesWrong outputTooShort answer spaceOf numbersOf refusedBuffers acceptedBuffers inputOf joinOutcome readBack wordsIn wordsOf sectionsBy wordSections endsFrom allBelow widthsFit wordsFit wholeWords bytesFit grouped recordGroups addressGroups programBuffers lentFrom lentBy decimal hexadecimal termText numbersText termsText valueLine listLine termsLine numbersPart listsPart termsPart acceptedText columnText listing reply
-written bytes = reply bytes
+printed bytes = reply bytes
 
 -- n as k bytes, the lowest first
 bytesOf : ℕ → ℕ → List ℕ
@@ -117,6 +117,6 @@ replies =
     ∷ case (input (2 ∷ 0 ∷ 255 ∷ 1 ∷ 4 ∷ 1 ∷ 1 ∷ 0 ∷ 0 ∷ 1 ∷ 1 ∷ 0 ∷ 0 ∷ 0 ∷ 1 ∷ 0 ∷ 1 ∷ 1 ∷ 1 ∷ 256 ∷ 0 ∷ 0 ∷ [])) "answer 2\n"
     ∷ []
 
-replies-hold : map (λ c. written (c .bytes)) replies ≡ map (λ c. c .text) replies
-unfolding written bytesOf input case one two six strange number rows replies
+replies-hold : map (λ c. printed (c .bytes)) replies ≡ map (λ c. c .text) replies
+unfolding printed bytesOf input case one two six strange number rows replies
 replies-hold = refl

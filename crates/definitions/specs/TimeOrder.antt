@@ -70,30 +70,27 @@ timesWrong ss =
     || not (notFalling (map timeOf (s .values))))
     ss
 
-unfoldable pub timeSegments : TimeInput → List Segment
-timeSegments i = segmentsFrom (i .records) (i .sections)
-
 unfoldable pub timeAnswer : TimeInput → ℕ
 timeAnswer i =
     cond (tooManySegments (i .records)) 1
     (cond (lengthsWrong (i .records) (i .sections)) 2
-    (cond (segmentCodesWrong (timeSegments i)) 3
-    (cond (listsWrong (timeSegments i)) 4
-    (cond (valuesWrong (timeSegments i)) 5
-    (cond (any bitPastRows (timeSegments i)) 6
-    (cond (sumsTooLarge (timeSegments i)) 7
-    (cond (ltb (i .space) (length (aliveAddresses (timeSegments i)))) 11
-    (cond (timesWrong (timeSegments i)) 12
+    (cond (segmentCodesWrong (segmentsFrom (i .records) (i .sections))) 3
+    (cond (listsWrong (segmentsFrom (i .records) (i .sections))) 4
+    (cond (valuesWrong (segmentsFrom (i .records) (i .sections))) 5
+    (cond (any bitPastRows (segmentsFrom (i .records) (i .sections))) 6
+    (cond (sumsTooLarge (segmentsFrom (i .records) (i .sections))) 7
+    (cond (ltb (i .space) (length (aliveAddresses (segmentsFrom (i .records) (i .sections))))) 11
+    (cond (timesWrong (segmentsFrom (i .records) (i .sections))) 12
     0))))))))
 
 -- the answer: how many addresses were written, or the number of the first check that fails
 pub data TimeAnswer : Type 0 where
-  ordered : ℕ → TimeAnswer
-  unordered : ℕ → TimeAnswer
+  sorted : ℕ → TimeAnswer
+  unsorted : ℕ → TimeAnswer
 
 abbrev pub timeNumberOf : TimeAnswer → ℕ
-timeNumberOf (ordered n) = 0
-timeNumberOf (unordered k) = k
+timeNumberOf (sorted n) = 0
+timeNumberOf (unsorted k) = k
 
 -- what a call gives, and the lent output as it leaves it
 pub record TimeOutcome : Type 0 where
@@ -104,6 +101,6 @@ pub record TimeOutcome : Type 0 where
 unfoldable pub timeOutcome : TimeInput → List Address → TimeOutcome
 timeOutcome i output =
     record {
-      answer = cond (eqb (timeAnswer i) 0) (ordered (length (timeOrder (timeSegments i)))) (unordered (timeAnswer i));
-      addresses = cond (eqb (timeAnswer i) 0) (written (timeOrder (timeSegments i)) output) output;
+      answer = cond (eqb (timeAnswer i) 0) (sorted (length (timeOrder (segmentsFrom (i .records) (i .sections))))) (unsorted (timeAnswer i));
+      addresses = cond (eqb (timeAnswer i) 0) (written (timeOrder (segmentsFrom (i .records) (i .sections))) output) output;
     }
