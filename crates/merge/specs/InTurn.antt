@@ -5,10 +5,10 @@ use mathlib.Core.List.{List, [], _∷_, map}
 use lib.Dec.{T}
 use Rattle.definitions.specs.Lists.{all}
 use Rattle.definitions.specs.Segment.{Segment}
-use Rattle.definitions.specs.Outcome.{Buffers, Lent, numberOf, joinOutcome}
+use Rattle.definitions.specs.Outcome.{Buffers, Lent, numberOf, joinOutcome, lentOf}
 use Rattle.definitions.specs.Book.{Call, Standing, first, callLent, afterAnswer, bookAnswers, bookAfter, standingOf, isSegment, handsOnlyStanding, isUniform}
 use Rattle.merge.specs.declared.Answer.{Answer}
-use Rattle.merge.specs.Whole.{answerOf, outcomeOf, lentOf}
+use Rattle.merge.specs.Whole.{answerOf, outcomeOf}
 
 -- the call of the book that a run answers, the lists that `join` was lent, what it gave, and the memory as it left it
 pub record Run : Type 0 where

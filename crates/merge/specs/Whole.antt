@@ -51,17 +51,6 @@ buffersOf ids offsets values lengths bytes map work =
 abbrev pub outcomeOf : Answer → Buffers → Outcome.Outcome
 outcomeOf a b = record { answer = answerOf a; buffers = b }
 
-abbrev pub lentOf : ℕ → ℕ → List (List ℕ) → List ℕ → List ℕ → List ℕ → List ℕ → List ℕ → List ℕ → List (List ℕ) → Buffers → Lent
-lentOf mode required records ids offsets values lengths bytes alive addresses b =
-    record {
-      mode = mode;
-      required = required;
-      records = recordsOf records;
-      sections = sectionsIn ids offsets values lengths bytes alive;
-      addresses = addressesOf addresses;
-      buffers = b;
-    }
-
 -- ---- the dictionary
 
 -- the marks of an ordered join; a stacked one leaves them
@@ -89,7 +78,7 @@ pub record DictionaryLeft (records : List (List ℕ)) (ids offsets values length
 
 -- ---- after the checks 1 to 9
 
-pub record Passed (mode required : ℕ) (records : List (List ℕ)) (ids offsets values lengths bytes alive : List ℕ) (addresses : List (List ℕ)) (work : List ℕ) : Type 0 where
+pub record AfterNine (mode required : ℕ) (records : List (List ℕ)) (ids offsets values lengths bytes alive : List ℕ) (addresses : List (List ℕ)) (work : List ℕ) : Type 0 where
   pub nine : answerToNine (lentInput mode required records ids offsets values lengths bytes alive addresses (length work)) ≡ 0
   pub clean : work ≡ replicate (length work) 0
 

@@ -4,8 +4,8 @@ ghost use mathlib.Core.Bool.{cond};
 ghost use Prim.Native.Nat.{_≤_};
 ghost use lib.ListN.{length, replicate};
 ghost use lib.Dec.{eqb};
-ghost use Rattle.definitions.specs.Outcome.{joinOutcome};
-ghost use Rattle.merge.specs.Whole.{marksFor, MarksFor, DictionaryGiven, DictionaryLeft, Passed, Tables, outcomeOf, lentOf, buffersOf};
+ghost use Rattle.definitions.specs.Outcome.{joinOutcome, lentOf};
+ghost use Rattle.merge.specs.Whole.{marksFor, MarksFor, DictionaryGiven, DictionaryLeft, AfterNine, Tables, outcomeOf, buffersOf};
 
 // What comes with acceptance: type, class and rows, and the number of elements of each list.
 pub struct Numbers {
@@ -124,7 +124,7 @@ fn join_tables(
     held: &mut [u8],
     sources: &mut [[usize; 3]],
 ) -> Answer
-    requires { ⌜ Passed mode required (now records) (now ids) (now offsets) (now values) (now lengths) (now bytes) (now alive) (now addresses) (now work) ⌝ }
+    requires { ⌜ AfterNine mode required (now records) (now ids) (now offsets) (now values) (now lengths) (now bytes) (now alive) (now addresses) (now work) ⌝ }
     requires { ⌜ Tables (now records) (now places) (now alives) (now held) (now sources) ⌝ }
     ensures { λ r. ⌜ outcomeOf r (buffersOf (now («out_ids» .exit)) (now («out_offsets» .exit)) (now («out_values» .exit)) (now («out_lengths» .exit)) (now («out_bytes» .exit)) (now («out_map» .exit)) (now (work .exit))) ≡ joinOutcome (lentOf mode required (now (records .entry)) (now (ids .entry)) (now (offsets .entry)) (now (values .entry)) (now (lengths .entry)) (now (bytes .entry)) (now (alive .entry)) (now (addresses .entry)) (buffersOf (now («out_ids» .entry)) (now («out_offsets» .entry)) (now («out_values» .entry)) (now («out_lengths» .entry)) (now («out_bytes» .entry)) (now («out_map» .entry)) (now (work .entry)))) ⌝ }
 {
@@ -221,7 +221,7 @@ fn join_checked(
     out_bytes: &mut [u8],
     out_map: &mut [u32],
 ) -> Answer
-    requires { ⌜ Passed mode required (now records) (now ids) (now offsets) (now values) (now lengths) (now bytes) (now alive) (now addresses) (now work) ⌝ }
+    requires { ⌜ AfterNine mode required (now records) (now ids) (now offsets) (now values) (now lengths) (now bytes) (now alive) (now addresses) (now work) ⌝ }
     ensures { λ r. ⌜ outcomeOf r (buffersOf (now («out_ids» .exit)) (now («out_offsets» .exit)) (now («out_values» .exit)) (now («out_lengths» .exit)) (now («out_bytes» .exit)) (now («out_map» .exit)) (now (work .exit))) ≡ joinOutcome (lentOf mode required (now (records .entry)) (now (ids .entry)) (now (offsets .entry)) (now (values .entry)) (now (lengths .entry)) (now (bytes .entry)) (now (alive .entry)) (now (addresses .entry)) (buffersOf (now («out_ids» .entry)) (now («out_offsets» .entry)) (now («out_values» .entry)) (now («out_lengths» .entry)) (now («out_bytes» .entry)) (now («out_map» .entry)) (now (work .entry)))) ⌝ }
 {
     let n = records.len();

@@ -15,7 +15,7 @@ use Rattle.definitions.specs.Segment.{cut}
 use Rattle.definitions.specs.Join.{ordinalOf}
 use Rattle.definitions.specs.Outcome.{written}
 use Rattle.definitions.proofs.Terms.{same-members, sort-ascending, sort-member, self-present}
-use Rattle.term_merger.specs.Order.{cell, Readable}
+use Rattle.term_merger.specs.Order.{cell, TermsInside}
 use Rattle.term_walk.specs.declared.Kept.{Kept}
 use Rattle.term_rows.specs.Rows.{rankAt, rowAt, rowOf, sizeOf, lensOf, dictOf, termAt, markAt}
 use Rattle.term_walk.specs.Walk.{Ready, Merged}
@@ -256,8 +256,8 @@ module _ {records : List (List ℕ)} {held lengths bytes marks : List ℕ} {all 
         small = omega (arith, f .texts, x .narrow);
       }
 
-  pub readable : Readable bytes rows
-  unfolding Readable
+  pub readable : TermsInside bytes rows
+  unfolding TermsInside
   readable s l =
       subst (λ (z : List ℕ). (getD z 0 0 ≤ getD z 1 0) × (getD z 1 0 ≤ length bytes)) (sym (ready .row s l))
       (row-readable lengths bytes marks all rows s (ready .low s) (ready .inside s) (ready .fits s) 0 zero-le)

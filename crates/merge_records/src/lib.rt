@@ -1,8 +1,8 @@
 // The joiner over a run of record structs (columnar/merge/mod.rs: `Vec<Option<..>>` of columns).
 ghost use mathlib.Core.Path.{_≡_};
 ghost use lib.ListN.{take};
-ghost use Rattle.definitions.specs.Outcome.{joinOutcome};
-ghost use Rattle.merge.specs.Whole.{outcomeOf, lentOf, buffersOf};
+ghost use Rattle.definitions.specs.Outcome.{joinOutcome, lentOf};
+ghost use Rattle.merge.specs.Whole.{outcomeOf, buffersOf};
 ghost use Rattle.records.specs.Rows.{rowsOf, countOf};
 
 // The join of the first rows of a table.

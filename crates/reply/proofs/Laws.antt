@@ -5,8 +5,8 @@ use Prim.Native.Nat.{ℕ, _≤_}
 use lib.ListN.{length, take, replicate}
 use lib.Seq.{length-take-le}
 use Rattle.definitions.specs.Wire.{wordsOf, wordSections, programBuffers, lentFrom, lentBy}
-use Rattle.wire.specs.Lent.{programLent}
-use Rattle.merge.specs.Whole.{buffersOf, lentOf}
+use Rattle.definitions.specs.Outcome.{lentOf}
+use Rattle.merge.specs.Whole.{buffersOf}
 
 pub counted : (out : List ℕ) (r : ℕ) → r ≤ length out → (r ≤ length out) × (r ≡ length (take r out))
 counted out r h = (h, sym (length-take-le r out h))
@@ -14,7 +14,7 @@ counted out r h = (h, sym (length-take-le r out h))
 -- what is lent is what the program lends
 pub lent-program : (mode required : ℕ) (records : List (List ℕ)) (ids offsets values lengths bytes alive : List ℕ) (addresses : List (List ℕ))
     → lentOf mode required records ids offsets values lengths bytes alive addresses (buffersOf (replicate 8192 0) (replicate 8192 0) (replicate 8192 0) (replicate 8192 0) (replicate 8192 0) (replicate 8192 0) (replicate 65536 0))
-    ≡ programLent mode required records ids offsets values lengths bytes alive addresses
+    ≡ lentOf mode required records ids offsets values lengths bytes alive addresses programBuffers
 unfolding programBuffers
 lent-program mode required records ids offsets values lengths bytes alive addresses = refl
 

@@ -2,14 +2,13 @@
 ghost use mathlib.Core.Path.{_≡_};
 ghost use Prim.Native.Nat.{_≤_};
 ghost use lib.ListN.{length};
-ghost use Rattle.definitions.specs.Outcome.{accepted, joinOutcome};
-ghost use Rattle.definitions.specs.Wire.{wordSections, lentFrom};
+ghost use Rattle.definitions.specs.Outcome.{accepted, joinOutcome, lentOf};
+ghost use Rattle.definitions.specs.Wire.{wordSections, lentFrom, programBuffers};
 ghost use Rattle.definitions.specs.Listing.{answerText, listing, reply as Listing·reply};
 ghost use Rattle.io.specs.Counts.{Counts};
 ghost use Rattle.runs.specs.Put.{put};
 ghost use Rattle.wire.specs.Bounds.{Fitted};
-ghost use Rattle.wire.specs.Lent.{programLent};
-ghost use Rattle.listing.specs.Shown.{outputs, Readable, ReadableBy, Short};
+ghost use Rattle.listing.specs.Shown.{outputs, Announced, AnnouncedBy, Short};
 ghost use Rattle.merge.specs.Whole.{numbersIn, answerOf};
 
 // An accepted column, out of the output lists.
@@ -23,7 +22,7 @@ fn put_column(
     map: &[u32],
     out: &mut [u8],
 ) -> usize
-    requires { ⌜ Readable (numbersIn n) (outputs (now ids) (now offsets) (now values) (now lengths) (now bytes) (now map)) ⌝ }
+    requires { ⌜ Announced (numbersIn n) (outputs (now ids) (now offsets) (now values) (now lengths) (now bytes) (now map)) ⌝ }
     requires { ⌜ Short (outputs (now ids) (now offsets) (now values) (now lengths) (now bytes) (now map)) ⌝ }
     requires { ⌜ 786432 ≤ length (now out) ⌝ }
     ensures { λ r. ⌜ r ≡ length (answerText (outputs (now (ids .entry)) (now (offsets .entry)) (now (values .entry)) (now (lengths .entry)) (now (bytes .entry)) (now (map .entry))) (accepted (numbersIn n))) ⌝ }
@@ -59,7 +58,7 @@ fn put_answer(
     map: &[u32],
     out: &mut [u8],
 ) -> usize
-    requires { ⌜ ReadableBy (answerOf a) (outputs (now ids) (now offsets) (now values) (now lengths) (now bytes) (now map)) ⌝ }
+    requires { ⌜ AnnouncedBy (answerOf a) (outputs (now ids) (now offsets) (now values) (now lengths) (now bytes) (now map)) ⌝ }
     requires { ⌜ Short (outputs (now ids) (now offsets) (now values) (now lengths) (now bytes) (now map)) ⌝ }
     requires { ⌜ 786432 ≤ length (now out) ⌝ }
     ensures { λ r. ⌜ r ≤ 786432 ⌝ }
@@ -88,8 +87,8 @@ fn answer_lists(
 ) -> usize
     requires { ⌜ 786432 ≤ length (now out) ⌝ }
     ensures { λ r. ⌜ r ≤ 786432 ⌝ }
-    ensures { λ r. ⌜ r ≡ length (listing (joinOutcome (programLent mode required (now (records .entry)) (now (ids .entry)) (now (offsets .entry)) (now (values .entry)) (now (lengths .entry)) (now (bytes .entry)) (now (alive .entry)) (now (addresses .entry))))) ⌝ }
-    ensures { λ _. ⌜ now (out .exit) ≡ put 0 (listing (joinOutcome (programLent mode required (now (records .entry)) (now (ids .entry)) (now (offsets .entry)) (now (values .entry)) (now (lengths .entry)) (now (bytes .entry)) (now (alive .entry)) (now (addresses .entry))))) (now (out .entry)) ⌝ }
+    ensures { λ r. ⌜ r ≡ length (listing (joinOutcome (lentOf mode required (now (records .entry)) (now (ids .entry)) (now (offsets .entry)) (now (values .entry)) (now (lengths .entry)) (now (bytes .entry)) (now (alive .entry)) (now (addresses .entry)) programBuffers))) ⌝ }
+    ensures { λ _. ⌜ now (out .exit) ≡ put 0 (listing (joinOutcome (lentOf mode required (now (records .entry)) (now (ids .entry)) (now (offsets .entry)) (now (values .entry)) (now (lengths .entry)) (now (bytes .entry)) (now (alive .entry)) (now (addresses .entry)) programBuffers))) (now (out .entry)) ⌝ }
 {
     let mut i = [0u32; 8192];
     let mut o = [0u32; 8192];

@@ -13,7 +13,7 @@ use Rattle.definitions.specs.Lists.{hasTerm, concat}
 use Rattle.definitions.specs.Outcome.{written}
 use Rattle.definitions.proofs.Terms.{Before}
 use Rattle.term_merger.specs.declared.Heap.{Heap}
-use Rattle.term_merger.specs.Order.{cell, keyOf, Readable}
+use Rattle.term_merger.specs.Order.{cell, keyOf, TermsInside}
 use Rattle.term_merger.specs.Heap.{count, one, held, Ordered, Out, Pushed}
 use Rattle.term_walk.specs.declared.Last.{Last}
 use Rattle.term_walk.specs.declared.Taken.{Taken}
@@ -48,7 +48,7 @@ pub record Going (lengths bytes marks : List ℕ) (all : Bool) (rows₀ : List (
   pub row : (s : ℕ) → s < 256 → getD rows s [] ≡ rowOf lengths marks all rows₀ s (P s)
   pub most : (s : ℕ) → P s ≤ sizeOf rows₀ s
   pub len : h .len ≤ 256
-  pub ordered : Ordered bytes rows (h .seg) (h .len)
+  pub inHeapOrder : Ordered bytes rows (h .seg) (h .len)
   pub holds : (x : ℕ) → count x (held h) ≡ one (ltb (P x) (sizeOf rows₀ x))
   pub merging : Merging (termAt lengths bytes rows₀) (sizeOf rows₀) (markAt marks all rows₀) P out
   pub mapped : Mapped (termAt lengths bytes rows₀) (sizeOf rows₀) (markAt marks all rows₀) (λ s. cell rows₀ s 5) P out ords
@@ -106,8 +106,8 @@ module _ {lengths bytes marks : List ℕ} {all : Bool} {rows₀ : List (List ℕ
       go (inl a) = a
       go (inr a) = absurd (omega (arith, no-size x a))
 
-  pub going-readable : Readable bytes rows
-  unfolding Readable
+  pub going-readable : TermsInside bytes rows
+  unfolding TermsInside
   going-readable x k =
       subst (λ (z : List ℕ). (getD z 0 0 ≤ getD z 1 0) × (getD z 1 0 ≤ length bytes)) (sym (g .row x k))
       (row-readable lengths bytes marks all rows₀ x (y .low x) (y .inside x) (y .fits x) (P x) (g .most x))
@@ -314,8 +314,8 @@ module _ {lengths bytes marks : List ℕ} {all : Bool} {rows₀ : List (List ℕ
           go (inl e) = omega (arith, bump-at P s x e, ap N e, live)
           go (inr d) = omega (arith, bump-there P s x d, g .most x)
 
-      pub readable-new : Readable bytes (set rows s nr)
-      unfolding Readable
+      pub readable-new : TermsInside bytes (set rows s nr)
+      unfolding TermsInside
       readable-new x k =
           subst (λ (z : List ℕ). (getD z 0 0 ≤ getD z 1 0) × (getD z 1 0 ≤ length bytes)) (sym (rows-new x k))
           (row-readable lengths bytes marks all rows₀ x (y .low x) (y .inside x) (y .fits x) (bump P s x) (most-new x))
@@ -327,7 +327,7 @@ module _ {lengths bytes marks : List ℕ} {all : Bool} {rows₀ : List (List ℕ
           omega (arith, o .holds s, g .holds s)
 
       pub ordered-new : length (r .seg) ≡ 256 → Ordered bytes (set rows s nr) (r .seg) (r .len)
-      ordered-new q = ordered-rows bytes rows s nr (r .seg) (r .len) (omega (arith, o .len, g .len)) gone (o .ordered)
+      ordered-new q = ordered-rows bytes rows s nr (r .seg) (r .len) (omega (arith, o .len, g .len)) gone (o .inHeapOrder)
 
       pub len-new : r .len < 256
       len-new = omega (arith, o .len, g .len)
@@ -347,14 +347,14 @@ module _ {lengths bytes marks : List ℕ} {all : Bool} {rows₀ : List (List ℕ
 
       record Heaped (h′ : Heap) : Type 0 where
         len : h′ .len ≤ 256
-        ordered : Ordered bytes (set rows s nr) (h′ .seg) (h′ .len)
+        inHeapOrder : Ordered bytes (set rows s nr) (h′ .seg) (h′ .len)
         holds : (x : ℕ) → count x (held h′) ≡ one (ltb (bump P s x) (N x))
 
       heaped : (h′ : Heap) → length (r .seg) ≡ 256 → Back bytes (set rows s nr) r s h′ → Heaped h′
       heaped h′ q bk = go (le-lt (P s + 1) (N s))
         where
           more : Pushed bytes (set rows s nr) r s h′ → P s + 1 < N s → Heaped h′
-          more p k = record { len = omega (arith, p .len, o .len, g .len); ordered = p .ordered; holds = λ x. at x (same? x s) }
+          more p k = record { len = omega (arith, p .len, o .len, g .len); inHeapOrder = p .inHeapOrder; holds = λ x. at x (same? x s) }
             where
               at : (x : ℕ) → (x ≡ s) ⊎ (x ≡ s → ⊥) → count x (held h′) ≡ one (ltb (bump P s x) (N x))
               at x (inl e) =
@@ -367,7 +367,7 @@ module _ {lengths bytes marks : List ℕ} {all : Bool} {rows₀ : List (List ℕ
                   omega (arith, p .holds x, elsewhere x d)
 
           same : h′ ≡ r → N s ≤ P s + 1 → Heaped h′
-          same e k = subst Heaped (sym e) (record { len = omega (arith, o .len, g .len); ordered = ordered-new q; holds = λ x. at x (same? x s) })
+          same e k = subst Heaped (sym e) (record { len = omega (arith, o .len, g .len); inHeapOrder = ordered-new q; holds = λ x. at x (same? x s) })
             where
               at : (x : ℕ) → (x ≡ s) ⊎ (x ≡ s → ⊥) → count x (held r) ≡ one (ltb (bump P s x) (N x))
               at x (inl f) =
@@ -410,7 +410,7 @@ module _ {lengths bytes marks : List ℕ} {all : Bool} {rows₀ : List (List ℕ
               row = rows-new;
               most = most-new;
               len = hp .len;
-              ordered = hp .ordered;
+              inHeapOrder = hp .inHeapOrder;
               holds = hp .holds;
               merging = st .merging;
               mapped = subst (λ (z : ℕ). Mapped D N K M (bump P s) o′ (set ords z (t .ordinal))) (sym e) (st .mapped);
@@ -461,7 +461,7 @@ going-start lengths bytes marks all rows lens outs ords h l y st a b c d =
       row = y .row;
       most = λ x. zero-le;
       len = st .len;
-      ordered = st .ordered;
+      inHeapOrder = st .inHeapOrder;
       holds = st .holds;
       merging =
           record {

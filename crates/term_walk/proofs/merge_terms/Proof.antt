@@ -35,7 +35,7 @@ pop-requires : tie.Need-pop-requires Inv-loop μ-loop
 pop-requires c κs =
     let y = c .before .before .before .before .before .before .before .before .before .before .pre .0 in
     let g = c .before .before .before .loop .inv .2 in
-    ((omega (arith, g .size), going-readable y g), (c .before .if1 .taken, g .len, g .ordered))
+    ((omega (arith, g .size), going-readable y g), (c .before .if1 .taken, g .len, g .inHeapOrder))
 
 -- src/lib.rt:150:13
 wide-requires : tie.Need-wide-requires Inv-loop μ-loop
