@@ -73,7 +73,7 @@ same-ends a b [] e h = eq-eqb b a (omega arith)
 same-ends a b (x ∷ xs) e h = ne-eqb b a (λ q. omega arith)
 
 -- present and not dropped
-kept-is : (p e a h : Bool) → p && (not e && (not a || h)) ≡ p && not (p && (e || (a && not h)))
+kept-is : (p e a h : Bool) → p && (not e && (not a || h)) ≡ p && not (e || (a && not h))
 kept-is true true a h = refl
 kept-is true false true true = refl
 kept-is true false true false = refl
@@ -116,12 +116,12 @@ module _ (alive words : List ℕ) {place ids offsets values : List ℕ} {s : Seg
           ap₂ (λ (x y : Bool). not (eqb (s .type) noType) && (not x && y)) ends
           (ap₂ (λ (x y : Bool). not x || y) (ap (λ (n : ℕ). eqb n 1) flag ∙ e) (rows e))
           ∙ kept-is (not (eqb (s .type) noType)) (isEmpty (s .values)) true (any (hasValue s) (aliveRows s))
-          ∙ ap (λ (a : Bool). isPresent s && not (isPresent s && (isEmpty (s .values) || (a && not (any (hasValue s) (aliveRows s)))))) (sym e)
+          ∙ ap (λ (a : Bool). isPresent s && not (isEmpty (s .values) || (a && not (any (hasValue s) (aliveRows s))))) (sym e)
       go false e =
           ap₂ (λ (x y : Bool). not (eqb (s .type) noType) && (not x && (not y || hasFrom place ids offsets (run (getD alive 1 0) (getD alive 2 0) words) 0 (rowsAt place)))) ends
           (ap (λ (n : ℕ). eqb n 1) flag ∙ e)
           ∙ kept-is (not (eqb (s .type) noType)) (isEmpty (s .values)) false (any (hasValue s) (aliveRows s))
-          ∙ ap (λ (a : Bool). isPresent s && not (isPresent s && (isEmpty (s .values) || (a && not (any (hasValue s) (aliveRows s)))))) (sym e)
+          ∙ ap (λ (a : Bool). isPresent s && not (isEmpty (s .values) || (a && not (any (hasValue s) (aliveRows s))))) (sym e)
 
 pub greatest-is : (places alives : List (List ℕ)) (ids offsets words : List ℕ) (ts : List Segment) → length places ≡ length ts → length alives ≡ length ts
     → ((k : ℕ) → k < length ts → classIn (getD places k []) (getD alives k []) ids offsets words ≡ classOf (effective (getD ts k absent))) → greatestIn places alives ids offsets words ≡ greatestClass ts

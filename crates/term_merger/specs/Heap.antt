@@ -33,6 +33,11 @@ pub record Pushed (bytes : List ℕ) (rows : List (List ℕ)) (h : Heap) (s : �
   pub inHeapOrder : Ordered bytes rows (r .seg) (r .len)
   pub holds : (x : ℕ) → count x (held r) ≡ count x (held h) + one (eqb x s)
 
+-- a full heap stays as it is
+pub record PushedIfRoom (bytes : List ℕ) (rows : List (List ℕ)) (h : Heap) (s : ℕ) (r : Heap) : Type 0 where
+  pub room : h .len < 256 → Pushed bytes rows h s r
+  pub full : 256 ≤ h .len → r ≡ h
+
 -- the top is out, it was the least, and the rest is a heap
 pub record Out (bytes : List ℕ) (rows : List (List ℕ)) (h : Heap) (r : Heap) (top : ℕ) : Type 0 where
   pub len : r .len + 1 ≡ h .len

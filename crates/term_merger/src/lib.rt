@@ -5,13 +5,13 @@ ghost use Prim.Native.Nat.{_+_, _-_, _*_, _<_, _≤_};
 ghost use lib.ListN.{length, getD};
 ghost use lib.Dec.{leb};
 ghost use Rattle.term_merger.specs.Order.{comesBefore, TermsInside};
-ghost use Rattle.term_merger.specs.Heap.{emptyHeap, held, Ordered, Pushed, Out, Risen, FirstChild, Sinking};
+ghost use Rattle.term_merger.specs.Heap.{emptyHeap, held, Ordered, PushedIfRoom, Out, Risen, FirstChild, Sinking};
 ghost use Rattle.term_merger.specs.Live.{Back, Started};
 use term_order::TermOrder;
 
 // Segment numbers in an array, each not before the one above it.
 pub struct Heap {
-    pub seg: [u8; 256],
+    pub seg: [u8; Heap::CAP],
     pub len: usize,
 }
 
@@ -27,7 +27,7 @@ impl Heap {
         ensures { λ h. ⌜ h ≡ emptyHeap ⌝ }
     {
         Heap {
-            seg: [0u8; 256],
+            seg: [0u8; Heap::CAP],
             len: 0,
         }
     }
@@ -95,11 +95,15 @@ fn sift_up(heap: Heap, bytes: &[u8], rows: &[[usize; 6]], from: usize) -> Heap
     h
 }
 
+// One segment more; a full heap stays as it is.
 pub fn push(heap: Heap, bytes: &[u8], rows: &[[usize; 6]], s: u8) -> Heap
     requires { ⌜ (256 ≤ length (now rows)) × TermsInside (now bytes) (now rows) ⌝ }
-    requires { ⌜ (heap .len < 256) × Ordered (now bytes) (now rows) (heap .seg) (heap .len) ⌝ }
-    ensures { λ h. ⌜ Pushed (now (bytes .entry)) (now (rows .entry)) heap s h ⌝ }
+    requires { ⌜ Ordered (now bytes) (now rows) (heap .seg) (heap .len) ⌝ }
+    ensures { λ h. ⌜ PushedIfRoom (now (bytes .entry)) (now (rows .entry)) heap s h ⌝ }
 {
+    if heap.is_full() {
+        return heap;
+    }
     let n = heap.len;
     let mut h = heap;
     h.seg[n] = s;
@@ -108,7 +112,13 @@ pub fn push(heap: Heap, bytes: &[u8], rows: &[[usize; 6]], s: u8) -> Heap
 }
 
 // The child of a place that comes first: l is the first child, and n is the number of places.
-fn first_child(seg: &[u8; 256], bytes: &[u8], rows: &[[usize; 6]], l: usize, n: usize) -> usize
+fn first_child(
+    seg: &[u8; Heap::CAP],
+    bytes: &[u8],
+    rows: &[[usize; 6]],
+    l: usize,
+    n: usize,
+) -> usize
     requires { ⌜ (256 ≤ length (now rows)) × TermsInside (now bytes) (now rows) ⌝ }
     requires { ⌜ (l < n) × (n ≤ 256) ⌝ }
     ensures { λ c. ⌜ FirstChild (now (bytes .entry)) (now (rows .entry)) (now (seg .entry)) l n c ⌝ }
@@ -186,7 +196,7 @@ pub fn start_heap(bytes: &[u8], rows: &[[usize; 6]]) -> Heap
 {
     let mut h = Heap::empty();
     let mut s: usize = 0;
-    while s < 256 {
+    while s < Heap::CAP {
         h = push_live(h, bytes, rows, s as u8);
         s += 1;
     }

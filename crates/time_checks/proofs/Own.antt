@@ -43,7 +43,7 @@ or-none true = refl
 or-none false = refl
 
 pub time-seven : (i : TimeInput) → timeAnswer i ≡ firstSeven (asOrdered i) (laterAnswer i)
-unfolding timeAnswer firstSeven laterAnswer codesWrong aliveWrong segmentsOf segmentsFrom (i .records) (i .sections)sKnownType
+unfolding timeAnswer firstSeven laterAnswer codesWrong aliveWrong segmentsOf isKnownType
 time-seven i = rw (or-none (any bitPastRows (segmentsFrom (i .records) (i .sections))))
 
 -- ---- 12
