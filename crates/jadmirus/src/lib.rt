@@ -110,7 +110,7 @@ pub extern "C" fn jadmirus_time_order(
     );
     match a {
         time_order::TimeAnswer::Refused(k) => k,
-        time_order::TimeAnswer::Ordered(n) => {
+        time_order::TimeAnswer::Sorted(n) => {
             *out_count = [n as u64];
             0
         }

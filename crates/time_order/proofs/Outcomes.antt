@@ -52,7 +52,7 @@ module _ (i : TimeInput) (out : List (List ℕ)) where
     unfolding outputOf merged.timeWritten
     ordered-output o = rw yes′ (o ∙ ap (λ (l : List Address). written (map pairOf l) out) same)
 
-    pub ordered-outcome : {n : ℕ} {out′ : List (List ℕ)} → n ≡ length (timeOrder ss) → out′ ≡ merged.timeWritten ss out → outcomeOf (TimeAnswer.Ordered n) out′ ≡ timeOutcome i (addressesOf out)
+    pub ordered-outcome : {n : ℕ} {out′ : List (List ℕ)} → n ≡ length (timeOrder ss) → out′ ≡ merged.timeWritten ss out → outcomeOf (TimeAnswer.Sorted n) out′ ≡ timeOutcome i (addressesOf out)
     unfolding timeOutcome merged.timeWritten
     ordered-outcome {n} {out′} m o =
         let a : n ≡ length (timeOrder (segmentsFrom (i .records) (i .sections))) = m ∙ ap length same in

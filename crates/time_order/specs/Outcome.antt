@@ -11,7 +11,7 @@ use Rattle.time_order.specs.declared.TimeAnswer.{TimeAnswer as Answered}
 
 -- the number of addresses with acceptance, else the number of the check that fails
 abbrev pub answerOf : Answered → TimeAnswer
-answerOf (Answered.Ordered n) = sorted n
+answerOf (Answered.Sorted n) = sorted n
 answerOf (Answered.Refused k) = unsorted k
 
 abbrev pub outcomeOf : Answered → List (List ℕ) → TimeOutcome

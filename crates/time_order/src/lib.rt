@@ -8,7 +8,7 @@ ghost use Rattle.time_merge.specs.Order.{placedSegments, placesOf, setsOf, time
 ghost use Rattle.time_order.specs.Outcome.{outcomeOf, outputOf};
 
 pub enum TimeAnswer {
-    Ordered(usize),
+    Sorted(usize),
     Refused(u32),
 }
 
@@ -31,7 +31,7 @@ fn order_rows(
     places::fill_places(records, &mut places);
     let mut sets = [[0usize; 3]; 256];
     places::fill_alives(records, &mut sets);
-    let mut rows = [[0usize; 6]; 256];
+    let mut rows = [[0usize; 6]; term_merger::Heap::CAP];
     time_merge::fill_rows(
         &places[..n],
         &sets[..n],
@@ -85,5 +85,5 @@ pub fn time_order(
         return TimeAnswer::Refused(k);
     }
     let n = order_rows(records, ids, offsets, values, alive, out);
-    TimeAnswer::Ordered(n)
+    TimeAnswer::Sorted(n)
 }
