@@ -10,7 +10,7 @@ use Rattle.definitions.specs.Row.{hasAliveSet, heldOf}
 use Rattle.definitions.specs.Join.{absent}
 use Rattle.definitions.specs.Answer.{sumOver, termsIn, bytesIn}
 use Rattle.definitions.specs.Outcome as Outcome
-use Rattle.definitions.specs.Outcome.{Buffers, Lent, accepted, refused}
+use Rattle.definitions.specs.Outcome.{Buffers, Lent, accepted, refused, joinOutcome}
 use Rattle.segment.specs.Records.{recordsOf, sectionsIn}
 use Rattle.segment.specs.Lent.{addressesOf, lentInput}
 use Rattle.merge_mapping.specs.Mapping.{answerToNine}
@@ -50,6 +50,10 @@ buffersOf ids offsets values lengths bytes map work =
 
 abbrev pub outcomeOf : Answer → Buffers → Outcome.Outcome
 outcomeOf a b = record { answer = answerOf a; buffers = b }
+
+-- what `join` promises of what it was lent, gave and left: the whole outcome is the definition's
+abbrev pub JoinKept : Lent → Answer → Buffers → Type 0
+JoinKept lent gave left = outcomeOf gave left ≡ joinOutcome lent
 
 -- ---- the dictionary
 
