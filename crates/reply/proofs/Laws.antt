@@ -15,11 +15,6 @@ use Rattle.reply.specs.Input.{zeros, Answers}
 pub counted : (out : List ℕ) (r : ℕ) → r ≤ length out → (r ≤ length out) × (r ≡ length (take r out))
 counted out r h = (h, sym (length-take-le r out h))
 
--- what a new buffer is, by a law over its length, since the length itself would be counted down
-pub new-buffer : (n : ℕ) → (n ≡ length (replicate {A = ℕ} n 0)) × (replicate n 0 ≡ zeros n)
-unfolding zeros
-new-buffer n = (sym (length-replicate {A = ℕ} n 0), refl)
-
 -- what is lent is what the program lends
 pub lent-program : (mode required : ℕ) (records : List (List ℕ)) (ids offsets values lengths bytes alive : List ℕ) (addresses : List (List ℕ))
     → lentOf mode required records ids offsets values lengths bytes alive addresses (buffersOf (replicate 8192 0) (replicate 8192 0) (replicate 8192 0) (replicate 8192 0) (replicate 8192 0) (replicate 8192 0) (replicate 65536 0))
@@ -30,6 +25,11 @@ lent-program mode required records ids offsets values lengths bytes alive addres
 pub lent-same : (input words : List ℕ) → words ≡ wordsOf input → lentFrom (wordSections words) ≡ lentBy input
 unfolding lentBy
 lent-same input words e = ap (λ (w : List ℕ). lentFrom (wordSections w)) e
+
+-- what a new buffer is, by a law over its length, since the length itself would be counted down
+pub new-buffer : (n : ℕ) → (n ≡ length (replicate {A = ℕ} n 0)) × (replicate n 0 ≡ zeros n)
+unfolding zeros
+new-buffer n = (sym (length-replicate {A = ℕ} n 0), refl)
 
 -- the reply to the bytes read is the reply to the whole input
 pub answers : (place : ℕ) (read : List ℕ) (r : ℕ) (old out : List ℕ) → suc mostBytes ≤ place → r ≡ length (reply read) → out ≡ put 0 (reply read) old → Answers place read r old out
