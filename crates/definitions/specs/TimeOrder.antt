@@ -1,6 +1,7 @@
 -- The time order of the alive rows, and its answers (document 01, "Time order"). Assumes nothing.
 use Prim.Native.Nat.{ℕ, zero, suc, _+_, _%_, _^_}
 use mathlib.Core.List.{List, [], _∷_, _++_, map}
+use mathlib.Core.Path.{_≡_}
 use mathlib.Core.Bool.{Bool, true, false, _&&_, _||_, cond, not}
 use lib.ListN.{length, getD}
 use lib.Dec.{eqb, ltb, leb}
@@ -9,7 +10,7 @@ use Rattle.definitions.specs.Segment.{Segment, SegmentRecord, Sections, 
 use Rattle.definitions.specs.Row.{rowValues, isPresent}
 use Rattle.definitions.specs.Types.{DateTime}
 use Rattle.definitions.specs.Join.{absent}
-use Rattle.definitions.specs.Answer.{tooManySegments, lengthsWrong, segmentCodesWrong, listsWrong, valuesWrong, bitPastRows, sumsTooLarge, aliveAddresses}
+use Rattle.definitions.specs.Answer.{tooManySegments, lengthsWrong, segmentCodesWrong, listsWrong, valuesWrong, bitPastRows, sumsTooLarge, aliveAddresses, listsAliveRows}
 use Rattle.definitions.specs.Outcome.{written}
 
 -- no mode, required type or addresses; the space is the number of addresses that the output has place for
@@ -57,6 +58,23 @@ sortAddresses ss (a ∷ bs) = insertAddress ss a (sortAddresses ss bs)
 
 unfoldable pub timeOrder : List Segment → List Address
 timeOrder ss = sortAddresses ss (aliveAddresses ss)
+
+-- ---- that it is sorted
+
+-- a comes before the first of them, and each before the next
+abbrev pub inOrderFrom : List Segment → Address → List Address → Bool
+inOrderFrom ss a [] = true
+inOrderFrom ss a (b ∷ bs) = isBefore ss a b && inOrderFrom ss b bs
+
+-- each comes before the next
+abbrev pub inTimeOrder : List Segment → List Address → Bool
+inTimeOrder ss [] = true
+inTimeOrder ss (a ∷ bs) = inOrderFrom ss a bs
+
+-- alive rows sorted: each is listed once, nothing else is, and they are in order. The time order is this for any segments (proofs/TimeOrder)
+pub record IsTimeOrder (ss : List Segment) (addresses : List Address) : Type 0 where
+  pub alive : listsAliveRows ss addresses ≡ true
+  pub inOrder : inTimeOrder ss addresses ≡ true
 
 -- ---- answers
 
