@@ -83,13 +83,13 @@ module _ {records : List (List ℕ)} {held lengths bytes marks : List ℕ} {all 
   cell-5 : (s : ℕ) → s < k → cell rows s 5 ≡ toAt records held s
   cell-5 s l = ap (λ (z : List ℕ). getD z 5 0) (f .row s l) ∙ first-5 records held lengths marks all s
 
-  pub size-in : (s : ℕ) → s < k → sizeOf rows s ≡ heldAt records held s
+  size-in : (s : ℕ) → s < k → sizeOf rows s ≡ heldAt records held s
   size-in s l = omega (arith, cell-3 s l, cell-4 s l, held-le records held s)
 
-  pub size-out : (s : ℕ) → k ≤ s → sizeOf rows s ≡ 0
+  size-out : (s : ℕ) → k ≤ s → sizeOf rows s ≡ 0
   size-out s l = omega (arith, f .rest s 3 l, f .rest s 4 l)
 
-  pub some-in : (s i : ℕ) → i < sizeOf rows s → s < k
+  some-in : (s i : ℕ) → i < sizeOf rows s → s < k
   some-in s i l = go (le-lt s k)
     where
       go : (s < k) ⊎ (k ≤ s) → s < k
@@ -99,7 +99,7 @@ module _ {records : List (List ℕ)} {held lengths bytes marks : List ℕ} {all 
   lens-in : (s : ℕ) → s < k → lensOf lengths rows s ≡ take (heldAt records held s) (drop (posAt records s) lengths)
   lens-in s l = take-held records held lengths s (sizeOf rows s) (cell rows s 3) (size-in s l) (cell-3 s l)
 
-  pub dict-in : (s : ℕ) → s < k → dictOf lengths bytes rows s ≡ heldDict records held lengths bytes s
+  dict-in : (s : ℕ) → s < k → dictOf lengths bytes rows s ≡ heldDict records held lengths bytes s
   unfolding dictOf heldDict
   dict-in s l = λ i. cut (lens-in s l i) (drop (cell-0 s l i) bytes)
 
@@ -170,7 +170,7 @@ module _ {records : List (List ℕ)} {held lengths bytes marks : List ℕ} {all 
       subst (λ (z : List ℕ). (getD z 0 0 ≤ getD z 1 0) × (getD z 1 0 ≤ length bytes)) (sym (ready .row s l))
       (row-readable lengths bytes marks all rows s (ready .low s) (ready .inside s) (ready .fits s) 0 zero-le)
 
-  -- ---- the end
+  -- ---- the terms and the map
 
   kept-in : (s : ℕ) → s < k → markedFrom marks all (cell rows s 3) (dictOf lengths bytes rows s) ≡ markedFrom marks all (posAt records s) (heldDict records held lengths bytes s)
   kept-in s l = go (held-cases records held s)

@@ -24,17 +24,17 @@ use Rattle.term_rows.proofs.Rows.{dict-length}
 use Rattle.term_walk.specs.declared.Last.{Last}
 use Rattle.term_walk.specs.Walk.{Ready, markedFrom, mapTo, walkedTerms, walkedMap, walkedRows, Merged}
 use Rattle.term_walk.proofs.Merge.{same-eq, has-tail, has-left, has-right, has-cases}
-use Rattle.term_walk.proofs.Places.{over-suc, some-row, before}
+use Rattle.term_walk.proofs.Places.{over-suc, some-row, place-below}
 use Rattle.term_walk.proofs.Going.{Going}
 
 -- ---- members
 
-pub both-ways : (a b : Bool) → (a ≡ true → b ≡ true) → (b ≡ true → a ≡ true) → a ≡ b
+both-ways : (a b : Bool) → (a ≡ true → b ≡ true) → (b ≡ true → a ≡ true) → a ≡ b
 both-ways true b f g = sym (f refl)
 both-ways false true f g = g refl
 both-ways false false f g = refl
 
-pub join-has : (f : ℕ → List (List ℕ)) (k s : ℕ) (u : List ℕ) → s < k → hasTerm u (f s) ≡ true → hasTerm u (joinTo f k) ≡ true
+join-has : (f : ℕ → List (List ℕ)) (k s : ℕ) (u : List ℕ) → s < k → hasTerm u (f s) ≡ true → hasTerm u (joinTo f k) ≡ true
 join-has f zero s u l h = absurd (omega arith)
 join-has f (suc k) s u l h = go (same? s k) (λ (m : s < k). join-has f k s u m h)
   where
@@ -42,7 +42,7 @@ join-has f (suc k) s u l h = go (same? s k) (λ (m : s < k). join-has f k s u m 
     go (inl e) g = has-right u (joinTo f k) (f k) (subst (λ (z : ℕ). hasTerm u (f z) ≡ true) e h)
     go (inr d) g = has-left u (joinTo f k) (f k) (g (let m : s < k = omega arith in m))
 
-pub join-from : (f : ℕ → List (List ℕ)) (k : ℕ) (u : List ℕ) → hasTerm u (joinTo f k) ≡ true → (s : ℕ) × (s < k) × (hasTerm u (f s) ≡ true)
+join-from : (f : ℕ → List (List ℕ)) (k : ℕ) (u : List ℕ) → hasTerm u (joinTo f k) ≡ true → (s : ℕ) × (s < k) × (hasTerm u (f s) ≡ true)
 join-from f zero u h = absurd (false≢true h)
 join-from f (suc k) u h = go (has-cases u (joinTo f k) (f k) h) (λ (m : hasTerm u (joinTo f k) ≡ true). join-from f k u m)
   where
@@ -51,7 +51,7 @@ join-from f (suc k) u h = go (has-cases u (joinTo f k) (f k) h) (λ (m : hasTerm
     go (inr m) g = (k, omega arith, m)
 
 module _ (marks : List ℕ) (all : Bool) where
-  pub marked-has : (l : List (List ℕ)) (pos i : ℕ) → i < length l → rankAt marks all (pos + i) ≡ 0 → hasTerm (getD l i []) (markedFrom marks all pos l) ≡ true
+  marked-has : (l : List (List ℕ)) (pos i : ℕ) → i < length l → rankAt marks all (pos + i) ≡ 0 → hasTerm (getD l i []) (markedFrom marks all pos l) ≡ true
   marked-has [] pos i h k = absurd (omega arith)
   marked-has (t ∷ ts) pos zero h k =
       let e : rankAt marks all pos ≡ 0 = ap (rankAt marks all) (sym (add-zero pos)) ∙ k in
@@ -65,7 +65,7 @@ module _ (marks : List ℕ) (all : Bool) where
       go true m = has-tail (getD ts i []) t (markedFrom marks all (suc pos) ts) m
       go false m = m
 
-  pub marked-from : (l : List (List ℕ)) (pos : ℕ) (u : List ℕ) → hasTerm u (markedFrom marks all pos l) ≡ true → (i : ℕ) × (i < length l) × (getD l i [] ≡ u) × (rankAt marks all (pos + i) ≡ 0)
+  marked-from : (l : List (List ℕ)) (pos : ℕ) (u : List ℕ) → hasTerm u (markedFrom marks all pos l) ≡ true → (i : ℕ) × (i < length l) × (getD l i [] ≡ u) × (rankAt marks all (pos + i) ≡ 0)
   marked-from [] pos u h = absurd (false≢true h)
   marked-from (t ∷ ts) pos u h = go (eqb (rankAt marks all pos) 0) refl h (λ (k : hasTerm u (markedFrom marks all (suc pos) ts) ≡ true). marked-from ts (suc pos) u k)
     where
@@ -86,7 +86,7 @@ module _ (marks : List ℕ) (all : Bool) where
 
 -- ---- lists one after another in an output
 
-pub join-taken : (f : ℕ → List ℕ) (k : ℕ) (l : List ℕ) → length (joinTo f k) ≤ length l → ((s i : ℕ) → s < k → i < length (f s) → getD l (length (joinTo f s) + i) 0 ≡ getD (f s) i 0)
+join-taken : (f : ℕ → List ℕ) (k : ℕ) (l : List ℕ) → length (joinTo f k) ≤ length l → ((s i : ℕ) → s < k → i < length (f s) → getD l (length (joinTo f s) + i) 0 ≡ getD (f s) i 0)
     → take (length (joinTo f k)) l ≡ joinTo f k
 join-taken f zero l h g = refl
 join-taken f (suc k) l h g =
@@ -100,7 +100,7 @@ join-taken f (suc k) l h g =
     ap (λ (z : ℕ). take z l) e ∙ take-add a (length (f k)) l
     ∙ ap₂ (λ (p q : List ℕ). p ++ q) (join-taken f k l (omega arith) (λ s i m n. g s i (omega arith) n)) x
 
-pub join-written : (f : ℕ → List ℕ) (k : ℕ) (l old : List ℕ) → length (joinTo f k) ≤ length l → length l ≡ length old → ((s i : ℕ) → s < k → i < length (f s) → getD l (length (joinTo f s) + i) 0 ≡ getD (f s) i 0)
+join-written : (f : ℕ → List ℕ) (k : ℕ) (l old : List ℕ) → length (joinTo f k) ≤ length l → length l ≡ length old → ((s i : ℕ) → s < k → i < length (f s) → getD l (length (joinTo f s) + i) 0 ≡ getD (f s) i 0)
     → ((j : ℕ) → length (joinTo f k) ≤ j → getD l j 0 ≡ getD old j 0) → l ≡ written (joinTo f k) old
 join-written f k l old h e g o =
     let n : ℕ = length (joinTo f k) in
@@ -194,7 +194,7 @@ module _ {lengths bytes marks : List ℕ} {all : Bool} {rows₀ : List (List ℕ
       ∙ sym (getD-map-in (ordinalOf out) (dict s) i (omega (arith, new-size s, dict-size s)))
 
   others-at : (j : ℕ) → length (joinTo new (length rows₀)) ≤ j → getD ords j 0 ≡ getD ords₀ j 0
-  others-at j k = g .others j (λ s i n e. omega (arith, before y s (length rows₀) i (some-row rows₀ s i n) n, join-size (length rows₀) (let w : length rows₀ ≤ length rows₀ = omega arith in w)))
+  others-at j k = g .others j (λ s i n e. omega (arith, place-below y s (length rows₀) i (some-row rows₀ s i n) n, join-size (length rows₀) (let w : length rows₀ ≤ length rows₀ = omega arith in w)))
 
   map-is : ords ≡ written (mapTo out dict (length rows₀)) ords₀
   map-is =

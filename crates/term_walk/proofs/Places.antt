@@ -41,15 +41,16 @@ some-row rows s i k = go (le-lt s (length rows))
         absurd (omega arith)
 
 module _ {lengths bytes marks : List ℕ} {all : Bool} {rows : List (List ℕ)} {lens outs ords : List ℕ} (y : Ready lengths bytes marks all rows lens outs ords) where
-  pub before : (s t i : ℕ) → s < t → i < sizeOf rows s → cell rows s 5 + i < sumOver termsIn (take t rows)
-  before s t i l k =
+  -- a segment's places lie before those of the segments after it
+  pub place-below : (s t i : ℕ) → s < t → i < sizeOf rows s → cell rows s 5 + i < sumOver termsIn (take t rows)
+  place-below s t i l k =
       let w : 0 < sizeOf rows s = omega arith in
       omega (arith, y .starts s w, over-next termsIn rows s t l (some-row rows s i k))
 
   pub place : (s i : ℕ) → i < sizeOf rows s → cell rows s 5 + i < length ords
   place s i k =
       let e : sumOver termsIn (take (length rows) rows) ≡ sumOver termsIn rows = ap (sumOver termsIn) (take-length rows) in
-      omega (arith, before s (length rows) i (some-row rows s i k) k, y .places)
+      omega (arith, place-below s (length rows) i (some-row rows s i k) k, y .places)
 
   pub apart : (a b i j : ℕ) → (a ≡ b → ⊥) → i < sizeOf rows a → j < sizeOf rows b → cell rows a 5 + i ≡ cell rows b 5 + j → ⊥
   apart a b i j d l m e = go (le-lt a b)
@@ -61,7 +62,7 @@ module _ {lengths bytes marks : List ℕ} {all : Bool} {rows : List (List ℕ)} 
       v = omega arith
 
       go : (a < b) ⊎ (b ≤ a) → ⊥
-      go (inl p) = omega (arith, before a b i p l, y .starts b v)
+      go (inl p) = omega (arith, place-below a b i p l, y .starts b v)
       go (inr p) =
           let q : b < a = omega arith in
-          omega (arith, before b a j q m, y .starts a u)
+          omega (arith, place-below b a j q m, y .starts a u)

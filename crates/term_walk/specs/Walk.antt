@@ -87,13 +87,15 @@ markedFrom marks all pos (t ∷ ts) = cond (eqb (rankAt marks all pos) 0) (t ∷
 abbrev pub termsTo : List ℕ → Bool → (ℕ → ℕ) → (ℕ → List (List ℕ)) → ℕ → List (List ℕ)
 termsTo marks all pos dict n = sortTerms (joinTo (λ s. markedFrom marks all (pos s) (dict s)) n)
 
--- each of their ordinals' new one among the terms given, dictionary by dictionary
+-- the map of n dictionaries: each old ordinal's new one, by its term's place among terms
 abbrev pub mapTo : List (List ℕ) → (ℕ → List (List ℕ)) → ℕ → List ℕ
 mapTo terms dict n = joinTo (λ s. map (ordinalOf terms) (dict s)) n
 
+-- the marked terms of all segments
 unfoldable pub walkedTerms : List ℕ → List ℕ → List ℕ → Bool → List (List ℕ) → List (List ℕ)
 walkedTerms lengths bytes marks all rows = termsTo marks all (λ s. cell rows s 3) (dictOf lengths bytes rows) (length rows)
 
+-- and their map
 unfoldable pub walkedMap : List ℕ → List ℕ → List ℕ → Bool → List (List ℕ) → List ℕ
 walkedMap lengths bytes marks all rows = mapTo (walkedTerms lengths bytes marks all rows) (dictOf lengths bytes rows) (length rows)
 
@@ -101,7 +103,7 @@ walkedMap lengths bytes marks all rows = mapTo (walkedTerms lengths bytes marks 
 unfoldable pub walkedRows : List ℕ → List ℕ → Bool → List (List ℕ) → List (List ℕ)
 walkedRows lengths marks all rows = map (λ s. rowOf lengths marks all rows s (sizeOf rows s)) (upTo (length rows))
 
--- a dictionary and a map are written; n and m count the terms and their bytes
+-- the dictionary dict and the map new are written; n and m count the terms and their bytes
 pub record Merged (dict : List (List ℕ)) (new lens outs ords : List ℕ) (n m : ℕ) (lens′ outs′ ords′ : List ℕ) : Type 0 where
   pub terms : n ≡ length dict
   pub used : m ≡ length (concat dict)
