@@ -1,14 +1,14 @@
 -- The walk's state, and a turn of it. Assumes nothing.
 use mathlib.Core.Path.{_≡_, refl, sym, ap, ap₂, _∙_, subst}
 use mathlib.Core.Logic.{_⊎_, inl, inr}
-use mathlib.Core.Bool.{Bool, true, false, false≢true}
+use mathlib.Core.Bool.{Bool, false, false≢true}
 use mathlib.Core.List.{List, [], _∷_, _++_, map}
-use Prim.Native.Nat.{ℕ, zero, suc, _+_, _-_, _≤_, _<_, zero-le, suc-le-suc}
+use Prim.Native.Nat.{ℕ, _+_, _-_, _≤_, _<_, zero-le, suc-le-suc}
 use native.Mathlib.Omega.{arith}
 use lib.Dec.{eqb, ltb}
-use lib.ListN.{length, getD, set, take, drop, length-drop, length-set, length-append, length-map, List·getD-eq-default}
+use lib.ListN.{length, getD, set, take, drop, length-drop, length-set, length-append, length-map}
 use lib.Seq.{getD-set-same, getD-set-other, length-take-le}
-use borrow.Author.Tests.{lt-ltb, le-ltb, ltb-true, ltb-false, eq-eqb, ne-eqb}
+use borrow.Author.Tests.{lt-ltb, le-ltb, ltb-true, eq-eqb, ne-eqb}
 use Rattle.definitions.specs.Lists.{hasTerm, concat}
 use Rattle.definitions.specs.Outcome.{written}
 use Rattle.definitions.proofs.Terms.{Before}
@@ -17,30 +17,17 @@ use Rattle.term_merger.specs.Order.{cell, keyOf, TermsInside}
 use Rattle.term_merger.specs.Heap.{count, one, held, Ordered, Out, Pushed}
 use Rattle.term_walk.specs.declared.Last.{Last}
 use Rattle.term_walk.specs.declared.Taken.{Taken}
-use Rattle.term_walk.specs.declared.Kept.{Kept}
 use Rattle.runs.specs.Put.{put}
 use Rattle.term_rows.specs.Rows.{rowAt, lengthAt, rowOf, sizeOf, dictOf, termAt, markAt, termsIn, bytesIn, sumOver}
-use Rattle.term_walk.specs.Walk.{Ready, termOf, lastOf, partOf, Again, Skipped, Added, Took, Merged}
+use Rattle.term_walk.specs.Walk.{Ready, termOf, lastOf, partOf, Again, Skipped, Added, Took}
 use Rattle.term_merger.specs.Live.{Back, Started}
+use Rattle.term_walk.proofs.Places.{some-row, over-le, place, apart}
 use Rattle.term_walk.proofs.Written.{written-one, written-more, written-length}
 use Rattle.term_rows.proofs.Rows.{le-lt, over-set, dict-length, row-2, row-3, row-4, row-5, row-readable, row-term, row-length, row-more, row-fits, left-bytes}
 use Rattle.term_walk.proofs.Merge.{bump, bump-there, bump-at, Merging, keep, add, unlike, strictly, Mapped, mapped-add, mapped-keep, LastIs, last-hit, last-miss, last-added, has-self, ordinal-none, ordinal-new}
 use Rattle.term_merger.proofs.Laws.{same?}
 use Rattle.term_walk.proofs.Heaps.{out-least, asc-next, asc-count, map-length-snoc, concat-snoc}
 use Rattle.term_merger.proofs.Heaps.{one-pos, ordered-rows, top-held}
-
-count-nil : (x : ℕ) → count x [] ≡ 0
-unfolding count
-count-nil x = refl
-
-one-zero : (b : Bool) → one b ≡ 0 → b ≡ false
-one-zero true h = absurd (omega arith)
-one-zero false h = refl
-
-pub over-le : (f : List ℕ → ℕ) (rows : List (List ℕ)) (s : ℕ) → s < length rows → f (getD rows s []) ≤ sumOver f rows
-over-le f [] s h = absurd (omega arith)
-over-le f (x ∷ xs) zero h = omega arith
-over-le f (x ∷ xs) (suc s) h = let e = over-le f xs s (let k : s < length xs = omega arith in k) in omega arith
 
 pub record Going (lengths bytes marks : List ℕ) (all : Bool) (rows₀ : List (List ℕ)) (lens₀ outs₀ ords₀ : List ℕ)
     (rows : List (List ℕ)) (lens outs ords : List ℕ) (h : Heap) (l : Last) (P : ℕ → ℕ) (out : List (List ℕ)) : Type 0 where
@@ -94,17 +81,8 @@ module _ {lengths bytes marks : List ℕ} {all : Bool} {rows₀ : List (List ℕ
   abbrev M : ℕ → ℕ
   M x = cell rows₀ x 5
 
-  no-size : (x : ℕ) → 256 ≤ x → N x ≡ 0
-  no-size x k =
-      let e : getD rows₀ x [] ≡ [] = List·getD-eq-default rows₀ [] (omega (arith, y .size)) in
-      ap (λ (z : List ℕ). getD z 4 0 - getD z 3 0) e
-
   pub in-range : (x : ℕ) → P x < N x → x < 256
-  in-range x k = go (le-lt x 256)
-    where
-      go : (x < 256) ⊎ (256 ≤ x) → x < 256
-      go (inl a) = a
-      go (inr a) = absurd (omega (arith, no-size x a))
+  in-range x k = omega (arith, y .size, some-row rows₀ x (P x) k)
 
   pub going-readable : TermsInside bytes rows
   unfolding TermsInside
@@ -196,14 +174,14 @@ module _ {lengths bytes marks : List ℕ} {all : Bool} {rows₀ : List (List ℕ
         (row-fits lengths bytes marks all rows₀ s (y .low s) (y .inside s) (y .fits s) (P s) live)
 
     pub place-in : getD (getD rows s []) 5 0 < length ords
-    place-in = omega (arith, place-s, y .place s (P s) live, g .size-map)
+    place-in = omega (arith, place-s, place y s (P s) live, g .size-map)
 
     apart-s : (x i : ℕ) → i < P x → M x + i ≡ M s + P s → ⊥
     apart-s x i k e = go (same? x s)
       where
         go : (x ≡ s) ⊎ (x ≡ s → ⊥) → ⊥
         go (inl f) = omega (arith, ap M f, ap P f)
-        go (inr d) = y .apart x s i (P s) d (omega (arith, g .most x)) live e
+        go (inr d) = apart y x s i (P s) d (omega (arith, g .most x)) live e
 
     inside-map : M s + P s < length ords
     inside-map = omega (arith, place-s, place-in)
@@ -427,31 +405,6 @@ module _ {lengths bytes marks : List ℕ} {all : Bool} {rows₀ : List (List ℕ
               room = rm;
               space = sp;
             }
-
-  -- ---- the end
-
-  pub going-end : h .len ≤ 0 → (w : Kept) → w .terms ≡ l .terms → w .bytes ≡ l .bytes → Merged lengths bytes marks all rows₀ lens₀ outs₀ ords₀ w rows lens outs ords out
-  going-end z w e f =
-      record {
-        asc = g .merging .asc;
-        sound = g .merging .sound;
-        complete = λ x i k m. g .merging .complete x i (omega (arith, over x)) m;
-        terms = e ∙ g .last .size;
-        used = f ∙ g .used;
-        lengths-out = g .lens-is;
-        texts-out = g .outs-is;
-        mapped = λ x i k. g .mapped x i (omega (arith, over x));
-        others = g .others;
-        size = g .size-map;
-        rows-out = λ s k. g .row s k ∙ ap (rowOf lengths marks all rows₀ s) (let q : P s ≡ sizeOf rows₀ s = omega (arith, over s, g .most s) in q);
-        rows-size = g .size;
-      }
-    where
-      none : (x : ℕ) (n : ℕ) → n ≤ 0 → (seg : List ℕ) → count x (take n seg) ≡ 0
-      none x n k seg = ap (λ (m : ℕ). count x (take m seg)) (let e : n ≡ 0 = omega arith in e) ∙ count-nil x
-
-      over : (x : ℕ) → N x ≤ P x
-      over x = ltb-false (P x) (N x) (one-zero (ltb (P x) (N x)) (sym (g .holds x) ∙ none x (h .len) z (h .seg)))
 
 pub going-start : (lengths bytes marks : List ℕ) (all : Bool) (rows : List (List ℕ)) (lens outs ords : List ℕ) (h : Heap) (l : Last) → Ready lengths bytes marks all rows lens outs ords → Started bytes rows h
     → l .terms ≡ 0 → l .bytes ≡ 0 → l .from ≡ 0 → l .till ≡ 0 → Going lengths bytes marks all rows lens outs ords rows lens outs ords h l (λ x. 0) []
