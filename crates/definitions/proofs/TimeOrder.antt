@@ -381,7 +381,7 @@ module _ (ss : List Segment) where
 
 pub order-sorted : (ss : List Segment) → IsTimeOrder ss (timeOrder ss)
 unfolding timeOrder
-order-sorted ss = record { alive = order-accepted ss; inOrder = sort-in-order ss (aliveAddresses ss) (alive-each-once ss) }
+order-sorted ss = record { alive = order-accepted ss; rising = sort-in-order ss (aliveAddresses ss) (alive-each-once ss) }
 
 -- ---- how many addresses there are
 

@@ -74,7 +74,7 @@ inTimeOrder ss (a ∷ bs) = inOrderFrom ss a bs
 -- alive rows sorted: each is listed once, nothing else is, and they are in order. The time order is this for any segments (proofs/TimeOrder)
 pub record IsTimeOrder (ss : List Segment) (addresses : List Address) : Type 0 where
   pub alive : listsAliveRows ss addresses ≡ true
-  pub inOrder : inTimeOrder ss addresses ≡ true
+  pub rising : inTimeOrder ss addresses ≡ true
 
 -- ---- answers
 
