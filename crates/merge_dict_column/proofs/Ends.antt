@@ -49,19 +49,6 @@ row-of-zero lengths marks all rows s f q e t h a b c d =
     let d′ : t ≡ cell rows s 5 + 0 = omega arith in
     h ∙ (λ i. rowAt lengths marks all (a′ i) (b′ i) (sym c i) (d′ i))
 
-module _ (records : List (List ℕ)) (held lengths marks : List ℕ) (all : Bool) where
-  first-0 : (s : ℕ) → getD (firstRow records held lengths marks all s) 0 0 ≡ fromAt records lengths s
-  unfolding firstRow rowAt
-  first-0 s = refl
-
-  first-5 : (s : ℕ) → getD (firstRow records held lengths marks all s) 5 0 ≡ toAt records held s
-  unfolding firstRow rowAt
-  first-5 s = refl
-
-  first-is : (s : ℕ) → firstRow records held lengths marks all s ≡ rowAt lengths marks all (fromAt records lengths s) (posAt records s + countAt records s - heldAt records held s) (posAt records s + countAt records s) (toAt records held s)
-  unfolding firstRow
-  first-is s = refl
-
 pub dict-empty : (records : List (List ℕ)) (held lengths bytes : List ℕ) (s : ℕ) → heldAt records held s ≡ 0 → heldDict records held lengths bytes s ≡ []
 unfolding heldDict
 dict-empty records held lengths bytes s z = ap (λ (n : ℕ). cut (take n (drop (posAt records s) lengths)) (drop (fromAt records lengths s) bytes)) z
@@ -72,7 +59,8 @@ module _ {records : List (List ℕ)} {held lengths bytes marks : List ℕ} {all 
   k = length records
 
   cell-0 : (s : ℕ) → s < k → cell rows s 0 ≡ fromAt records lengths s
-  cell-0 s l = ap (λ (z : List ℕ). getD z 0 0) (f .row s l) ∙ first-0 records held lengths marks all s
+  unfolding firstRow rowAt
+  cell-0 s l = ap (λ (z : List ℕ). getD z 0 0) (f .row s l)
 
   cell-3 : (s : ℕ) → s < k → cell rows s 3 ≡ posAt records s + countAt records s - heldAt records held s
   cell-3 s l = ap (λ (z : List ℕ). getD z 3 0) (f .row s l) ∙ first-3 records held lengths marks all s
@@ -81,7 +69,8 @@ module _ {records : List (List ℕ)} {held lengths bytes marks : List ℕ} {all 
   cell-4 s l = ap (λ (z : List ℕ). getD z 4 0) (f .row s l) ∙ first-4 records held lengths marks all s
 
   cell-5 : (s : ℕ) → s < k → cell rows s 5 ≡ toAt records held s
-  cell-5 s l = ap (λ (z : List ℕ). getD z 5 0) (f .row s l) ∙ first-5 records held lengths marks all s
+  unfolding firstRow rowAt
+  cell-5 s l = ap (λ (z : List ℕ). getD z 5 0) (f .row s l)
 
   size-in : (s : ℕ) → s < k → sizeOf rows s ≡ heldAt records held s
   size-in s l = omega (arith, cell-3 s l, cell-4 s l, held-le records held s)
@@ -114,7 +103,8 @@ module _ {records : List (List ℕ)} {held lengths bytes marks : List ℕ} {all 
   end-le s l = pos-mono records (suc s) k l
 
   ready-row : (s : ℕ) → s < 256 → (s < k) ⊎ (k ≤ s) → getD rows s [] ≡ rowOf lengths marks all rows s 0
-  ready-row s m (inl l) = row-of-zero lengths marks all rows s _ _ _ _ (f .row s l ∙ first-is records held lengths marks all s) (cell-0 s l) (cell-3 s l) (cell-4 s l) (cell-5 s l)
+  unfolding firstRow
+  ready-row s m (inl l) = row-of-zero lengths marks all rows s _ _ _ _ (f .row s l) (cell-0 s l) (cell-3 s l) (cell-4 s l) (cell-5 s l)
   ready-row s m (inr l) =
       row-of-zero lengths marks all rows s 0 0 0 0 (f .blank s l m ∙ row-at-zero lengths marks all) (f .rest s 0 l) (f .rest s 3 l) (f .rest s 4 l) (f .rest s 5 l)
 

@@ -1,7 +1,7 @@
 -- The walk's state, and a turn of it. Assumes nothing.
 use mathlib.Core.Path.{_≡_, refl, sym, ap, ap₂, _∙_, subst}
 use mathlib.Core.Logic.{_⊎_, inl, inr}
-use mathlib.Core.Bool.{Bool, false, false≢true}
+use mathlib.Core.Bool.{Bool, true, false, false≢true}
 use mathlib.Core.List.{List, [], _∷_, _++_, map}
 use Prim.Native.Nat.{ℕ, _+_, _-_, _≤_, _<_, zero-le, suc-le-suc}
 use native.Mathlib.Omega.{arith}
@@ -10,6 +10,7 @@ use lib.ListN.{length, getD, set, take, drop, length-drop, length-set, length-ap
 use lib.Seq.{getD-set-same, getD-set-other, length-take-le}
 use borrow.Author.Tests.{lt-ltb, le-ltb, ltb-true, eq-eqb, ne-eqb}
 use Rattle.definitions.specs.Lists.{hasTerm, concat}
+use Rattle.definitions.specs.Join.{ordinalOf}
 use Rattle.definitions.specs.Outcome.{written}
 use Rattle.definitions.proofs.Terms.{Before}
 use Rattle.term_merger.specs.declared.Heap.{Heap}
@@ -190,43 +191,34 @@ module _ {lengths bytes marks : List ℕ} {all : Bool} {rows₀ : List (List ℕ
       abbrev Here : List (List ℕ) → Type 0
       Here o′ = Stepped lengths bytes marks all rows₀ lens₀ outs₀ ords l P s t lens′ outs′ o′
 
+      -- nothing is written
+      step-same : t .last ≡ l → lens′ ≡ lens → outs′ ≡ outs → (K s (P s) ≡ 0 → hasTerm (D s (P s)) out ≡ true) → t .ordinal ≡ ordinalOf out (D s (P s)) → t .ordinal ≤ length (concat out) → Here out
+      step-same e f o m v k =
+          record {
+            merging = keep D N K P out s (g .merging) live next least m;
+            mapped = mapped-keep D N K M P out ords s (t .ordinal) inside-map apart-s v (g .mapped);
+            last = subst (λ (z : Last). LastIs out (z .terms) (lastOf bytes z)) (sym e) (g .last);
+            last-low = subst (λ (z : Last). z .from ≤ z .till) (sym e) (g .last-low);
+            last-in = subst (λ (z : Last). z .till ≤ length bytes) (sym e) (g .last-in);
+            used = ap (λ (z : Last). z .bytes) e ∙ g .used;
+            lens-is = f ∙ g .lens-is;
+            outs-is = o ∙ g .outs-is;
+            terms = omega (arith, ap (λ (z : Last). z .terms) e);
+            texts = omega (arith, ap (λ (z : Last). z .bytes) e);
+            small = k;
+          }
+
       step-again : Again bytes (getD rows s []) l lens outs t lens′ outs′ → Here out
       step-again a =
-          let e : D s (P s) ≡ lastOf bytes l = sym term-s ∙ a .same in
-          let hit = last-hit out (l .terms) (lastOf bytes l) (D s (P s)) (g .last) (a .some) e in
-          record {
-            merging = keep D N K P out s (g .merging) live next least (λ k. hit .0);
-            mapped = mapped-keep D N K M P out ords s (t .ordinal) inside-map apart-s (omega (arith, hit .1, a .ordinal)) (g .mapped);
-            last = subst (λ (z : Last). LastIs out (z .terms) (lastOf bytes z)) (sym (a .last)) (g .last);
-            last-low = subst (λ (z : Last). z .from ≤ z .till) (sym (a .last)) (g .last-low);
-            last-in = subst (λ (z : Last). z .till ≤ length bytes) (sym (a .last)) (g .last-in);
-            used = ap (λ (z : Last). z .bytes) (a .last) ∙ g .used;
-            lens-is = a .lengths ∙ g .lens-is;
-            outs-is = a .texts ∙ g .outs-is;
-            terms = omega (arith, ap (λ (z : Last). z .terms) (a .last));
-            texts = omega (arith, ap (λ (z : Last). z .bytes) (a .last));
-            small = omega (arith, a .ordinal, g .last .size, asc-count out (g .merging .asc));
-          }
+          let hit = last-hit out (l .terms) (lastOf bytes l) (D s (P s)) (g .last) (a .some) (sym term-s ∙ a .same) in
+          step-same (a .last) (a .lengths) (a .texts) (λ k. hit .0) (omega (arith, hit .1, a .ordinal)) (omega (arith, a .ordinal, g .last .size, asc-count out (g .merging .asc)))
 
       missed : (0 < l .terms → termOf bytes (getD rows s []) ≡ lastOf bytes l → ⊥) → hasTerm (D s (P s)) out ≡ false
       missed d = last-miss out (l .terms) (lastOf bytes l) (D s (P s)) (g .last) (λ u k. g .merging .below u k s live) (λ p e. d p (term-s ∙ e))
 
       step-skip : Skipped bytes (getD rows s []) l lens outs t lens′ outs′ → Here out
       step-skip a =
-          let new : hasTerm (D s (P s)) out ≡ false = missed (a .other) in
-          record {
-            merging = keep D N K P out s (g .merging) live next least (λ k. absurd (a .unmarked (rank-s ∙ k)));
-            mapped = mapped-keep D N K M P out ords s (t .ordinal) inside-map apart-s (a .ordinal ∙ sym (ordinal-none (D s (P s)) out new)) (g .mapped);
-            last = subst (λ (z : Last). LastIs out (z .terms) (lastOf bytes z)) (sym (a .last)) (g .last);
-            last-low = subst (λ (z : Last). z .from ≤ z .till) (sym (a .last)) (g .last-low);
-            last-in = subst (λ (z : Last). z .till ≤ length bytes) (sym (a .last)) (g .last-in);
-            used = ap (λ (z : Last). z .bytes) (a .last) ∙ g .used;
-            lens-is = a .lengths ∙ g .lens-is;
-            outs-is = a .texts ∙ g .outs-is;
-            terms = omega (arith, ap (λ (z : Last). z .terms) (a .last));
-            texts = omega (arith, ap (λ (z : Last). z .bytes) (a .last));
-            small = omega (arith, a .ordinal);
-          }
+          step-same (a .last) (a .lengths) (a .texts) (λ k. absurd (a .unmarked (rank-s ∙ k))) (a .ordinal ∙ sym (ordinal-none (D s (P s)) out (missed (a .other)))) (omega (arith, a .ordinal))
 
       step-add : Added bytes (getD rows s []) lengths l lens outs t lens′ outs′ → Here (out ++ (D s (P s) ∷ []))
       step-add a =

@@ -43,9 +43,7 @@ some-row rows s i k = go (le-lt s (length rows))
 module _ {lengths bytes marks : List ℕ} {all : Bool} {rows : List (List ℕ)} {lens outs ords : List ℕ} (y : Ready lengths bytes marks all rows lens outs ords) where
   -- a segment's places lie before those of the segments after it
   pub place-below : (s t i : ℕ) → s < t → i < sizeOf rows s → cell rows s 5 + i < sumOver termsIn (take t rows)
-  place-below s t i l k =
-      let w : 0 < sizeOf rows s = omega arith in
-      omega (arith, y .starts s w, over-next termsIn rows s t l (some-row rows s i k))
+  place-below s t i l k = omega (arith, y .starts s (let w : 0 < sizeOf rows s = omega arith in w), over-next termsIn rows s t l (some-row rows s i k))
 
   pub place : (s i : ℕ) → i < sizeOf rows s → cell rows s 5 + i < length ords
   place s i k =
@@ -55,14 +53,6 @@ module _ {lengths bytes marks : List ℕ} {all : Bool} {rows : List (List ℕ)} 
   pub apart : (a b i j : ℕ) → (a ≡ b → ⊥) → i < sizeOf rows a → j < sizeOf rows b → cell rows a 5 + i ≡ cell rows b 5 + j → ⊥
   apart a b i j d l m e = go (le-lt a b)
     where
-      u : 0 < sizeOf rows a
-      u = omega arith
-
-      v : 0 < sizeOf rows b
-      v = omega arith
-
       go : (a < b) ⊎ (b ≤ a) → ⊥
-      go (inl p) = omega (arith, place-below a b i p l, y .starts b v)
-      go (inr p) =
-          let q : b < a = omega arith in
-          omega (arith, place-below b a j q m, y .starts a u)
+      go (inl p) = omega (arith, place-below a b i p l, y .starts b (let w : 0 < sizeOf rows b = omega arith in w))
+      go (inr p) = omega (arith, place-below b a j (let q : b < a = omega arith in q) m, y .starts a (let w : 0 < sizeOf rows a = omega arith in w))
