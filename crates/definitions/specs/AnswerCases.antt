@@ -221,6 +221,8 @@ sumChecks =
     -- rows plus terms
     ∷ gives 8 (lending (memory 12 2) (inOrder 255 (str (0 ∷ []) (a ∷ b ∷ []) ∷ []) (at 0 0 ∷ [])))
     ∷ gives 0 (lending (memory 12 3) (inOrder 255 (str (0 ∷ []) (a ∷ b ∷ []) ∷ []) (at 0 0 ∷ [])))
+    -- a term counts once, whatever its bytes
+    ∷ gives 0 (lending (memory 12 2) (inOrder 255 (str (0 ∷ []) ((97 ∷ 97 ∷ []) ∷ []) ∷ []) (at 0 0 ∷ [])))
     -- of both segments
     ∷ gives 8 (lending (memory 12 3) (inOrder 255 (str (0 ∷ []) (a ∷ []) ∷ str (0 ∷ []) (a ∷ []) ∷ []) (at 0 0 ∷ at 1 0 ∷ [])))
     -- a dropped column's terms and rows, withdrawn rows, and rows of no column count
@@ -248,6 +250,7 @@ addressChecks =
     -- repeated, though all rows are listed
     ∷ gives 9 (inOrder 255 (one 1 5 ∷ []) (at 0 0 ∷ at 0 0 ∷ []))
     ∷ gives 9 (inOrder 255 (nine ∷ []) (at 0 0 ∷ at 0 1 ∷ at 0 0 ∷ []))
+    ∷ gives 9 (inOrder 255 (nine ∷ []) (at 0 0 ∷ at 0 1 ∷ at 0 1 ∷ []))
     -- the same row of two segments is not repeated, nor are two rows of one
     ∷ gives 0 (inOrder 255 (nine ∷ nine ∷ []) (at 1 0 ∷ at 0 1 ∷ at 0 0 ∷ at 1 1 ∷ []))
     -- an alive row not listed: the last, the second segment's, one of no column
@@ -272,8 +275,11 @@ typeChecks =
     ∷ gives 10 (stacked 255 (one 7 5 ∷ one 0 5 ∷ []))
     ∷ gives 10 (stacked 255 (one 5 1 ∷ one 7 5 ∷ []))
     ∷ gives 10 (stacked 255 (one 5 1 ∷ one 1 1 ∷ []))
-    -- two dropped columns
+    -- of dropped columns too
     ∷ gives 10 (stacked 255 (dropped 3 1 ∷ dropped 4 1 ∷ []))
+    ∷ gives 10 (stacked 255 (one 2 5 ∷ dropped 3 1 ∷ []))
+    ∷ gives 10 (stacked 255 (dropped 7 1 ∷ one 0 5 ∷ []))
+    ∷ gives 10 (stacked 255 (dropped 5 1 ∷ one 1 1 ∷ []))
     -- the required type's category against a present column, held or dropped
     ∷ gives 10 (stacked 5 (one 1 1 ∷ []))
     ∷ gives 10 (stacked 5 (dropped 1 1 ∷ []))
@@ -296,8 +302,8 @@ typeChecks-hold = refl
 -- ---- 11: an output shorter than its list; for terms and map, than the held columns' sums
 
 -- lent memory: ids, offsets, values, term lengths, term bytes, map
-abbrev space : ℕ → ℕ → ℕ → ℕ → ℕ → ℕ → Buffers
-space ids offsets values termLengths termBytes m =
+abbrev lentSpace : ℕ → ℕ → ℕ → ℕ → ℕ → ℕ → Buffers
+lentSpace ids offsets values termLengths termBytes m =
     record {
       ids = replicate ids 9;
       offsets = replicate offsets 9;
@@ -319,25 +325,25 @@ twice = stacked 255 (str (0 ∷ []) (a ∷ []) ∷ str (0 ∷ []) (a ∷ []) ∷
 spaceChecks : List Check
 spaceChecks =
     -- as much as the lists need, and each output one element shorter
-    gives 0 (lending (space 1 2 2 2 3 2) multi)
-    ∷ gives 11 (lending (space 0 2 2 2 3 2) multi)
-    ∷ gives 11 (lending (space 1 1 2 2 3 2) multi)
-    ∷ gives 11 (lending (space 1 2 1 2 3 2) multi)
-    ∷ gives 11 (lending (space 1 2 2 1 3 2) multi)
-    ∷ gives 11 (lending (space 1 2 2 2 2 2) multi)
-    ∷ gives 11 (lending (space 1 2 2 2 3 1) multi)
+    gives 0 (lending (lentSpace 1 2 2 2 3 2) multi)
+    ∷ gives 11 (lending (lentSpace 0 2 2 2 3 2) multi)
+    ∷ gives 11 (lending (lentSpace 1 1 2 2 3 2) multi)
+    ∷ gives 11 (lending (lentSpace 1 2 1 2 3 2) multi)
+    ∷ gives 11 (lending (lentSpace 1 2 2 1 3 2) multi)
+    ∷ gives 11 (lending (lentSpace 1 2 2 2 2 2) multi)
+    ∷ gives 11 (lending (lentSpace 1 2 2 2 3 1) multi)
     -- terms and map by the held columns' sums, not by the joined terms
-    ∷ gives 0 (lending (space 0 0 2 2 2 2) twice)
-    ∷ gives 11 (lending (space 0 0 2 1 2 2) twice)
-    ∷ gives 11 (lending (space 0 0 2 2 1 2) twice)
-    ∷ gives 11 (lending (space 0 0 2 2 2 1) twice)
+    ∷ gives 0 (lending (lentSpace 0 0 2 2 2 2) twice)
+    ∷ gives 11 (lending (lentSpace 0 0 2 1 2 2) twice)
+    ∷ gives 11 (lending (lentSpace 0 0 2 2 1 2) twice)
+    ∷ gives 11 (lending (lentSpace 0 0 2 2 2 1) twice)
     -- a dropped column's terms need no space
-    ∷ gives 0 (lending (space 1 0 1 1 1 1) (stacked 255 (plain 4 2 1 [] [] [] (a ∷ []) ∷ str (0 ∷ []) (b ∷ []) ∷ [])))
+    ∷ gives 0 (lending (lentSpace 1 0 1 1 1 1) (stacked 255 (plain 4 2 1 [] [] [] (a ∷ []) ∷ str (0 ∷ []) (b ∷ []) ∷ [])))
     -- terms that are not kept do
-    ∷ gives 11 (lending (space 0 0 1 1 2 2) (inOrder 255 (withAlive (2 ∷ []) (str (0 ∷ 1 ∷ []) (a ∷ b ∷ [])) ∷ []) (at 0 1 ∷ [])))
-    ∷ gives 11 (lending (space 0 0 1 2 1 2) (inOrder 255 (withAlive (2 ∷ []) (str (0 ∷ 1 ∷ []) (a ∷ b ∷ [])) ∷ []) (at 0 1 ∷ [])))
+    ∷ gives 11 (lending (lentSpace 0 0 1 1 2 2) (inOrder 255 (withAlive (2 ∷ []) (str (0 ∷ 1 ∷ []) (a ∷ b ∷ [])) ∷ []) (at 0 1 ∷ [])))
+    ∷ gives 11 (lending (lentSpace 0 0 1 2 1 2) (inOrder 255 (withAlive (2 ∷ []) (str (0 ∷ 1 ∷ []) (a ∷ b ∷ [])) ∷ []) (at 0 1 ∷ [])))
     -- withdrawn values need none
-    ∷ gives 0 (lending (space 0 0 1 0 0 0) (inOrder 255 (withAlive (4 ∷ []) five ∷ []) (at 0 2 ∷ [])))
+    ∷ gives 0 (lending (lentSpace 0 0 1 0 0 0) (inOrder 255 (withAlive (4 ∷ []) five ∷ []) (at 0 2 ∷ [])))
     ∷ []
 
 spaceChecks-hold : map (λ c. numberFor (c .lent)) spaceChecks ≡ map (λ c. c .number) spaceChecks

@@ -3,9 +3,7 @@
 use Prim.Native.Nat.{ℕ, zero, suc}
 use mathlib.Core.Path.{_≡_, refl}
 use mathlib.Core.List.{List, [], _∷_, map}
-use lib.ListN.{replicate}
 use Rattle.definitions.specs.Lists.{upTo}
-use Rattle.definitions.specs.Segment.{Segment}
 use Rattle.definitions.specs.Sheet.{plain, withAlive, none, full, one, str, dropped, a, b, five, nine, newKind, at, memory, stacked, inOrder, lending, sheetOf, accepts, refuses, Case, case}
 
 -- ---- a row's values
@@ -168,8 +166,8 @@ termCases =
     -- a term that no row uses is kept by a segment without an alive set
     ∷ case (stacked 255 (str (1 ∷ []) (a ∷ b ∷ []) ∷ [])) (accepts 4 0 1 [] [] (1 ∷ []) (a ∷ b ∷ []) (0 ∷ 1 ∷ []))
     -- a term that one segment does not keep and another one keeps has its new ordinal in both parts of the map
-    ∷ case (inOrder 255 (withAlive (2 ∷ []) (str (0 ∷ 1 ∷ []) (a ∷ b ∷ [])) ∷ str (0 ∷ []) (a ∷ []) ∷ []) (at 0 1 ∷ at 1 0 ∷ []))
-    (accepts 4 0 2 [] [] (1 ∷ 0 ∷ []) (a ∷ b ∷ []) (0 ∷ 1 ∷ 0 ∷ []))
+    ∷ case (inOrder 255 (withAlive (1 ∷ []) (str (0 ∷ 1 ∷ []) (a ∷ b ∷ [])) ∷ str (0 ∷ []) (b ∷ []) ∷ []) (at 0 0 ∷ at 1 0 ∷ []))
+    (accepts 4 0 2 [] [] (0 ∷ 1 ∷ []) (a ∷ b ∷ []) (0 ∷ 1 ∷ 1 ∷ []))
     -- an alive row of two values uses both; 0 stands for the unkept term between them, and for one after the kept ones
     ∷ case
     (inOrder 255 (withAlive (1 ∷ []) (plain 4 3 1 [] (0 ∷ 2 ∷ []) (2 ∷ 0 ∷ []) (a ∷ b ∷ (99 ∷ []) ∷ (100 ∷ []) ∷ [])) ∷ []) (at 0 0 ∷ []))

@@ -1,11 +1,11 @@
 -- What the joining program writes for C1, C2, C6, for refusals, and for inputs that are cut, too long or too wide: one table, proved by one
 -- computation; and what the program lends. Assumes nothing.
-use Prim.Native.Nat.{ℕ, zero, suc, _+_, _/_, _%_}
+use Prim.Native.Nat.{ℕ, zero, suc, _+_, _*_, _/_, _%_}
 use mathlib.Core.Path.{_≡_, refl}
 use Prim.Native.String.{String}
 use mathlib.Core.List.{List, [], _∷_, _++_, map}
 use lib.ListN.{length, take, replicate}
-use Rattle.definitions.specs.Lists.{concat, upTo, allBelow}
+use Rattle.definitions.specs.Lists.{concat, allBelow}
 use Rattle.definitions.specs.Outcome.{spaceOf}
 use Rattle.definitions.specs.Wire.{wordsIn, wordsOf, sectionsBy, wordSections, endsFrom, widthsFit, wordsFit, wholeWords, bytesFit, grouped, recordGroups, addressGroups, programBuffers, lentFrom, lentBy}
 use Rattle.definitions.specs.Listing.{text, decimal, hexadecimal, termText, numbersText, termsText, valueLine, listLine, termsLine, numbersPart, listsPart, termsPart, acceptedText, columnText, listing, reply}
@@ -72,11 +72,7 @@ strange =
 number : ℕ → ℕ → List ℕ
 number required w = 2 ∷ 0 ∷ required ∷ 1 ∷ 1 ∷ 1 ∷ 1 ∷ 0 ∷ 0 ∷ 1 ∷ 0 ∷ 0 ∷ 0 ∷ 0 ∷ 1 ∷ w ∷ 0 ∷ 0 ∷ 0 ∷ 0 ∷ []
 
--- ordered, no column of n rows, each of them listed: with n rows the input has 8 * (19 + 2 * n) bytes
-rows : ℕ → List ℕ
-rows n = 2 ∷ 1 ∷ 255 ∷ 1 ∷ 255 ∷ 0 ∷ n ∷ 0 ∷ 0 ∷ 0 ∷ 0 ∷ 0 ∷ 0 ∷ 0 ∷ 0 ∷ 0 ∷ 0 ∷ 0 ∷ n ∷ concat (map (λ (r : ℕ). 0 ∷ r ∷ []) (upTo n))
-
--- U64 kind 4, 4 rows, ids 1 3, offsets 0 2 3, values 7 8 9: each count of the record differs from the next one, or is of another list
+-- U64 kind 4, 4 rows, ids 1 3, offsets 0 2 3, values 7 8 9
 kinds : List ℕ
 kinds = 2 ∷ 0 ∷ 255 ∷ 1 ∷ 1 ∷ 4 ∷ 4 ∷ 2 ∷ 3 ∷ 3 ∷ 0 ∷ 0 ∷ 2 ∷ 1 ∷ 3 ∷ 3 ∷ 0 ∷ 2 ∷ 3 ∷ 3 ∷ 7 ∷ 8 ∷ 9 ∷ 0 ∷ 0 ∷ 0 ∷ 0 ∷ []
 
@@ -102,9 +98,9 @@ onlyRows n words s r =
 many : ℕ → List ℕ
 many n = (2 ∷ 0 ∷ 255 ∷ 257 ∷ []) ++ (concat (replicate 257 (255 ∷ 0 ∷ 0 ∷ 0 ∷ 0 ∷ 0 ∷ 0 ∷ 0 ∷ [])) ++ (0 ∷ 0 ∷ 0 ∷ 1 ∷ n ∷ 0 ∷ 0 ∷ 0 ∷ []))
 
--- type 6, of n rows and values: the input has 8 * (19 + n) bytes
+-- type 6, of n rows and n values, all 0: 8 * (19 + n) bytes
 long : ℕ → List ℕ
-long n = (2 ∷ 0 ∷ 255 ∷ 1 ∷ 6 ∷ 1 ∷ n ∷ 0 ∷ 0 ∷ n ∷ 0 ∷ 0 ∷ 0 ∷ 0 ∷ n ∷ []) ++ replicate (n + 4) 0
+long n = input (2 ∷ 0 ∷ 255 ∷ 1 ∷ 6 ∷ 1 ∷ n ∷ 0 ∷ 0 ∷ n ∷ 0 ∷ 0 ∷ 0 ∷ 0 ∷ n ∷ []) ++ replicate (8 * (n + 4)) 0
 
 -- ---- the table
 
@@ -129,13 +125,11 @@ replies =
     -- numbers of two and three digits
     ∷ case (input (number 255 10)) "answer 0\ntype 1\nclass 0\nrows 1\nids 0\noffsets 0\nvalues 1 10\nterms 0\nmaps 0\n"
     ∷ case (input (number 255 109)) "answer 0\ntype 1\nclass 0\nrows 1\nids 0\noffsets 0\nvalues 1 109\nterms 0\nmaps 0\n"
-    -- few rows are accepted
-    ∷ case (input (rows 2)) "answer 0\ntype 255\nclass 0\nrows 2\nids 0\noffsets 0\nvalues 0\nterms 0\nmaps 0\n"
     -- 65,536 bytes are taken, and refused for the type; a byte or a word more gives 2
-    ∷ case (input (long 8173)) "answer 3\n"
-    ∷ case (input (long 8173) ++ (0 ∷ [])) "answer 2\n"
-    ∷ case (input (long 8174)) "answer 2\n"
-    -- 65,536 working bytes are lent: they are enough for as many rows, which are not all listed, and not for one more
+    ∷ case (long 8173) "answer 3\n"
+    ∷ case (long 8173 ++ (0 ∷ [])) "answer 2\n"
+    ∷ case (long 8174) "answer 2\n"
+    -- 65,536 working bytes are lent: enough for as many rows, which the address is not among, and not for one more
     ∷ case (input (onlyRows 65536 [] 0 65536)) "answer 9\n"
     ∷ case (input (onlyRows 65537 [] 0 65536)) "answer 8\n"
     -- no bytes; a byte or a word short; a byte or a word too many
@@ -174,7 +168,7 @@ replies =
     ∷ []
 
 replies-hold : map (λ c. printed (c .bytes)) replies ≡ map (λ c. c .text) replies
-unfolding printed bytesOf input case one two six strange number rows kinds both listed upOffset onlyRows many long replies
+unfolding printed bytesOf input case one two six strange number kinds both listed upOffset onlyRows many long replies
 replies-hold = refl
 
 -- ---- what the program lends: 65,536 working bytes and 8,192 elements of each output list. An input of 65,536 bytes has fewer than 8,192 words beside

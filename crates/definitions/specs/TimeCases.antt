@@ -15,32 +15,32 @@ record TimeCase : Type 0 where
   expected : TimeOutcome
 
 -- the segments' order; the output has place for it, and no more
-abbrev orders : List Segment → List Address → TimeCase
-orders ss addresses = record { segments = ss; space = length addresses; expected = record { answer = sorted (length addresses); addresses = addresses } }
+abbrev sortedAs : List Segment → List Address → TimeCase
+sortedAs ss addresses = record { segments = ss; space = length addresses; expected = record { answer = sorted (length addresses); addresses = addresses } }
 
 -- a refusal of a call with place for so many addresses, which changes none
-abbrev gives : ℕ → List Segment → ℕ → TimeCase
-gives n ss space = record { segments = ss; space = space; expected = record { answer = unsorted n; addresses = replicate space (at 9 9) } }
+abbrev unsortedBy : ℕ → List Segment → ℕ → TimeCase
+unsortedBy n ss space = record { segments = ss; space = space; expected = record { answer = unsorted n; addresses = replicate space (at 9 9) } }
 
 -- ---- the order
 
 orderCases : List TimeCase
 orderCases =
     -- no segments
-    orders [] []
+    sortedAs [] []
     -- by key first; a time is signed: -1 is before 0
-    ∷ orders (full 7 (0 ∷ 5 ∷ []) ∷ full 7 (0xffffffffffffffff ∷ 4 ∷ []) ∷ []) (at 1 0 ∷ at 0 0 ∷ at 1 1 ∷ at 0 1 ∷ [])
+    ∷ sortedAs (full 7 (0 ∷ 5 ∷ []) ∷ full 7 (0xffffffffffffffff ∷ 4 ∷ []) ∷ []) (at 1 0 ∷ at 0 0 ∷ at 1 1 ∷ at 0 1 ∷ [])
     -- then by segment, then by row
-    ∷ orders (full 7 (1 ∷ 5 ∷ []) ∷ full 7 (5 ∷ []) ∷ []) (at 0 0 ∷ at 0 1 ∷ at 1 0 ∷ [])
-    ∷ orders (full 7 (5 ∷ 5 ∷ []) ∷ []) (at 0 0 ∷ at 0 1 ∷ [])
+    ∷ sortedAs (full 7 (1 ∷ 5 ∷ []) ∷ full 7 (5 ∷ []) ∷ []) (at 0 0 ∷ at 0 1 ∷ at 1 0 ∷ [])
+    ∷ sortedAs (full 7 (5 ∷ 5 ∷ []) ∷ []) (at 0 0 ∷ at 0 1 ∷ [])
     -- a row without a time has the last time before it
-    ∷ orders (plain 7 2 3 (0 ∷ 1 ∷ []) [] (10 ∷ 20 ∷ []) [] ∷ one 7 15 ∷ []) (at 0 0 ∷ at 1 0 ∷ at 0 1 ∷ at 0 2 ∷ [])
+    ∷ sortedAs (plain 7 2 3 (0 ∷ 1 ∷ []) [] (10 ∷ 20 ∷ []) [] ∷ one 7 15 ∷ []) (at 0 0 ∷ at 1 0 ∷ at 0 1 ∷ at 0 2 ∷ [])
     -- else it stands before all times, the least one too; so does a row of no column
-    ∷ orders (one 7 0x8000000000000000 ∷ plain 7 2 2 (1 ∷ []) [] (5 ∷ []) [] ∷ none 1 ∷ []) (at 1 0 ∷ at 2 0 ∷ at 0 0 ∷ at 1 1 ∷ [])
-    -- a withdrawn row is not listed and still gives its time
-    ∷ orders (one 7 0 ∷ withAlive (2 ∷ []) (plain 7 2 2 (0 ∷ []) [] (5 ∷ []) []) ∷ []) (at 0 0 ∷ at 1 1 ∷ [])
+    ∷ sortedAs (one 7 0x8000000000000000 ∷ plain 7 2 2 (1 ∷ []) [] (5 ∷ []) [] ∷ none 1 ∷ []) (at 1 0 ∷ at 2 0 ∷ at 0 0 ∷ at 1 1 ∷ [])
+    -- a withdrawn row is not listed and still unsortedBy its time
+    ∷ sortedAs (one 7 0 ∷ withAlive (2 ∷ []) (plain 7 2 2 (0 ∷ []) [] (5 ∷ []) []) ∷ []) (at 0 0 ∷ at 1 1 ∷ [])
     -- kinds 3 and 4
-    ∷ orders (plain 7 3 2 [] (0 ∷ 0 ∷ 1 ∷ []) (5 ∷ []) [] ∷ plain 7 4 2 (1 ∷ []) (0 ∷ 1 ∷ []) (4 ∷ []) [] ∷ []) (at 0 0 ∷ at 1 0 ∷ at 1 1 ∷ at 0 1 ∷ [])
+    ∷ sortedAs (plain 7 3 2 [] (0 ∷ 0 ∷ 1 ∷ []) (5 ∷ []) [] ∷ plain 7 4 2 (1 ∷ []) (0 ∷ 1 ∷ []) (4 ∷ []) [] ∷ []) (at 0 0 ∷ at 1 0 ∷ at 1 1 ∷ at 0 1 ∷ [])
     ∷ []
 
 orderCases-hold : map (λ c. timeSheetOf (c .segments) (c .space)) orderCases ≡ map (λ c. c .expected) orderCases
@@ -52,27 +52,27 @@ orderCases-hold = refl
 answerCases : List TimeCase
 answerCases =
     -- 1, and 2 after it: an alive set without its word
-    gives 1 (replicate 257 (withAlive [] (one 7 5))) 0
-    ∷ orders (replicate 256 (none 0)) []
+    unsortedBy 1 (replicate 257 (withAlive [] (one 7 5))) 0
+    ∷ sortedAs (replicate 256 (none 0)) []
     -- 2, and 3 after it
-    ∷ gives 2 (withAlive [] (one 6 5) ∷ []) 1
+    ∷ unsortedBy 2 (withAlive [] (one 6 5) ∷ []) 1
     -- 3: an unknown type; type 255 with a kind; 4 after it
-    ∷ gives 3 (one 6 5 ∷ []) 1
-    ∷ gives 3 (plain 255 1 0 [] [] [] [] ∷ []) 0
-    ∷ gives 3 (plain 6 1 2 [] [] (5 ∷ []) [] ∷ []) 2
+    ∷ unsortedBy 3 (one 6 5 ∷ []) 1
+    ∷ unsortedBy 3 (plain 255 1 0 [] [] [] [] ∷ []) 0
+    ∷ unsortedBy 3 (plain 6 1 2 [] [] (5 ∷ []) [] ∷ []) 2
     -- 4: too few values; 5 after it
-    ∷ gives 4 (plain 5 1 2 [] [] (2 ∷ []) [] ∷ []) 2
+    ∷ unsortedBy 4 (plain 5 1 2 [] [] (2 ∷ []) [] ∷ []) 2
     -- 5: a Bool above 1; 6 after it
-    ∷ gives 5 (withAlive (2 ∷ []) (one 5 2) ∷ []) 1
+    ∷ unsortedBy 5 (withAlive (2 ∷ []) (one 5 2) ∷ []) 1
     -- 6: a bit past the rows; 7 after it
-    ∷ gives 6 (none 4294967295 ∷ withAlive (2 ∷ []) (one 7 5) ∷ []) 1
+    ∷ unsortedBy 6 (none 4294967295 ∷ withAlive (2 ∷ []) (one 7 5) ∷ []) 1
     -- 7
-    ∷ gives 7 (none 4294967295 ∷ []) 2
+    ∷ unsortedBy 7 (none 4294967295 ∷ []) 2
     -- 11, and 12 after it: one place too few, for times that fall
-    ∷ gives 11 (full 7 (5 ∷ 4 ∷ []) ∷ []) 1
-    ∷ gives 11 (none 1 ∷ []) 0
+    ∷ unsortedBy 11 (full 7 (5 ∷ 4 ∷ []) ∷ []) 1
+    ∷ unsortedBy 11 (none 1 ∷ []) 0
     -- a withdrawn row needs no place
-    ∷ orders (withAlive (1 ∷ []) (full 7 (5 ∷ 6 ∷ [])) ∷ []) (at 0 0 ∷ [])
+    ∷ sortedAs (withAlive (1 ∷ []) (full 7 (5 ∷ 6 ∷ [])) ∷ []) (at 0 0 ∷ [])
     ∷ []
 
 answerCases-hold : map (λ c. timeSheetOf (c .segments) (c .space)) answerCases ≡ map (λ c. c .expected) answerCases
@@ -84,22 +84,22 @@ answerCases-hold = refl
 timeChecks : List TimeCase
 timeChecks =
     -- another type, in the second segment, and of a column without values
-    gives 12 (one 7 5 ∷ one 0 5 ∷ []) 2
-    ∷ gives 12 (dropped 1 1 ∷ []) 1
+    unsortedBy 12 (one 7 5 ∷ one 0 5 ∷ []) 2
+    ∷ unsortedBy 12 (dropped 1 1 ∷ []) 1
     -- a row of several times, though they are equal; a withdrawn one
-    ∷ gives 12 (plain 7 3 1 [] (0 ∷ 2 ∷ []) (5 ∷ 5 ∷ []) [] ∷ []) 1
-    ∷ gives 12 (withAlive (1 ∷ []) (plain 7 3 2 [] (0 ∷ 1 ∷ 3 ∷ []) (5 ∷ 6 ∷ 6 ∷ []) []) ∷ []) 1
+    ∷ unsortedBy 12 (plain 7 3 1 [] (0 ∷ 2 ∷ []) (5 ∷ 5 ∷ []) [] ∷ []) 1
+    ∷ unsortedBy 12 (withAlive (1 ∷ []) (plain 7 3 2 [] (0 ∷ 1 ∷ 3 ∷ []) (5 ∷ 6 ∷ 6 ∷ []) []) ∷ []) 1
     -- times that fall, each against the one before it, over a row without a time
-    ∷ gives 12 (full 7 (4 ∷ 6 ∷ 5 ∷ []) ∷ []) 3
-    ∷ gives 12 (plain 7 2 3 (0 ∷ 2 ∷ []) [] (5 ∷ 4 ∷ []) [] ∷ []) 3
+    ∷ unsortedBy 12 (full 7 (4 ∷ 6 ∷ 5 ∷ []) ∷ []) 3
+    ∷ unsortedBy 12 (plain 7 2 3 (0 ∷ 2 ∷ []) [] (5 ∷ 4 ∷ []) [] ∷ []) 3
     -- the times of withdrawn rows too
-    ∷ gives 12 (withAlive (1 ∷ []) (full 7 (5 ∷ 4 ∷ [])) ∷ []) 2
-    ∷ gives 12 (withAlive (2 ∷ []) (full 7 (5 ∷ 4 ∷ [])) ∷ []) 2
+    ∷ unsortedBy 12 (withAlive (1 ∷ []) (full 7 (5 ∷ 4 ∷ [])) ∷ []) 2
+    ∷ unsortedBy 12 (withAlive (2 ∷ []) (full 7 (5 ∷ 4 ∷ [])) ∷ []) 2
     -- from 0 to -1 is falling, from -1 to 0 is not
-    ∷ gives 12 (full 7 (0 ∷ 0xffffffffffffffff ∷ []) ∷ []) 2
-    ∷ orders (full 7 (0xffffffffffffffff ∷ 0 ∷ []) ∷ []) (at 0 0 ∷ at 0 1 ∷ [])
+    ∷ unsortedBy 12 (full 7 (0 ∷ 0xffffffffffffffff ∷ []) ∷ []) 2
+    ∷ sortedAs (full 7 (0xffffffffffffffff ∷ 0 ∷ []) ∷ []) (at 0 0 ∷ at 0 1 ∷ [])
     -- from one segment to the next they may fall
-    ∷ orders (one 7 5 ∷ one 7 4 ∷ []) (at 1 0 ∷ at 0 0 ∷ [])
+    ∷ sortedAs (one 7 5 ∷ one 7 4 ∷ []) (at 1 0 ∷ at 0 0 ∷ [])
     ∷ []
 
 timeChecks-hold : map (λ c. timeSheetOf (c .segments) (c .space)) timeChecks ≡ map (λ c. c .expected) timeChecks
