@@ -3,8 +3,11 @@
 use Prim.Native.Nat.{ℕ, zero, suc}
 use mathlib.Core.Path.{_≡_, refl}
 use mathlib.Core.List.{List, [], _∷_, map}
-use lib.ListN.{replicate}
+use mathlib.Core.Bool.{Bool, true, false}
+use lib.ListN.{length, replicate}
+use Rattle.definitions.specs.Lists.{concat}
 use Rattle.definitions.specs.Segment.{Segment}
+use Rattle.definitions.specs.Answer.{sumsTooLarge}
 use Rattle.definitions.specs.Outcome.{Buffers, Lent, lentOf, numberOf}
 use Rattle.definitions.specs.Book.{lentTo}
 use Rattle.definitions.specs.Sheet.{plain, withAlive, none, full, one, str, dropped, a, b, five, nine, at, memory, call, stacked, inOrder, lending, outcomeOf}
@@ -209,7 +212,6 @@ aliveChecks-hold = refl
 
 -- ---- 7: rows, values or term bytes sum above 4294967294; 8: ordered, working bytes fewer than all rows plus all terms
 
--- Values and term bytes are elements of lists, so no case with a sum above 4294967294 of them can be computed.
 sumChecks : List Check
 sumChecks =
     -- of one segment, no column or a dropped one, and of two: 4294967294 rows pass, and the next check refuses them
@@ -236,6 +238,27 @@ sumChecks =
 sumChecks-hold : map (λ c. numberFor (c .lent)) sumChecks ≡ map (λ c. c .number) sumChecks
 unfolding numberFor sumChecks
 sumChecks-hold = refl
+
+-- So many values, or term bytes, are no list that can be computed: these hold of any list that is as long
+sumsOf : List ℕ → List (List ℕ) → Bool
+unfolding sumsTooLarge
+sumsOf values terms = sumsTooLarge (plain 4 3 1 [] [] values terms ∷ [])
+
+many-values : (values : List ℕ) → length values ≡ 4294967295 → sumsOf values [] ≡ true
+unfolding sumsOf
+many-values values h = rw h refl
+
+fewer-values : (values : List ℕ) → length values ≡ 4294967294 → sumsOf values [] ≡ false
+unfolding sumsOf
+fewer-values values h = rw h refl
+
+many-bytes : (terms : List (List ℕ)) → length (concat terms) ≡ 4294967295 → sumsOf [] terms ≡ true
+unfolding sumsOf
+many-bytes terms h = rw h refl
+
+fewer-bytes : (terms : List (List ℕ)) → length (concat terms) ≡ 4294967294 → sumsOf [] terms ≡ false
+unfolding sumsOf
+fewer-bytes terms h = rw h refl
 
 -- ---- 9: an address absent from the segments, withdrawn or repeated; an alive row not listed; any address when stacked
 
