@@ -80,7 +80,7 @@ codeChecks =
     -- modes 0 and 1 are known
     gives 0 (inOrder 255 [] [])
     ∷ gives 3 (lentTo (call [] 2 255 []) [])
-    -- the known types, as the required one
+    -- the known types, and some that are not, as the required one
     ∷ gives 0 (stacked 0 [])
     ∷ gives 0 (stacked 1 [])
     ∷ gives 0 (stacked 2 [])

@@ -223,7 +223,7 @@ gave type class rows ids offsets values terms =
 
 turns : List Turn
 turns =
-    -- C1's two segments and C12's. The withdrawn play's segment stacked, which is refused; alone and ordered; the others stacked; then both results, ordered
+    -- C1's two segments and C12's. The withdrawn play's segment and the first one stacked, which is refused; alone and ordered; the others stacked; then both results, ordered
     turn
     (plain 4 2 2 (1 ∷ []) [] (0 ∷ []) (b ∷ []) ∷ str (1 ∷ 0 ∷ []) (a ∷ b ∷ []) ∷ withAlive (2 ∷ []) (str (0 ∷ 1 ∷ []) (a ∷ b ∷ [])) ∷ [])
     (call (2 ∷ 0 ∷ []) 0 255 []

@@ -64,7 +64,7 @@ droppedCases =
     -- it counts as Empty: kind 3 without values is of class 1, Optional of 0 rows of class 0
     ∷ case (stacked 255 (plain 1 3 1 [] (0 ∷ 0 ∷ []) [] [] ∷ one 1 5 ∷ [])) (accepts 1 1 2 (1 ∷ []) [] (5 ∷ []) [] [])
     ∷ case (stacked 255 (dropped 1 0 ∷ one 1 5 ∷ [])) (accepts 1 0 1 [] [] (5 ∷ []) [] [])
-    -- with its alive set: of class 0 if no row is alive
+    -- with its alive set: of class 0 if no row is alive; so is no column
     ∷ case (inOrder 255 (withAlive (0 ∷ []) five ∷ one 1 5 ∷ []) (at 1 0 ∷ [])) (accepts 1 0 1 [] [] (5 ∷ []) [] [])
     ∷ case (inOrder 255 (withAlive (0 ∷ []) (none 2) ∷ one 1 5 ∷ []) (at 1 0 ∷ [])) (accepts 1 0 1 [] [] (5 ∷ []) [] [])
     -- held, for one alive row has a value, though another has none
@@ -99,6 +99,9 @@ typeCases =
     (accepts 2 0 2 [] [] (0x43e0000000000000 ∷ 0x3ff8000000000000 ∷ []) [] [])
     -- the required one, before the only held type: to U64, to I64 and to F64
     ∷ case (stacked 1 (one 0 9223372036854775807 ∷ [])) (accepts 1 0 1 [] [] (9223372036854775807 ∷ []) [] [])
+    ∷ case (stacked 0 (one 1 5 ∷ one 1 6 ∷ [])) (accepts 0 0 2 [] [] (5 ∷ 6 ∷ []) [] [])
+    ∷ case (stacked 2 (one 0 5 ∷ one 0 0xffffffffffffffff ∷ [])) (accepts 2 0 2 [] [] (0x4014000000000000 ∷ 0xbff0000000000000 ∷ []) [] [])
+    -- and with a column that has it already
     ∷ case (stacked 0 (one 1 5 ∷ one 0 0xffffffffffffffff ∷ [])) (accepts 0 0 2 [] [] (5 ∷ 0xffffffffffffffff ∷ []) [] [])
     ∷ case (stacked 2 (one 0 5 ∷ one 2 0x3ff8000000000000 ∷ [])) (accepts 2 0 2 [] [] (0x4014000000000000 ∷ 0x3ff8000000000000 ∷ []) [] [])
     -- integer to double, the nearest, ties to even: 0, 2^53 + 1, 2^53 + 2, 2^53 + 3, 2^63 + 1024, 2^63 + 1025, 2^64 - 1

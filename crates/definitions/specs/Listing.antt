@@ -134,6 +134,6 @@ listing o = answerText (o .buffers) (o .answer)
 unfoldable pub reply : List ℕ → List ℕ
 reply bytes = cond (bytesFit bytes) (listing (joinOutcome (lentBy bytes))) (valueLine answerName 2)
 
--- n bytes of an input of any length are enough to give its reply: true of every n above mostBytes (proofs/Reading)
+-- the first n bytes of an input of any length are enough to give its reply: true of every n above mostBytes (proofs/Reading)
 abbrev pub Enough : ℕ → Type 0
 Enough n = (bytes : List ℕ) → reply (take n bytes) ≡ reply bytes

@@ -116,7 +116,7 @@ replies =
     ∷ case (input strange) "answer 0\ntype 4\nclass 0\nrows 2\nids 0\noffsets 0\nvalues 2 1 0\nterms 2 - 00090aff\nmaps 2 0 1\n"
     -- the greatest word
     ∷ case (input (number 255 0xffffffffffffffff)) "answer 0\ntype 1\nclass 0\nrows 1\nids 0\noffsets 0\nvalues 1 18446744073709551615\nterms 0\nmaps 0\n"
-    -- C11's refusal, and one by the table's first check of a record
+    -- C11's refusal, and that of an unknown required type
     ∷ case (input (number 0 9223372036854775808)) "answer 10\n"
     ∷ case (input (number 6 5)) "answer 3\n"
     -- the record's eight numbers in their order, an address's two
@@ -138,7 +138,7 @@ replies =
     ∷ case (take 288 (input one)) "answer 2\n"
     ∷ case (input one ++ (0 ∷ [])) "answer 2\n"
     ∷ case (input (one ++ (0 ∷ []))) "answer 2\n"
-    -- a first count other than 2, and counts whose product with 8 is 0 in 64 bits
+    -- a first count other than 2, and a count whose product with 8 is 0 in 64 bits
     ∷ case (input (3 ∷ 0 ∷ 255 ∷ 0 ∷ 0 ∷ 0 ∷ 0 ∷ 0 ∷ 0 ∷ 0 ∷ 0 ∷ 0 ∷ [])) "answer 2\n"
     ∷ case (input (1 ∷ 0 ∷ 0 ∷ 0 ∷ 0 ∷ 0 ∷ 0 ∷ 0 ∷ 0 ∷ 0 ∷ [])) "answer 2\n"
     ∷ case (input (2 ∷ 0 ∷ 255 ∷ 0x2000000000000000 ∷ 0 ∷ 0 ∷ 0 ∷ 0 ∷ 0 ∷ 0 ∷ 0 ∷ [])) "answer 2\n"

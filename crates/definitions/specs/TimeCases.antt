@@ -37,7 +37,7 @@ orderCases =
     ∷ sortedAs (plain 7 2 3 (0 ∷ 1 ∷ []) [] (10 ∷ 20 ∷ []) [] ∷ one 7 15 ∷ []) (at 0 0 ∷ at 1 0 ∷ at 0 1 ∷ at 0 2 ∷ [])
     -- else it stands before all times, the least one too; so does a row of no column
     ∷ sortedAs (one 7 0x8000000000000000 ∷ plain 7 2 2 (1 ∷ []) [] (5 ∷ []) [] ∷ none 1 ∷ []) (at 1 0 ∷ at 2 0 ∷ at 0 0 ∷ at 1 1 ∷ [])
-    -- a withdrawn row is not listed and still unsortedBy its time
+    -- a withdrawn row is not listed and still gives its time
     ∷ sortedAs (one 7 0 ∷ withAlive (2 ∷ []) (plain 7 2 2 (0 ∷ []) [] (5 ∷ []) []) ∷ []) (at 0 0 ∷ at 1 1 ∷ [])
     -- kinds 3 and 4
     ∷ sortedAs (plain 7 3 2 [] (0 ∷ 0 ∷ 1 ∷ []) (5 ∷ []) [] ∷ plain 7 4 2 (1 ∷ []) (0 ∷ 1 ∷ []) (4 ∷ []) [] ∷ []) (at 0 0 ∷ at 1 0 ∷ at 1 1 ∷ at 0 1 ∷ [])

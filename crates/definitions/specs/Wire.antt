@@ -67,7 +67,7 @@ wordsFit words =
     && (eqb (length (sectionAt (wordSections words) 0)) 2
     && widthsFit (wordSections words)))
 
--- the most bytes that are read
+-- the most bytes that an input may have
 abbrev pub mostBytes : ℕ
 mostBytes = 65536
 
