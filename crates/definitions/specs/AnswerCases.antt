@@ -210,18 +210,53 @@ aliveChecks-hold : map (λ c. numberFor (c .lent)) aliveChecks ≡ map (λ c. c 
 unfolding numberFor aliveChecks
 aliveChecks-hold = refl
 
--- ---- 7: rows, values or term bytes sum above 4294967294; 8: ordered, working bytes fewer than all rows plus all terms
+-- ---- 7: rows, values or term bytes sum above 4294967294
 
 sumChecks : List Check
 sumChecks =
-    -- of one segment, no column or a dropped one, and of two: 4294967294 rows pass, and the next check refuses them
+    -- rows of no column, of a dropped one, and of two segments
     gives 7 (inOrder 255 (none 4294967295 ∷ []) [])
-    ∷ gives 8 (inOrder 255 (none 4294967294 ∷ []) [])
     ∷ gives 7 (inOrder 255 (dropped 1 4294967295 ∷ []) [])
     ∷ gives 7 (inOrder 255 (none 2147483647 ∷ none 2147483648 ∷ []) [])
-    ∷ gives 8 (inOrder 255 (none 2147483647 ∷ none 2147483647 ∷ []) [])
+    ∷ []
+
+sumChecks-hold : map (λ c. numberFor (c .lent)) sumChecks ≡ map (λ c. c .number) sumChecks
+unfolding numberFor sumChecks
+sumChecks-hold = refl
+
+-- the check alone: what follows it would list each row
+aboveSum : List Segment → Bool
+unfolding sumsTooLarge
+aboveSum ss = sumsTooLarge ss
+
+-- 4294967294 rows are not too many, of one segment and of two
+fewer-rows : (aboveSum (none 4294967294 ∷ []) ∷ aboveSum (none 2147483647 ∷ none 2147483647 ∷ []) ∷ []) ≡ (false ∷ false ∷ [])
+unfolding aboveSum
+fewer-rows = refl
+
+-- So many values, or term bytes, are no list that can be computed: these hold of any list that is as long
+many-values : (values : List ℕ) → length values ≡ 4294967295 → aboveSum (plain 4 3 1 [] [] values [] ∷ []) ≡ true
+unfolding aboveSum
+many-values values h = rw h refl
+
+fewer-values : (values : List ℕ) → length values ≡ 4294967294 → aboveSum (plain 4 3 1 [] [] values [] ∷ []) ≡ false
+unfolding aboveSum
+fewer-values values h = rw h refl
+
+many-bytes : (terms : List (List ℕ)) → length (concat terms) ≡ 4294967295 → aboveSum (plain 4 3 1 [] [] [] terms ∷ []) ≡ true
+unfolding aboveSum
+many-bytes terms h = rw h refl
+
+fewer-bytes : (terms : List (List ℕ)) → length (concat terms) ≡ 4294967294 → aboveSum (plain 4 3 1 [] [] [] terms ∷ []) ≡ false
+unfolding aboveSum
+fewer-bytes terms h = rw h refl
+
+-- ---- 8: ordered, working bytes fewer than all rows plus all terms
+
+workingChecks : List Check
+workingChecks =
     -- rows plus terms
-    ∷ gives 8 (lending (memory 12 2) (inOrder 255 (str (0 ∷ []) (a ∷ b ∷ []) ∷ []) (at 0 0 ∷ [])))
+    gives 8 (lending (memory 12 2) (inOrder 255 (str (0 ∷ []) (a ∷ b ∷ []) ∷ []) (at 0 0 ∷ [])))
     ∷ gives 0 (lending (memory 12 3) (inOrder 255 (str (0 ∷ []) (a ∷ b ∷ []) ∷ []) (at 0 0 ∷ [])))
     -- a term counts once, whatever its bytes
     ∷ gives 0 (lending (memory 12 2) (inOrder 255 (str (0 ∷ []) ((97 ∷ 97 ∷ []) ∷ []) ∷ []) (at 0 0 ∷ [])))
@@ -235,30 +270,9 @@ sumChecks =
     ∷ gives 0 (lending (memory 12 0) (stacked 255 (str (0 ∷ []) (a ∷ []) ∷ [])))
     ∷ []
 
-sumChecks-hold : map (λ c. numberFor (c .lent)) sumChecks ≡ map (λ c. c .number) sumChecks
-unfolding numberFor sumChecks
-sumChecks-hold = refl
-
--- So many values, or term bytes, are no list that can be computed: these hold of any list that is as long
-sumsOf : List ℕ → List (List ℕ) → Bool
-unfolding sumsTooLarge
-sumsOf values terms = sumsTooLarge (plain 4 3 1 [] [] values terms ∷ [])
-
-many-values : (values : List ℕ) → length values ≡ 4294967295 → sumsOf values [] ≡ true
-unfolding sumsOf
-many-values values h = rw h refl
-
-fewer-values : (values : List ℕ) → length values ≡ 4294967294 → sumsOf values [] ≡ false
-unfolding sumsOf
-fewer-values values h = rw h refl
-
-many-bytes : (terms : List (List ℕ)) → length (concat terms) ≡ 4294967295 → sumsOf [] terms ≡ true
-unfolding sumsOf
-many-bytes terms h = rw h refl
-
-fewer-bytes : (terms : List (List ℕ)) → length (concat terms) ≡ 4294967294 → sumsOf [] terms ≡ false
-unfolding sumsOf
-fewer-bytes terms h = rw h refl
+workingChecks-hold : map (λ c. numberFor (c .lent)) workingChecks ≡ map (λ c. c .number) workingChecks
+unfolding numberFor workingChecks
+workingChecks-hold = refl
 
 -- ---- 9: an address absent from the segments, withdrawn or repeated; an alive row not listed; any address when stacked
 
