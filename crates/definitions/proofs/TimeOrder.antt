@@ -1,4 +1,4 @@
--- The time order by counts: it lists each alive row once, so an ordered join of the same segments accepts it; it is sorted; and it is what taking
+-- The time order by counts: it lists each alive row once, so it passes check 9 of an ordered join of the same segments; it is sorted; and it is what taking
 -- the first of the rows that are left again and again gives. Assumes nothing.
 use Prim.Native.Nat.{ℕ, zero, suc, _+_, _≤_, _<_, zero-le, suc-le-suc}
 use native.Mathlib.Nat.{le-trans, le-of-eq, le-of-suc-le-suc, not-suc-le-zero, add-zero, zero-add, suc-add}

@@ -234,20 +234,20 @@ fewer-rows : (aboveSum (none 4294967294 ∷ []) ∷ aboveSum (none 2147483647 �
 unfolding aboveSum
 fewer-rows = refl
 
--- So many values, or term bytes, are no list that can be computed: these hold of any list that is as long
-many-values : (values : List ℕ) → length values ≡ 4294967295 → aboveSum (plain 4 3 1 [] [] values [] ∷ []) ≡ true
+-- So many values, or term bytes, are no list that can be computed: these hold of any list that is as long, beside a segment with one value and one byte
+many-values : (values : List ℕ) → length values ≡ 4294967294 → aboveSum (plain 4 3 1 [] [] values [] ∷ str (0 ∷ []) (a ∷ []) ∷ []) ≡ true
 unfolding aboveSum
 many-values values h = rw h refl
 
-fewer-values : (values : List ℕ) → length values ≡ 4294967294 → aboveSum (plain 4 3 1 [] [] values [] ∷ []) ≡ false
+fewer-values : (values : List ℕ) → length values ≡ 4294967293 → aboveSum (plain 4 3 1 [] [] values [] ∷ str (0 ∷ []) (a ∷ []) ∷ []) ≡ false
 unfolding aboveSum
 fewer-values values h = rw h refl
 
-many-bytes : (terms : List (List ℕ)) → length (concat terms) ≡ 4294967295 → aboveSum (plain 4 3 1 [] [] [] terms ∷ []) ≡ true
+many-bytes : (terms : List (List ℕ)) → length (concat terms) ≡ 4294967294 → aboveSum (plain 4 3 1 [] [] [] terms ∷ str (0 ∷ []) (a ∷ []) ∷ []) ≡ true
 unfolding aboveSum
 many-bytes terms h = rw h refl
 
-fewer-bytes : (terms : List (List ℕ)) → length (concat terms) ≡ 4294967294 → aboveSum (plain 4 3 1 [] [] [] terms ∷ []) ≡ false
+fewer-bytes : (terms : List (List ℕ)) → length (concat terms) ≡ 4294967293 → aboveSum (plain 4 3 1 [] [] [] terms ∷ str (0 ∷ []) (a ∷ []) ∷ []) ≡ false
 unfolding aboveSum
 fewer-bytes terms h = rw h refl
 

@@ -152,17 +152,17 @@ outcomes =
             working = 0 ∷ 0 ∷ 0 ∷ [];
           };
     }
-    -- Bytes, kind 3, a row of two values between rows of none, terms aaa and b: each number is that of its own list
+    -- Bytes: a row of three values between rows of none, terms aaa b c d; then a row of one, terms b e. Each number is that of its own list, and no two are the same
     ∷ record {
-      answer = accepted (record { type = 3; class = 2; rows = 3; ids = 1; offsets = 2; values = 2; terms = 2; termBytes = 4; map = 2 });
+      answer = accepted (record { type = 3; class = 2; rows = 4; ids = 2; offsets = 3; values = 4; terms = 5; termBytes = 7; map = 6 });
       buffers =
           record {
-            ids = 1 ∷ 9 ∷ 9 ∷ 9 ∷ [];
-            offsets = 0 ∷ 2 ∷ 9 ∷ 9 ∷ [];
-            values = 1 ∷ 0 ∷ 9 ∷ 9 ∷ [];
-            termLengths = 3 ∷ 1 ∷ 9 ∷ 9 ∷ [];
-            termBytes = 97 ∷ 97 ∷ 97 ∷ 98 ∷ [];
-            map = 0 ∷ 1 ∷ 9 ∷ 9 ∷ [];
+            ids = 1 ∷ 3 ∷ replicate 6 9;
+            offsets = 0 ∷ 3 ∷ 4 ∷ replicate 5 9;
+            values = 1 ∷ 0 ∷ 1 ∷ 1 ∷ replicate 4 9;
+            termLengths = 3 ∷ 1 ∷ 1 ∷ 1 ∷ 1 ∷ replicate 3 9;
+            termBytes = 97 ∷ 97 ∷ 97 ∷ 98 ∷ 99 ∷ 100 ∷ 101 ∷ replicate 1 9;
+            map = 0 ∷ 1 ∷ 2 ∷ 3 ∷ 1 ∷ 4 ∷ replicate 2 9;
             working = [];
           };
     }
@@ -172,7 +172,11 @@ outcomes-hold :
     (outcomeOf (lending (memory 4 3) (stacked 255 sheetOne))
     ∷ outcomeOf (lending (memory 2 3) (stacked 255 sheetOne))
     ∷ outcomeOf
-    (lending (memory 4 0) (stacked 255 (plain 3 3 3 [] (0 ∷ 0 ∷ 2 ∷ 2 ∷ []) (1 ∷ 0 ∷ []) ((97 ∷ 97 ∷ 97 ∷ []) ∷ b ∷ []) ∷ [])))
+    (lending (memory 8 0)
+    (stacked 255
+    (plain 3 3 3 [] (0 ∷ 0 ∷ 3 ∷ 3 ∷ []) (1 ∷ 0 ∷ 1 ∷ []) ((97 ∷ 97 ∷ 97 ∷ []) ∷ b ∷ (99 ∷ []) ∷ (100 ∷ []) ∷ [])
+    ∷ plain 3 1 1 [] [] (0 ∷ []) (b ∷ (101 ∷ []) ∷ [])
+    ∷ [])))
     ∷ [])
     ≡ outcomes
 unfolding outcomeOf sheetOne outcomes

@@ -119,7 +119,7 @@ replies =
     -- C11's refusal, and that of an unknown required type
     ∷ case (input (number 0 9223372036854775808)) "answer 10\n"
     ∷ case (input (number 6 5)) "answer 3\n"
-    -- the record's eight numbers in their order, an address's two
+    -- the record's eight numbers in their order, together with C1 and C6; an address's two
     ∷ case (input kinds) "answer 0\ntype 1\nclass 2\nrows 4\nids 2 1 3\noffsets 3 0 2 3\nvalues 3 7 8 9\nterms 0\nmaps 0\n"
     ∷ case (input (both (1 ∷ 0 ∷ 0 ∷ 1 ∷ 0 ∷ 0 ∷ []))) "answer 0\ntype 1\nclass 0\nrows 3\nids 0\noffsets 0\nvalues 3 7 6 5\nterms 0\nmaps 0\n"
     -- numbers of two and three digits
@@ -161,7 +161,7 @@ replies =
     ∷ case (input (listed 0xffffffff)) "answer 4\n"
     ∷ case (input (upOffset 0xffffffff)) "answer 4\n"
     ∷ case (input (onlyRows 1 [] 0xffffffff 0)) "answer 9\n"
-    -- an alive word may have 64 bits
+    -- an alive word may have more than 32 bits
     ∷ case (input (onlyRows 33 (0x100000000 ∷ []) 0 32)) "answer 0\ntype 255\nclass 0\nrows 1\nids 0\noffsets 0\nvalues 0\nterms 0\nmaps 0\n"
     -- a term byte of 9 bits
     ∷ case (input (2 ∷ 0 ∷ 255 ∷ 1 ∷ 4 ∷ 1 ∷ 1 ∷ 0 ∷ 0 ∷ 1 ∷ 1 ∷ 0 ∷ 0 ∷ 0 ∷ 1 ∷ 0 ∷ 1 ∷ 1 ∷ 1 ∷ 256 ∷ 0 ∷ 0 ∷ [])) "answer 2\n"

@@ -47,7 +47,7 @@ orderCases-hold : map (λ c. timeSheetOf (c .segments) (c .space)) orderCases �
 unfolding timeSheetOf orderCases
 orderCases-hold = refl
 
--- ---- 1 to 7, and 11: an output shorter than the list
+-- ---- 1 to 7, and 11: an output shorter than the list. "And n after it": that check fails too, and is not the answer
 
 answerCases : List TimeCase
 answerCases =
@@ -66,7 +66,7 @@ answerCases =
     ∷ unsortedBy 5 (withAlive (2 ∷ []) (one 5 2) ∷ []) 1
     -- 6: a bit past the rows; 7 after it
     ∷ unsortedBy 6 (none 4294967295 ∷ withAlive (2 ∷ []) (one 7 5) ∷ []) 1
-    -- 7
+    -- 7, and 11 after it
     ∷ unsortedBy 7 (none 4294967295 ∷ []) 2
     -- 11, and 12 after it: one place too few, for times that fall
     ∷ unsortedBy 11 (full 7 (5 ∷ 4 ∷ []) ∷ []) 1
