@@ -82,17 +82,6 @@ from-mono records lengths s (suc t) h = go (le-lt s (suc t)) (λ (k : s ≤ t). 
     go (inl k) f = omega (arith, f (le-of-suc-le-suc k))
     go (inr k) f = subst (λ (z : ℕ). fromAt records lengths z ≤ fromAt records lengths (suc t)) (let e : suc t ≡ s = omega arith in e) (omega arith)
 
-pub to-mono : (records : List (List ℕ)) (held : List ℕ) (s t : ℕ) → s ≤ t → toAt records held s ≤ toAt records held t
-to-mono records held s zero h = ap-le (let e : s ≡ 0 = omega arith in e)
-  where
-    ap-le : s ≡ 0 → toAt records held s ≤ 0
-    ap-le e = subst (λ (z : ℕ). toAt records held z ≤ 0) (sym e) zero-le
-to-mono records held s (suc t) h = go (le-lt s (suc t)) (λ (k : s ≤ t). to-mono records held s t k)
-  where
-    go : (s < suc t) ⊎ (suc t ≤ s) → (s ≤ t → toAt records held s ≤ toAt records held t) → toAt records held s ≤ toAt records held t + heldAt records held t
-    go (inl k) f = omega (arith, f (le-of-suc-le-suc k))
-    go (inr k) f = subst (λ (z : ℕ). toAt records held z ≤ toAt records held t + heldAt records held t) (let e : suc t ≡ s = omega arith in e) (omega arith)
-
 pub to-pos : (records : List (List ℕ)) (held : List ℕ) (s : ℕ) → toAt records held s ≤ posAt records s
 to-pos records held zero = zero-le
 to-pos records held (suc s) = let a = to-pos records held s in let b = held-le records held s in omega arith
