@@ -16,7 +16,7 @@ use Rattle.definitions.specs.Class.{rowClass}
 use Rattle.column_index.specs.Lookup.{widthOf}
 use Rattle.places.specs.Place.{run, kindAt, rowsAt, idsAt, offsetsAt, startIn, endIn, widthIn}
 use Rattle.places.proofs.Stack.{width-empty, width-full, width-none, width-optional}
-use Rattle.column_index_merge.specs.Class.{widthClass, rowClassIn, aliveFrom, kindClassOf, classIn, greatestIn, Classed}
+use Rattle.column_index_merge.specs.Class.{widthClass, rowClassIn, aliveClassFrom, kindClassOf, classIn, greatestIn, Classed}
 
 pub class-none : (w : ℕ) → w ≡ 0 → 1 ≡ widthClass w
 class-none w e = rw e
@@ -116,61 +116,61 @@ module _ (place ids offsets words : List ℕ) where
       go true = class-top (kindAt place) (rowsAt place) (idsAt place ids) (offsetsAt place offsets) r h
       go false = zero-le
 
-  alive-le : (r n : ℕ) → r + n ≤ rowsAt place → aliveFrom place ids offsets words r n ≤ kindClassOf (kindAt place) (rowsAt place)
-  unfolding aliveFrom
+  alive-le : (r n : ℕ) → r + n ≤ rowsAt place → aliveClassFrom place ids offsets words r n ≤ kindClassOf (kindAt place) (rowsAt place)
+  unfolding aliveClassFrom
   alive-le r zero h = zero-le
   alive-le r (suc n) h = max-le (row-le r (omega arith)) (alive-le (suc r) n (omega arith))
 
-  pub alive-all-le : aliveFrom place ids offsets words 0 (rowsAt place) ≤ 2
+  pub alive-all-le : aliveClassFrom place ids offsets words 0 (rowsAt place) ≤ 2
   alive-all-le = let a = alive-le 0 (rowsAt place) (omega arith) in let b = kind-le (kindAt place) (rowsAt place) in omega arith
 
-  pub alive-start : (rows : ℕ) → max 0 (aliveFrom place ids offsets words 0 (rows - 0)) ≡ aliveFrom place ids offsets words 0 rows
+  pub alive-start : (rows : ℕ) → max 0 (aliveClassFrom place ids offsets words 0 (rows - 0)) ≡ aliveClassFrom place ids offsets words 0 rows
   alive-start rows =
       let z : rows - 0 ≡ rows = omega arith in
-      let q = ap (aliveFrom place ids offsets words 0) z in
+      let q = ap (aliveClassFrom place ids offsets words 0) z in
       omega arith
 
-  alive-step : (r n m : ℕ) → n ≡ suc m → aliveFrom place ids offsets words r n ≡ max (rowClassIn place ids offsets words r) (aliveFrom place ids offsets words (suc r) m)
-  unfolding aliveFrom
+  alive-step : (r n m : ℕ) → n ≡ suc m → aliveClassFrom place ids offsets words r n ≡ max (rowClassIn place ids offsets words r) (aliveClassFrom place ids offsets words (suc r) m)
+  unfolding aliveClassFrom
   alive-step r n m e = rw e
 
   pub alive-now : (rows r b k : ℕ) → r < rows → k ≡ rowClassIn place ids offsets words r
-      → max b (aliveFrom place ids offsets words r (rows - r)) ≡ max (max b k) (aliveFrom place ids offsets words (r + 1) (rows - (r + 1)))
+      → max b (aliveClassFrom place ids offsets words r (rows - r)) ≡ max (max b k) (aliveClassFrom place ids offsets words (r + 1) (rows - (r + 1)))
   alive-now rows r b k h e =
       let q = alive-step r (rows - r) (rows - (r + 1)) (omega arith) in
-      let s : aliveFrom place ids offsets words (suc r) (rows - (r + 1)) ≡ aliveFrom place ids offsets words (r + 1) (rows - (r + 1)) = ap (λ (n : ℕ). aliveFrom place ids offsets words n (rows - (r + 1))) (sym (add-one r)) in
+      let s : aliveClassFrom place ids offsets words (suc r) (rows - (r + 1)) ≡ aliveClassFrom place ids offsets words (r + 1) (rows - (r + 1)) = ap (λ (n : ℕ). aliveClassFrom place ids offsets words n (rows - (r + 1))) (sym (add-one r)) in
       omega arith
 
-  pub alive-more : (rows r b k b′ whole : ℕ) → r < rows → k ≡ rowClassIn place ids offsets words r → b′ ≡ max b k → max b (aliveFrom place ids offsets words r (rows - r)) ≡ whole
-      → max b′ (aliveFrom place ids offsets words (r + 1) (rows - (r + 1))) ≡ whole
-  alive-more rows r b k b′ whole h e f g = ap (λ (n : ℕ). max n (aliveFrom place ids offsets words (r + 1) (rows - (r + 1)))) f ∙ sym (alive-now rows r b k h e) ∙ g
+  pub alive-more : (rows r b k b′ whole : ℕ) → r < rows → k ≡ rowClassIn place ids offsets words r → b′ ≡ max b k → max b (aliveClassFrom place ids offsets words r (rows - r)) ≡ whole
+      → max b′ (aliveClassFrom place ids offsets words (r + 1) (rows - (r + 1))) ≡ whole
+  alive-more rows r b k b′ whole h e f g = ap (λ (n : ℕ). max n (aliveClassFrom place ids offsets words (r + 1) (rows - (r + 1)))) f ∙ sym (alive-now rows r b k h e) ∙ g
 
-  pub alive-end : (rows r b whole : ℕ) → rows ≤ r → max b (aliveFrom place ids offsets words r (rows - r)) ≡ whole → b ≡ whole
-  unfolding aliveFrom
+  pub alive-end : (rows r b whole : ℕ) → rows ≤ r → max b (aliveClassFrom place ids offsets words r (rows - r)) ≡ whole → b ≡ whole
+  unfolding aliveClassFrom
   alive-end rows r b whole h e =
       let z : rows - r ≡ 0 = omega arith in
-      let q : aliveFrom place ids offsets words r (rows - r) ≡ 0 = ap (aliveFrom place ids offsets words r) z in
+      let q : aliveClassFrom place ids offsets words r (rows - r) ≡ 0 = ap (aliveClassFrom place ids offsets words r) z in
       omega arith
 
-  pub alive-top : (r b k whole : ℕ) → r ≤ rowsAt place → k ≡ kindClassOf (kindAt place) (rowsAt place) → k ≤ b → max b (aliveFrom place ids offsets words r (rowsAt place - r)) ≡ whole → b ≡ whole
+  pub alive-top : (r b k whole : ℕ) → r ≤ rowsAt place → k ≡ kindClassOf (kindAt place) (rowsAt place) → k ≤ b → max b (aliveClassFrom place ids offsets words r (rowsAt place - r)) ≡ whole → b ≡ whole
   alive-top r b k whole h e l g = let q = alive-le r (rowsAt place - r) (omega arith) in omega arith
 
   -- as the definitions have it
-  pub alive-is : (r n : ℕ) → aliveFrom place ids offsets words r n ≡ greatest (map (λ k. widthClass (widthIn place ids offsets k)) (filter (bitAt words) (upFrom r n)))
-  unfolding aliveFrom rowClassIn
+  pub alive-is : (r n : ℕ) → aliveClassFrom place ids offsets words r n ≡ greatest (map (λ k. widthClass (widthIn place ids offsets k)) (filter (bitAt words) (upFrom r n)))
+  unfolding aliveClassFrom rowClassIn
   alive-is r zero = refl
   alive-is r (suc n) = go (bitAt words r) (alive-is (suc r) n)
     where
-      go : (b : Bool) → aliveFrom place ids offsets words (suc r) n ≡ greatest (map (λ k. widthClass (widthIn place ids offsets k)) (filter (bitAt words) (upFrom (suc r) n)))
-          → max (cond b (widthClass (widthIn place ids offsets r)) 0) (aliveFrom place ids offsets words (suc r) n)
+      go : (b : Bool) → aliveClassFrom place ids offsets words (suc r) n ≡ greatest (map (λ k. widthClass (widthIn place ids offsets k)) (filter (bitAt words) (upFrom (suc r) n)))
+          → max (cond b (widthClass (widthIn place ids offsets r)) 0) (aliveClassFrom place ids offsets words (suc r) n)
           ≡ greatest (map (λ k. widthClass (widthIn place ids offsets k)) (cond b (r ∷ filter (bitAt words) (upFrom (suc r) n)) (filter (bitAt words) (upFrom (suc r) n))))
       go true e = ap (λ (m : ℕ). max (widthClass (widthIn place ids offsets r)) m) e
-      go false e = let z : max 0 (aliveFrom place ids offsets words (suc r) n) ≡ aliveFrom place ids offsets words (suc r) n = omega arith in z ∙ e
+      go false e = let z : max 0 (aliveClassFrom place ids offsets words (suc r) n) ≡ aliveClassFrom place ids offsets words (suc r) n = omega arith in z ∙ e
 
 -- ---- one segment, and all of them
 
 module _ (place alive ids offsets words : List ℕ) where
-  pub class-alive : {k : ℕ} → getD alive 0 0 ≡ 1 → k ≡ aliveFrom place ids offsets (run (getD alive 1 0) (getD alive 2 0) words) 0 (rowsAt place) → k ≡ classIn place alive ids offsets words
+  pub class-alive : {k : ℕ} → getD alive 0 0 ≡ 1 → k ≡ aliveClassFrom place ids offsets (run (getD alive 1 0) (getD alive 2 0) words) 0 (rowsAt place) → k ≡ classIn place alive ids offsets words
   unfolding classIn
   class-alive e f = rw (eq-eqb (getD alive 0 0) 1 e) f
 
@@ -187,7 +187,7 @@ class-in-le : (place alive ids offsets words : List ℕ) → classIn place alive
 unfolding classIn
 class-in-le place alive ids offsets words = go (eqb (getD alive 0 0) 1)
   where
-    go : (b : Bool) → cond b (aliveFrom place ids offsets (run (getD alive 1 0) (getD alive 2 0) words) 0 (rowsAt place)) (kindClassOf (kindAt place) (rowsAt place)) ≤ 2
+    go : (b : Bool) → cond b (aliveClassFrom place ids offsets (run (getD alive 1 0) (getD alive 2 0) words) 0 (rowsAt place)) (kindClassOf (kindAt place) (rowsAt place)) ≤ 2
     go true = alive-all-le place ids offsets (run (getD alive 1 0) (getD alive 2 0) words)
     go false = kind-le (kindAt place) (rowsAt place)
 

@@ -16,7 +16,7 @@ use Rattle.definitions.specs.Answer.{listsFit}
 use Rattle.places.specs.Place.{run, kindAt, rowsAt, widthIn}
 use Rattle.places.proofs.Cells.{cell-length}
 use Rattle.places.proofs.Bridge.{Stands, cell-stands, count-stands, inside-stands}
-use Rattle.column_index_merge.specs.Class.{widthClass, aliveFrom, kindClassOf, classIn, greatestIn}
+use Rattle.column_index_merge.specs.Class.{widthClass, aliveClassFrom, kindClassOf, classIn, greatestIn}
 use Rattle.column_index_merge.specs.Held.{hasAt, hasFrom, heldIn}
 use Rattle.column_index_merge.proofs.Class.{alive-is, row-class}
 
@@ -51,16 +51,16 @@ module _ (alive words : List ℕ) {place ids offsets values : List ℕ} {s : Seg
   unfolding classIn classOf aliveClass aliveRows
   class-is = go (hasAliveSet s) refl
     where
-      alive-class-is : hasAliveSet s ≡ true → aliveFrom place ids offsets (run (getD alive 1 0) (getD alive 2 0) words) 0 (rowsAt place) ≡ aliveClass s
+      alive-class-is : hasAliveSet s ≡ true → aliveClassFrom place ids offsets (run (getD alive 1 0) (getD alive 2 0) words) 0 (rowsAt place) ≡ aliveClass s
       alive-class-is e =
-          ap₂ (λ (l : List ℕ) (n : ℕ). aliveFrom place ids offsets l 0 n) run-is (st .rows)
+          ap₂ (λ (l : List ℕ) (n : ℕ). aliveClassFrom place ids offsets l 0 n) run-is (st .rows)
           ∙ alive-is place ids offsets (s .alive) 0 (s .rows)
           ∙ alive-rows e 0 (s .rows) (omega arith)
 
       go : (b : Bool) → hasAliveSet s ≡ b → classIn place alive ids offsets words ≡ cond b (aliveClass s) (kindClass s)
-      go true e = ap (λ (b : Bool). cond b (aliveFrom place ids offsets (run (getD alive 1 0) (getD alive 2 0) words) 0 (rowsAt place)) (kindClassOf (kindAt place) (rowsAt place))) (ap (λ (n : ℕ). eqb n 1) flag ∙ e) ∙ alive-class-is e
+      go true e = ap (λ (b : Bool). cond b (aliveClassFrom place ids offsets (run (getD alive 1 0) (getD alive 2 0) words) 0 (rowsAt place)) (kindClassOf (kindAt place) (rowsAt place))) (ap (λ (n : ℕ). eqb n 1) flag ∙ e) ∙ alive-class-is e
       go false e =
-          ap (λ (b : Bool). cond b (aliveFrom place ids offsets (run (getD alive 1 0) (getD alive 2 0) words) 0 (rowsAt place)) (kindClassOf (kindAt place) (rowsAt place))) (ap (λ (n : ℕ). eqb n 1) flag ∙ e)
+          ap (λ (b : Bool). cond b (aliveClassFrom place ids offsets (run (getD alive 1 0) (getD alive 2 0) words) 0 (rowsAt place)) (kindClassOf (kindAt place) (rowsAt place))) (ap (λ (n : ℕ). eqb n 1) flag ∙ e)
           ∙ ap₂ kindClassOf (st .kind) (st .rows)
           ∙ sym (kind-class-is s)
 
@@ -73,7 +73,7 @@ same-ends a b [] e h = eq-eqb b a (omega arith)
 same-ends a b (x ∷ xs) e h = ne-eqb b a (λ q. omega arith)
 
 -- present and not dropped
-kept-is : (p e a h : Bool) → p && (not e && (not a || h)) ≡ p && not (p && (e || (a && not h)))
+kept-is : (p e a h : Bool) → p && (not e && (not a || h)) ≡ p && not (e || (a && not h))
 kept-is true true a h = refl
 kept-is true false true true = refl
 kept-is true false true false = refl
@@ -116,12 +116,12 @@ module _ (alive words : List ℕ) {place ids offsets values : List ℕ} {s : Seg
           ap₂ (λ (x y : Bool). not (eqb (s .type) noType) && (not x && y)) ends
           (ap₂ (λ (x y : Bool). not x || y) (ap (λ (n : ℕ). eqb n 1) flag ∙ e) (rows e))
           ∙ kept-is (not (eqb (s .type) noType)) (isEmpty (s .values)) true (any (hasValue s) (aliveRows s))
-          ∙ ap (λ (a : Bool). isPresent s && not (isPresent s && (isEmpty (s .values) || (a && not (any (hasValue s) (aliveRows s)))))) (sym e)
+          ∙ ap (λ (a : Bool). isPresent s && not (isEmpty (s .values) || (a && not (any (hasValue s) (aliveRows s))))) (sym e)
       go false e =
           ap₂ (λ (x y : Bool). not (eqb (s .type) noType) && (not x && (not y || hasFrom place ids offsets (run (getD alive 1 0) (getD alive 2 0) words) 0 (rowsAt place)))) ends
           (ap (λ (n : ℕ). eqb n 1) flag ∙ e)
           ∙ kept-is (not (eqb (s .type) noType)) (isEmpty (s .values)) false (any (hasValue s) (aliveRows s))
-          ∙ ap (λ (a : Bool). isPresent s && not (isPresent s && (isEmpty (s .values) || (a && not (any (hasValue s) (aliveRows s)))))) (sym e)
+          ∙ ap (λ (a : Bool). isPresent s && not (isEmpty (s .values) || (a && not (any (hasValue s) (aliveRows s))))) (sym e)
 
 pub greatest-is : (places alives : List (List ℕ)) (ids offsets words : List ℕ) (ts : List Segment) → length places ≡ length ts → length alives ≡ length ts
     → ((k : ℕ) → k < length ts → classIn (getD places k []) (getD alives k []) ids offsets words ≡ classOf (effective (getD ts k absent))) → greatestIn places alives ids offsets words ≡ greatestClass ts

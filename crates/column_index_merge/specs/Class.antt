@@ -21,9 +21,9 @@ unfoldable pub rowClassIn : List ℕ → List ℕ → List ℕ → List ℕ → 
 rowClassIn place ids offsets words r = cond (bitAt words r) (widthClass (widthIn place ids offsets r)) 0
 
 -- the greatest of n rows from r on
-unfoldable pub aliveFrom : List ℕ → List ℕ → List ℕ → List ℕ → ℕ → ℕ → ℕ
-aliveFrom place ids offsets words r zero = 0
-aliveFrom place ids offsets words r (suc n) = max (rowClassIn place ids offsets words r) (aliveFrom place ids offsets words (suc r) n)
+unfoldable pub aliveClassFrom : List ℕ → List ℕ → List ℕ → List ℕ → ℕ → ℕ → ℕ
+aliveClassFrom place ids offsets words r zero = 0
+aliveClassFrom place ids offsets words r (suc n) = max (rowClassIn place ids offsets words r) (aliveClassFrom place ids offsets words (suc r) n)
 
 -- without an alive set
 unfoldable pub kindClassOf : ℕ → ℕ → ℕ
@@ -32,7 +32,7 @@ kindClassOf kind rows = byKind kind (cond (eqb rows 0) 0 1) 0 1 2 2
 -- alive has the flag, then start and end of the alive words
 unfoldable pub classIn : List ℕ → List ℕ → List ℕ → List ℕ → List ℕ → ℕ
 classIn place alive ids offsets words =
-    cond (eqb (getD alive 0 0) 1) (aliveFrom place ids offsets (run (getD alive 1 0) (getD alive 2 0) words) 0 (rowsAt place)) (kindClassOf (kindAt place) (rowsAt place))
+    cond (eqb (getD alive 0 0) 1) (aliveClassFrom place ids offsets (run (getD alive 1 0) (getD alive 2 0) words) 0 (rowsAt place)) (kindClassOf (kindAt place) (rowsAt place))
 
 unfoldable pub greatestIn : List (List ℕ) → List (List ℕ) → List ℕ → List ℕ → List ℕ → ℕ
 greatestIn [] alives ids offsets words = 0

@@ -13,7 +13,7 @@ ghost use Rattle.definitions.specs.Row.{bitAt};
 ghost use Rattle.column_index_merge.specs.Counted.{aliveWidths, countedIn, countedAll};
 ghost use Rattle.places.specs.Places.{table};
 ghost use Rattle.places.specs.Stack.{diffs, segmentWidths, SoundAt};
-ghost use Rattle.column_index_merge.specs.Class.{widthClass, rowClassIn, aliveFrom, kindClassOf, classIn, greatestIn, Classed, AllClassed};
+ghost use Rattle.column_index_merge.specs.Class.{widthClass, rowClassIn, aliveClassFrom, kindClassOf, classIn, greatestIn, Classed, AllClassed};
 ghost use Rattle.column_index_merge.specs.Held.{hasAt, hasFrom, heldIn, byteOf, heldAt};
 
 // ---- dropping
@@ -170,7 +170,7 @@ pub fn alive_class(place: [usize; 8], ids: &[u32], offsets: &[u32], words: &[u64
     requires { ⌜ SoundAt place (now ids) (now offsets) ⌝ }
     requires { ⌜ getD place 1 0 ≤ 4294967296 ⌝ }
     requires { ⌜ getD place 1 0 ≤ 64 * length (now words) ⌝ }
-    ensures { λ r. ⌜ r ≡ aliveFrom place (now (ids .entry)) (now (offsets .entry)) (now (words .entry)) 0 (getD place 1 0) ⌝ }
+    ensures { λ r. ⌜ r ≡ aliveClassFrom place (now (ids .entry)) (now (offsets .entry)) (now (words .entry)) 0 (getD place 1 0) ⌝ }
 {
     let kind = place[0];
     let rows = place[1];

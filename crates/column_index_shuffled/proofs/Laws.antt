@@ -14,7 +14,7 @@ use Rattle.places.specs.Width.{idPart, idsOf, totalsOf}
 use Rattle.places.specs.Place.{run, rowOf, startIn, endIn, widthIn, cellIn, widths, Inside}
 use Rattle.places.proofs.Cells.{cell-run, cell-length}
 use Rattle.places.proofs.Laws.{put-one, first-set, fill-second, part-none, part-some, part-length, ids-step, totals-step, widthNow}
-use Rattle.column_values_merge.specs.Word.{wordsFor, Worded}
+use Rattle.column_values_merge.specs.Word.{newWords, Worded}
 use Rattle.column_values_merge.proofs.Laws.{words-length}
 use Rattle.column_index_shuffled.specs.Order.{orderedWords, Ordered}
 
@@ -134,13 +134,13 @@ module _ {to : ℕ} {addresses places sources : List (List ℕ)} {ids offsets va
     cell-width = cell-length (getD places s []) ids offsets values (rowOf (getD addresses j [])) (ordered-now .2) ∙ ap₂ (λ (m n : ℕ). m - n) (sym q) (sym p)
 
     abbrev words : List ℕ
-    words = wordsFor to (getD sources s []) table (run (getD (getD places s []) 6 0 + x) (getD (getD places s []) 6 0 + y) values)
+    words = newWords to (getD sources s []) table (run (getD (getD places s []) 6 0 + x) (getD (getD places s []) 6 0 + y) values)
 
     words-now : orderedWords to places sources ids offsets values table (drop j addresses) ≡ words ++ orderedWords to places sources ids offsets values table (drop (j + 1) addresses)
     unfolding orderedWords
     words-now =
         rw (add-one j, drop-cons addresses j [] h, ← e)
-        (ap (λ (c : List ℕ). wordsFor to (getD sources s []) table c ++ orderedWords to places sources ids offsets values table (drop (suc j) addresses)) (sym lent))
+        (ap (λ (c : List ℕ). newWords to (getD sources s []) table c ++ orderedWords to places sources ids offsets values table (drop (suc j) addresses)) (sym lent))
 
     words-count : length words ≡ y - x
     words-count = words-length to (getD sources s []) table (run (getD (getD places s []) 6 0 + x) (getD (getD places s []) 6 0 + y) values) ∙ ap length lent ∙ cell-width

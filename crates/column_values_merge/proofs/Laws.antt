@@ -15,7 +15,7 @@ use Rattle.column_index.proofs.Walk.{map-same}
 use Rattle.runs.specs.Put.{put, looked}
 use Rattle.runs.proofs.Laws.{Filling, fill-room, fill-more, looked-length, put-one, put-nil}
 use Rattle.places.specs.Place.{run, valuesAt}
-use Rattle.column_values_merge.specs.Word.{doubles, coercedAll, mapAt, wordsFor, Worded}
+use Rattle.column_values_merge.specs.Word.{doubles, coercedAll, mapAt, newWords, Worded}
 use Rattle.column_values_merge.specs.Stack.{stackedWords, AllWorded}
 
 pub doubles-length : (t : ℕ) (vs : List ℕ) → length (doubles t vs) ≡ length vs
@@ -68,8 +68,8 @@ run-at : (a b : ℕ) (l : List ℕ) (w : ℕ) → a + w < b → getD (run a b l)
 run-at a b l w h = getD-take (b - a) (drop a l) w 0 (omega arith) ∙ getD-drop a l w 0
 
 pub looked-one : (to : ℕ) (source table : List ℕ) (w x : ℕ) → hasTerms (getD source 0 0) ≡ true → getD source 1 0 + w < getD source 2 0 → x ≡ getD table (getD source 1 0 + w) 0
-    → x ∷ [] ≡ wordsFor to source table (w ∷ [])
-unfolding wordsFor looked
+    → x ∷ [] ≡ newWords to source table (w ∷ [])
+unfolding newWords looked
 looked-one to source table w x e h q =
     ap (λ (n : ℕ). n ∷ []) (q ∙ sym (run-at (getD source 1 0) (getD source 2 0) table w h)) ∙ ap (λ (b : Bool). cond b (looked (mapAt source table) (w ∷ [])) (coercedAll (getD source 0 0) to (w ∷ []))) (sym e)
 
@@ -88,17 +88,17 @@ ordinal-in source table w g e =
     run-short a b l h = le-of-eq (length-take-le (b - a) (drop a l) (omega (arith, length-drop a l)))
 
 -- a row of no value
-words-none : (to : ℕ) (source table : List ℕ) → wordsFor to source table [] ≡ []
-unfolding wordsFor looked coercedAll
+words-none : (to : ℕ) (source table : List ℕ) → newWords to source table [] ≡ []
+unfolding newWords looked coercedAll
 words-none to source table = go (hasTerms (getD source 0 0))
   where
     go : (b : Bool) → _≡_ {A = List ℕ} (cond b [] []) []
     go true = refl
     go false = refl
 
-pub none-put : (to : ℕ) (source table l out : List ℕ) (a b at : ℕ) → b ≡ a → out ≡ put at (wordsFor to source table (run a b l)) out
+pub none-put : (to : ℕ) (source table l out : List ℕ) (a b at : ℕ) → b ≡ a → out ≡ put at (newWords to source table (run a b l)) out
 none-put to source table l out a b at e =
-    sym (put-nil at out) ∙ ap (λ (vs : List ℕ). put at vs out) (sym (ap (wordsFor to source table) empty ∙ words-none to source table))
+    sym (put-nil at out) ∙ ap (λ (vs : List ℕ). put at vs out) (sym (ap (newWords to source table) empty ∙ words-none to source table))
   where
     empty : run a b l ≡ []
     empty = ap (λ (n : ℕ). take n (drop a l)) (let z : b - a ≡ 0 = omega arith in z)
@@ -108,21 +108,21 @@ pub one-worded : {source table : List ℕ} (l : List ℕ) (a b : ℕ) → b ≡ 
 one-worded {source} {table} l a b e h g = subst (λ (vs : List ℕ). Worded source table vs) (run-one a b l e h) g
 
 pub one-put : (to : ℕ) (source table l out out′ : List ℕ) (a b at x : ℕ) → b ≡ a + 1 → a < length l → at < length out
-    → x ∷ [] ≡ wordsFor to source table (getD l a 0 ∷ []) → out′ ≡ set out at x → out′ ≡ put at (wordsFor to source table (run a b l)) out
+    → x ∷ [] ≡ newWords to source table (getD l a 0 ∷ []) → out′ ≡ set out at x → out′ ≡ put at (newWords to source table (run a b l)) out
 one-put to source table l out out′ a b at x e h i q s =
-    s ∙ put-one at x out i ∙ ap (λ (vs : List ℕ). put at vs out) (q ∙ ap (wordsFor to source table) (sym (run-one a b l e h)))
+    s ∙ put-one at x out i ∙ ap (λ (vs : List ℕ). put at vs out) (q ∙ ap (newWords to source table) (sym (run-one a b l e h)))
 
 module _ (to : ℕ) (source table vs : List ℕ) where
-  pub words-looked : hasTerms (getD source 0 0) ≡ true → looked (mapAt source table) vs ≡ wordsFor to source table vs
-  unfolding wordsFor
+  pub words-looked : hasTerms (getD source 0 0) ≡ true → looked (mapAt source table) vs ≡ newWords to source table vs
+  unfolding newWords
   words-looked e = rw e
 
-  pub words-coerced : hasTerms (getD source 0 0) ≡ false → coercedAll (getD source 0 0) to vs ≡ wordsFor to source table vs
-  unfolding wordsFor
+  pub words-coerced : hasTerms (getD source 0 0) ≡ false → coercedAll (getD source 0 0) to vs ≡ newWords to source table vs
+  unfolding newWords
   words-coerced e = rw e
 
-  pub words-length : length (wordsFor to source table vs) ≡ length vs
-  unfolding wordsFor
+  pub words-length : length (newWords to source table vs) ≡ length vs
+  unfolding newWords
   words-length = go (hasTerms (getD source 0 0))
     where
       go : (b : Bool) → length (cond b (looked (mapAt source table) vs) (coercedAll (getD source 0 0) to vs)) ≡ length vs
@@ -132,7 +132,7 @@ module _ (to : ℕ) (source table vs : List ℕ) where
 -- ---- a turn at the segment s
 
 words-step : (to : ℕ) (places sources : List (List ℕ)) (values table : List ℕ) (s : ℕ) → s < length places → s < length sources
-    → stackedWords to (drop s places) (drop s sources) values table ≡ wordsFor to (getD sources s []) table (valuesAt (getD places s []) values) ++ stackedWords to (drop (s + 1) places) (drop (s + 1) sources) values table
+    → stackedWords to (drop s places) (drop s sources) values table ≡ newWords to (getD sources s []) table (valuesAt (getD places s []) values) ++ stackedWords to (drop (s + 1) places) (drop (s + 1) sources) values table
 unfolding stackedWords
 words-step to places sources values table s h k = rw (add-one s, drop-cons places s [] h, drop-cons sources s [] k)
 
@@ -150,11 +150,11 @@ module _ {places sources : List (List ℕ)} {values table : List ℕ} (l : AllWo
     pub words-room : at + length (valuesAt (getD places s []) values) ≤ length out
     words-room =
         rw (← words-length to (getD sources s []) table (valuesAt (getD places s []) values))
-        (fill-room g (wordsFor to (getD sources s []) table (valuesAt (getD places s []) values)) (stackedWords to (drop (s + 1) places) (drop (s + 1) sources) values table) (words-step to places sources values table s h (l .each s h .0)))
+        (fill-room g (newWords to (getD sources s []) table (valuesAt (getD places s []) values)) (stackedWords to (drop (s + 1) places) (drop (s + 1) sources) values table) (words-step to places sources values table s h (l .each s h .0)))
 
-    pub words-more : {out′ : List ℕ} → out′ ≡ put at (wordsFor to (getD sources s []) table (valuesAt (getD places s []) values)) out
+    pub words-more : {out′ : List ℕ} → out′ ≡ put at (newWords to (getD sources s []) table (valuesAt (getD places s []) values)) out
         → Filling start whole old (stackedWords to (drop (s + 1) places) (drop (s + 1) sources) values table) out′ (at + (getD (getD places s []) 7 0 - getD (getD places s []) 6 0))
     words-more {out′} o =
-        fill-more g (wordsFor to (getD sources s []) table (valuesAt (getD places s []) values)) (stackedWords to (drop (s + 1) places) (drop (s + 1) sources) values table) (words-step to places sources values table s h (l .each s h .0)) out′
+        fill-more g (newWords to (getD sources s []) table (valuesAt (getD places s []) values)) (stackedWords to (drop (s + 1) places) (drop (s + 1) sources) values table) (words-step to places sources values table s h (l .each s h .0)) out′
         (at + (getD (getD places s []) 7 0 - getD (getD places s []) 6 0))
         (ap (λ (n : ℕ). at + n) (sym (words-length to (getD sources s []) table (valuesAt (getD places s []) values) ∙ now-length))) o

@@ -22,8 +22,8 @@ abbrev pub mapAt : List ℕ → List ℕ → List ℕ
 mapAt source table = run (getD source 1 0) (getD source 2 0) table
 
 -- an ordinal is looked up in the segment's part of the map, any other word coerced to the joined type
-unfoldable pub wordsFor : ℕ → List ℕ → List ℕ → List ℕ → List ℕ
-wordsFor to source table vs = cond (hasTerms (getD source 0 0)) (looked (mapAt source table) vs) (coercedAll (getD source 0 0) to vs)
+unfoldable pub newWords : ℕ → List ℕ → List ℕ → List ℕ → List ℕ
+newWords to source table vs = cond (hasTerms (getD source 0 0)) (looked (mapAt source table) vs) (coercedAll (getD source 0 0) to vs)
 
 -- the ordinals lie within the segment's part of the map
 pub record Worded (source table vs : List ℕ) : Type 0 where

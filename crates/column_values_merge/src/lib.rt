@@ -6,7 +6,7 @@ ghost use lib.ListN.{length, getD};
 ghost use Rattle.definitions.specs.Types.{hasTerms};
 ghost use Rattle.runs.specs.Put.{put};
 ghost use Rattle.places.specs.Place.{run};
-ghost use Rattle.column_values_merge.specs.Word.{doubles, coercedAll, wordsFor, Worded};
+ghost use Rattle.column_values_merge.specs.Word.{doubles, coercedAll, newWords, Worded};
 ghost use Rattle.column_values_merge.specs.Stack.{stackedWords, AllWorded};
 
 // Writes the double nearest to each integer of type t.
@@ -49,7 +49,7 @@ pub fn append_words(
 )
     requires { ⌜ Worded source (now map) (now vs) ⌝ }
     requires { ⌜ at + length (now vs) ≤ length (now out) ⌝ }
-    ensures { λ _. ⌜ now (out .exit) ≡ put at (wordsFor to source (now (map .entry)) (now (vs .entry))) (now (out .entry)) ⌝ }
+    ensures { λ _. ⌜ now (out .exit) ≡ put at (newWords to source (now (map .entry)) (now (vs .entry))) (now (out .entry)) ⌝ }
 {
     let t = source[0] as u32;
     if column_type::has_terms(t) {
@@ -77,7 +77,7 @@ fn coerced_word(t: u32, u: u32, word: u64) -> u64
 // The same as append_words for a run of one word.
 fn new_word(to: u32, source: [usize; 3], word: u64, map: &[u32]) -> u64
     requires { ⌜ Worded source (now map) (word ∷ []) ⌝ }
-    ensures { λ r. ⌜ r ∷ [] ≡ wordsFor to source (now (map .entry)) (word ∷ []) ⌝ }
+    ensures { λ r. ⌜ r ∷ [] ≡ newWords to source (now (map .entry)) (word ∷ []) ⌝ }
 {
     let t = source[0] as u32;
     if column_type::has_terms(t) {
@@ -103,7 +103,7 @@ pub fn append_row(
     requires { ⌜ Worded source (now map) (run (base + g .start) (base + g .end) (now values)) ⌝ }
     requires { ⌜ at + (g .end - g .start) ≤ length (now out) ⌝ }
     ensures { λ e. ⌜ e ≡ at + (g .end - g .start) ⌝ }
-    ensures { λ _. ⌜ now (out .exit) ≡ put at (wordsFor to source (now (map .entry)) (run (base + g .start) (base + g .end) (now (values .entry)))) (now (out .entry)) ⌝ }
+    ensures { λ _. ⌜ now (out .exit) ≡ put at (newWords to source (now (map .entry)) (run (base + g .start) (base + g .end) (now (values .entry)))) (now (out .entry)) ⌝ }
 {
     let w = g.end - g.start;
     if w == 0 {

@@ -1,31 +1,33 @@
 -- Demand 3: joins in turn agree with their book. Assumes nothing.
-use Prim.Native.Nat.{ℕ, zero, suc, _+_, _≤_, _<_, zero-le, suc-le-suc}
-use native.Mathlib.Nat.{le-of-suc-le-suc, not-suc-le-zero, le-antisymm, zero-add, add-zero, suc-add, add-suc}
+use Prim.Native.Nat.{ℕ, zero, suc, _+_, _<_, zero-le, suc-le-suc}
+use native.Mathlib.Nat.{le-antisymm, zero-add, add-zero, suc-add, add-suc}
 use native.Mathlib.Omega.{arith}
 use mathlib.Core.Path.{_≡_, refl, sym, ap, ap₂, _∙_, subst}
-use mathlib.Core.List.{List, [], _∷_, _++_, map, List·Memᴰ, List·Memᴰ·head, List·Memᴰ·tail, List·Memᴰ·not-nil, Memᴰ·cast}
+use mathlib.Core.List.{List, [], _∷_, map, List·Memᴰ, List·Memᴰ·head, List·Memᴰ·tail, List·Memᴰ·not-nil, Memᴰ·cast}
 use mathlib.Core.Bool.{Bool, true, false, not, cond, _||_, _&&_, false≢true}
-use lib.ListN.{length, getD}
+use lib.ListN.{length, getD, List·getD-map}
 use lib.Dec.{T, eqb, ltb, ltb→lt, eqb→eq, eqb-refl, eqb·suc-zero}
 use lib.Ieee.Fits.{and-i, and-l, and-r}
 use lib.Ieee.Bits.{is-true}
 use Rattle.definitions.specs.Lists.{all, any, count, filter, elem}
-use Rattle.definitions.specs.Segment.{Segment, Address, Space, Input, segmentsOf, recordOf, sectionsOf}
+use Rattle.definitions.specs.Segment.{Segment, aliveWords, recordOf}
 use Rattle.definitions.specs.Row.{isPresent, isHeld, effective, noType}
 use Rattle.definitions.specs.Class.{classOf, greatestClass}
-use Rattle.definitions.specs.Join.{Column, Joined, absent, rowsOf, stackedFrom, rowOrder, termsOf, cellOf, encode, joinedType, joinedClass, joinedColumn, joinRules}
+use Rattle.definitions.specs.Join.{Column, absent, stackedFrom, rowOrder, termsOf, cellOf, encode, joinedType, joinedColumn, joinRules, asSegment}
 use Rattle.definitions.specs.Answer.{presentTypes, answer, joinOf}
 use Rattle.definitions.specs.Book as Book
-use Rattle.definitions.specs.Book.{Standing, first, result, Call, standsAfter, Entry, firstEntry, firstEntries, segmentsAt, originsIn, oneJoin, standingOf, bookAfter, isSegment, handsOnlyStanding, acceptedFrom, allEqual, requiredTypes, isUniform, IsSequenceOf, ResultStands, CalledAt, JoinedInTurn, JoinsInTurnAgree}
-use Rattle.definitions.specs.Outcome.{spaceOf, Lent, inputOf}
+use Rattle.definitions.specs.Book.{Standing, first, result, segmentIn, Call, lentTo, segmentsHanded, callLent, callOutcome, standsAfter, Entry, noEntry, firstEntry, firstEntries, segmentsAt, originsIn, oneJoin, standingOf, bookAfter, isSegment, allEqual, requiredTypes, isUniform, IsSequenceOf, ResultStands, CallsOneJoin, JoinsInTurnAgree}
+use Rattle.definitions.specs.Outcome.{Numbers, accepted, spaceOf, Lent, inputOf, joinOutcome, readBack}
 use Rattle.definitions.proofs.Sections.{flatten, flatten-back}
 use Rattle.definitions.proofs.Outcome.{accepted-is}
 use Rattle.definitions.proofs.Summary.{keepsTerm, Same, same-terms, same-type, same-class, OfType, Uniform}
 use Rattle.definitions.proofs.Fit.{any-mem, mem-filter, greatest-ge}
-use Rattle.definitions.proofs.Group.{Listed, columnOf, cellsOf, any-true, any-false, any-none, all-mem, mem-map, greatest-le}
+use Rattle.definitions.proofs.Group.{Listed, columnOf, any-true, any-false, any-none, all-mem, mem-map, greatest-le}
 use Rattle.definitions.proofs.Accept.{all-passed, or-cases, mem-map-back}
-use Rattle.definitions.proofs.Entry.{rowsAt, one-column, Good, good-first}
-use Rattle.definitions.proofs.Turn.{getD-all, absent-segment, Agreed, agreed}
+use Rattle.definitions.proofs.Cell.{mem-at}
+use Rattle.definitions.proofs.Part.{map-mem, map-twice}
+use Rattle.definitions.proofs.Entry.{getD-in, rowsAt, one-column, Good, good-first}
+use Rattle.definitions.proofs.Turn.{getD-all, Given, Agreed, agreed}
 
 -- ---- lists with the same members
 
@@ -202,49 +204,77 @@ module _ (firsts : List Segment) where
 
 -- ---- where the one join is also called
 
-called : (firsts : List Segment) (segs : T (all isSegment firsts)) (e : Entry) (sequence : List ℕ) (mode : ℕ) (addresses : List Address) (space : Space)
-    → CalledAt firsts e sequence mode addresses
-    → answer (flatten mode (e .required) (segmentsAt firsts sequence) addresses space) ≡ 0
-    → joinOf (flatten mode (e .required) (segmentsAt firsts sequence) addresses space) .column ≡ oneJoin firsts (e .required) sequence (e .origins)
-unfolding joinRules flatten rowOrder oneJoin
-called firsts segs e sequence mode addresses space at a =
-    ap (λ (ss : List Segment). joinedColumn (e .required) ss (cond (eqb mode 0) (stackedFrom 0 ss) addresses)) back
-    ∙ go mode refl (all-passed (flatten mode (e .required) (segmentsAt firsts sequence) addresses space) a .mode)
-  where
-    back : segmentsOf (flatten mode (e .required) (segmentsAt firsts sequence) addresses space) ≡ segmentsAt firsts sequence
-    back =
-        flatten-back mode (e .required) (segmentsAt firsts sequence) addresses space
-        (all-of isSegment (segmentsAt firsts sequence)
-        (λ x m. let t = mem-map-back (λ n. getD firsts n absent) sequence m in subst (λ (y : Segment). T (isSegment y)) (sym (t .2)) (getD-all isSegment firsts (t .0) absent segs absent-segment)))
+result-segment : (c : Column) → T (isSegment (asSegment c))
+unfolding isSegment asSegment aliveWords recordOf
+result-segment c = tt
 
-    go : (m : ℕ) → mode ≡ m → T (ltb m 2)
-        → joinedColumn (e .required) (segmentsAt firsts sequence) (cond (eqb m 0) (stackedFrom 0 (segmentsAt firsts sequence)) addresses)
-        ≡ joinedColumn (e .required) (segmentsAt firsts sequence) (originsIn sequence (e .origins))
-    go zero q h = ap (joinedColumn (e .required) (segmentsAt firsts sequence)) (sym (at .stacked q))
-    go (suc zero) q h = ap (joinedColumn (e .required) (segmentsAt firsts sequence)) (at .ordered q)
-    go (suc (suc m)) q h = absurd (let k : suc (suc m) < 2 = ltb→lt (suc (suc m)) 2 h in omega arith)
+result-standing : (firsts : List Segment) (e : Entry) → e .isResult ≡ true → standingOf firsts e ≡ result (oneJoin firsts (e .required) (e .sources) (e .origins))
+unfolding standingOf
+result-standing firsts e r =
+    ap (λ (b : Bool). cond b (result (oneJoin firsts (e .required) (e .sources) (e .origins))) (first (getD firsts (getD (e .sources) 0 0) absent))) r
+
+-- a result's place is one of the book's
+result-place : (book : List Entry) (k : ℕ) → getD book k noEntry .isResult ≡ true → k < length book
+result-place [] k r = absurd (false≢true r)
+result-place (e ∷ es) zero r = suc-le-suc zero-le
+result-place (e ∷ es) (suc k) r = suc-le-suc (result-place es k r)
+
+-- a result's sources are segments
+sources-laid : (firsts : List Segment) (required u : ℕ) (e : Entry) → Good firsts required u e → e .isResult ≡ true → (n : ℕ) → List·Memᴰ n (e .sources) → T (isSegment (getD firsts n absent))
+sources-laid firsts required u e good r =
+    good .laid (subst (λ (x : Standing). T (isSegment (segmentIn x))) (sym (result-standing firsts e r)) (result-segment (oneJoin firsts (e .required) (e .sources) (e .origins))))
+
+handed-firsts : (firsts : List Segment) (c : Call) → segmentsHanded c (map first firsts) ≡ segmentsAt firsts (c .handed)
+handed-firsts firsts c =
+    map-twice segmentIn (λ k. getD (map first firsts) k (first absent)) (c .handed)
+    ∙ map-mem (λ k. segmentIn (getD (map first firsts) k (first absent))) (λ k. getD firsts k absent) (c .handed) (λ k m. ap segmentIn (List·getD-map first firsts k absent))
+
+module _ (firsts : List Segment) (e : Entry) (c : Call) (laid : (n : ℕ) → List·Memᴰ n (e .sources) → T (isSegment (getD firsts n absent)))
+    (at : CallsOneJoin firsts e c) where
+  abbrev ss : List Segment
+  ss = segmentsAt firsts (c .handed)
+
+  called-laid : T (all isSegment ss)
+  called-laid =
+      all-of isSegment ss
+      (λ x m.
+      let t = mem-map-back (λ n. getD firsts n absent) (c .handed) m in
+      subst (λ (y : Segment). T (isSegment y)) (sym (t .2))
+      (laid (t .0) (elem-mem (t .0) (e .sources) (sym (elem-same (c .handed) (e .sources) (at .sequence) (t .0)) ∙ mem-elem (t .0) (c .handed) (t .1)))))
+
+  called : answer (inputOf (lentTo c ss)) ≡ 0 → joinOf (inputOf (lentTo c ss)) .column ≡ oneJoin firsts (e .required) (c .handed) (e .origins)
+  unfolding joinRules inputOf lentTo flatten rowOrder oneJoin
+  called a =
+      ap (λ (ss : List Segment). joinedColumn (c .required) ss (cond (eqb (c .mode) 0) (stackedFrom 0 ss) (c .addresses)))
+      (flatten-back (c .mode) (c .required) ss (c .addresses) (spaceOf (c .buffers)) called-laid)
+      ∙ go (c .mode) refl (all-passed (inputOf (lentTo c ss)) a .mode)
+      ∙ ap (λ (n : ℕ). joinedColumn n ss (originsIn (c .handed) (e .origins))) (at .required)
+    where
+      go : (m : ℕ) → c .mode ≡ m → T (ltb m 2)
+          → joinedColumn (c .required) ss (cond (eqb m 0) (stackedFrom 0 ss) (c .addresses)) ≡ joinedColumn (c .required) ss (originsIn (c .handed) (e .origins))
+      go zero q h = ap (joinedColumn (c .required) ss) (sym (at .stacked q))
+      go (suc zero) q h = ap (joinedColumn (c .required) ss) (at .ordered q)
+      go (suc (suc m)) q h = absurd (let k : suc (suc m) < 2 = ltb→lt (suc (suc m)) 2 h in omega arith)
+
+  gives-one-join : (n : Numbers) → callOutcome c (map first firsts) .answer ≡ accepted n
+      → readBack n (callOutcome c (map first firsts) .buffers) ≡ oneJoin firsts (e .required) (c .handed) (e .origins)
+  unfolding callOutcome callLent
+  gives-one-join n a =
+      let q : lentTo c (segmentsHanded c (map first firsts)) ≡ lentTo c ss = ap (lentTo c) (handed-firsts firsts c) in
+      let o = accepted-is (lentTo c ss) n (subst (λ (l : Lent). joinOutcome l .answer ≡ accepted n) q a) in
+      ap (λ (l : Lent). readBack n (joinOutcome l .buffers)) q ∙ o .1 ∙ called (o .0)
 
 -- ---- the claim
 
 pub joins-in-turn-agree : JoinsInTurnAgree
-unfolding JoinsInTurnAgree requiredTypes inputOf flatten
-joins-in-turn-agree firsts calls segs hands uni =
+unfolding JoinsInTurnAgree requiredTypes
+joins-in-turn-agree firsts calls hands segments uni =
     record {
       answers = ap (Book.answersOf calls) (sym start) ∙ all-agree .answers;
-      standing = ap (standsAfter calls) (sym start) ∙ all-agree .standing;
-      anySequence = λ e sequence r seq. sequence-same e sequence r seq;
-      whereCalled = λ e sequence mode addresses buffers n r seq at a.
-          let l : Lent =
-          record {
-            mode = mode;
-            required = e .required;
-            records = map recordOf (segmentsAt firsts sequence);
-            sections = sectionsOf (segmentsAt firsts sequence);
-            addresses = addresses;
-            buffers = buffers;
-          } in
-          let o = accepted-is l n a in
-          o .1 ∙ called firsts segs e sequence mode addresses (spaceOf buffers) at (o .0) ∙ sequence-same e sequence r seq;
+      standing = stands;
+      anySequence = λ k e sequence r seq. stands-at k e r ∙ ap result (sym (sequence-same k e sequence r seq));
+      whereCalled = λ k e c n r at a.
+          gives-one-join firsts e c (sources-laid firsts (pick .required) (pick .u) e (good-at k e r) (r .isResult)) at n a ∙ sequence-same k e (c .handed) r (at .sequence);
     }
   where
     pick : Chosen firsts calls
@@ -253,17 +283,34 @@ joins-in-turn-agree firsts calls segs hands uni =
     start : map (standingOf firsts) (firstEntries 0 firsts) ≡ map first firsts
     start = stand-firsts firsts 0 firsts (λ k. ap (λ (n : ℕ). getD firsts n absent) (sym (zero-add k)))
 
-    all-agree : Agreed firsts segs (pick .required) (pick .u) calls (firstEntries 0 firsts)
+    all-agree : Agreed firsts (pick .required) (pick .u) calls (firstEntries 0 firsts)
     all-agree =
-        agreed firsts segs (pick .required) (pick .u) calls (firstEntries 0 firsts)
+        agreed firsts (pick .required) (pick .u) calls (firstEntries 0 firsts)
         (good-firsts firsts (pick .required) (pick .u) (pick .uniform) 0 firsts (λ k. ap (λ (n : ℕ). getD firsts n absent) (sym (zero-add k))))
-        (subst (λ (l : List Standing). T (handsOnlyStanding calls l)) (sym start) hands)
-        (subst (λ (l : List Standing). T (all (eqb (pick .required)) (map (λ (c : Call). c .required) (acceptedFrom calls l)))) (sym start) (pick .accepted))
+        (subst (Given firsts (pick .required) (pick .u) calls) (sym start) (record { hands = hands; segments = segments; accepted = pick .accepted }))
 
-    sequence-same : (e : Entry) (sequence : List ℕ) → ResultStands firsts calls e → IsSequenceOf sequence (e .sources)
+    stands : standsAfter calls (map first firsts) ≡ map (standingOf firsts) (bookAfter firsts calls)
+    stands = ap (standsAfter calls) (sym start) ∙ all-agree .standing
+
+    place : (k : ℕ) (e : Entry) → ResultStands firsts calls k e → k < length (bookAfter firsts calls)
+    place k e r = result-place (bookAfter firsts calls) k (ap (λ (x : Entry). x .isResult) (r .stands) ∙ r .isResult)
+
+    good-at : (k : ℕ) (e : Entry) → ResultStands firsts calls k e → Good firsts (pick .required) (pick .u) e
+    good-at k e r = all-agree .goods e (Memᴰ·cast (sym (r .stands)) (mem-at (bookAfter firsts calls) k noEntry (place k e r)))
+
+    -- what stands in a result's place
+    stands-at : (k : ℕ) (e : Entry) → ResultStands firsts calls k e
+        → getD (standsAfter calls (map first firsts)) k (first absent) ≡ result (oneJoin firsts (e .required) (e .sources) (e .origins))
+    stands-at k e r =
+        ap (λ (l : List Standing). getD l k (first absent)) stands
+        ∙ getD-in (standingOf firsts) (bookAfter firsts calls) k (first absent) noEntry (place k e r)
+        ∙ ap (standingOf firsts) (r .stands)
+        ∙ result-standing firsts e (r .isResult)
+
+    sequence-same : (k : ℕ) (e : Entry) (sequence : List ℕ) → ResultStands firsts calls k e → IsSequenceOf sequence (e .sources)
         → oneJoin firsts (e .required) sequence (e .origins) ≡ oneJoin firsts (e .required) (e .sources) (e .origins)
-    sequence-same e sequence r seq =
-        let good = all-agree .goods e (r .stands) in
+    sequence-same k e sequence r seq =
+        let good = good-at k e r in
         ap (λ (n : ℕ). oneJoin firsts n sequence (e .origins)) (good .byCall (r .isResult))
         ∙ any-sequence firsts (pick .required) (pick .u) e good sequence seq
         ∙ ap (λ (n : ℕ). oneJoin firsts n (e .sources) (e .origins)) (sym (good .byCall (r .isResult)))

@@ -15,3 +15,4 @@ pub mod Double
 pub mod Pattern
 pub mod Rounded
 pub mod TimeOrder
+pub mod Reading

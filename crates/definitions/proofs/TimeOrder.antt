@@ -1,13 +1,14 @@
--- The time order by counts: it lists each alive row once, so an ordered join of the same segments accepts it, and it is what taking the first
--- of the rows that are left again and again gives. Assumes nothing.
+-- The time order by counts: it lists each alive row once, so it passes check 9 of an ordered join of the same segments; it is sorted; and it is what taking
+-- the first of the rows that are left again and again gives. Assumes nothing.
 use Prim.Native.Nat.{ℕ, zero, suc, _+_, _≤_, _<_, zero-le, suc-le-suc}
-use native.Mathlib.Nat.{le-trans, le-of-suc-le-suc, not-suc-le-zero, add-zero, zero-add, suc-add}
+use native.Mathlib.Nat.{le-trans, le-of-eq, le-of-suc-le-suc, not-suc-le-zero, add-zero, zero-add, suc-add}
 use native.Mathlib.Omega.{arith}
 use mathlib.Core.Path.{_≡_, refl, sym, ap, _∙_, subst}
 use mathlib.Core.List.{List, [], _∷_, _++_, map}
 use mathlib.Core.Bool.{Bool, true, false, not, cond, _||_, _&&_, false≢true}
 use lib.ListN.{length, getD}
 use lib.Dec.{T, eqb, ltb, ltb→lt}
+use lib.Arith.{lt-of-le-ne}
 use lib.Ieee.Bits.{is-true}
 use borrow.Author.Tests.{eq-eqb, ne-eqb, lt-ltb, ltb-true, ltb-false, eqb-true, eqb-false, not-false}
 use Rattle.definitions.specs.Lists.{upFrom, upTo, all, any, filter, count, sum, isEmpty}
@@ -15,7 +16,7 @@ use Rattle.definitions.specs.Segment.{Segment, Address, Input, segmentsO
 use Rattle.definitions.specs.Row.{isAlive, aliveRows}
 use Rattle.definitions.specs.Join.{absent, rowsOf, stackedFrom}
 use Rattle.definitions.specs.Answer.{sameAddress, isListed, isRepeated, isAliveAt, aliveAddresses, listsAliveRows, addressesWrong}
-use Rattle.definitions.specs.TimeOrder.{isBefore, insertAddress, sortAddresses, timeOrder}
+use Rattle.definitions.specs.TimeOrder.{keyOf, isBefore, insertAddress, sortAddresses, timeOrder, inOrderFrom, inTimeOrder, IsTimeOrder}
 use Rattle.definitions.proofs.Fit.{and3}
 use Rattle.definitions.proofs.Accept.{same-address}
 
@@ -274,25 +275,35 @@ count-filter p a (b ∷ bs) = go (sameAddress a b) refl (count-filter p a bs)
     go true s e = rw (s, sym (ap p (same-address a b s))) (same (p a) s e)
     go false s e = rw s (other (p b) (p a) s e)
 
-not-repeated : (bs : List Address) → ((a : Address) → count (sameAddress a) bs ≤ 1) → isRepeated bs ≡ false
-not-repeated [] h = refl
-not-repeated (b ∷ bs) h =
-    let t : suc (count (sameAddress b) bs) ≤ 1 = rw (same-self b) at (h b) in
-    let z : count (sameAddress b) bs ≡ 0 = omega arith in
-    rw (any-none (sameAddress b) bs z) (not-repeated bs (λ a. le-trans (grown (sameAddress a b) (count (sameAddress a) bs)) (h a)))
+-- no address is in the list twice
+abbrev EachOnce : List Address → Type 0
+EachOnce bs = (a : Address) → count (sameAddress a) bs ≤ 1
+
+first-once : (b : Address) (bs : List Address) → EachOnce (b ∷ bs) → count (sameAddress b) bs ≡ 0
+first-once b bs h = let t : suc (count (sameAddress b) bs) ≤ 1 = rw (same-self b) at (h b) in omega arith
+
+rest-once : (b : Address) (bs : List Address) → EachOnce (b ∷ bs) → EachOnce bs
+rest-once b bs h a = le-trans (grown (sameAddress a b) (count (sameAddress a) bs)) (h a)
   where
     grown : (t : Bool) (n : ℕ) → n ≤ cond t (suc n) n
     grown true n = omega arith
     grown false n = omega arith
 
+not-repeated : (bs : List Address) → EachOnce bs → isRepeated bs ≡ false
+not-repeated [] h = refl
+not-repeated (b ∷ bs) h = rw (any-none (sameAddress b) bs (first-once b bs h)) (not-repeated bs (rest-once b bs h))
+
 -- no alive row is there twice
-pub alive-distinct : (ss : List Segment) → isRepeated (aliveAddresses ss) ≡ false
+alive-each-once : (ss : List Segment) → EachOnce (aliveAddresses ss)
 unfolding aliveAddresses
-alive-distinct ss = not-repeated (filter (isAliveAt ss) (stackedFrom 0 ss)) (λ a. most a (isAliveAt ss a) refl)
+alive-each-once ss a = most a (isAliveAt ss a) refl
   where
     most : (a : Address) (b : Bool) → isAliveAt ss a ≡ b → count (sameAddress a) (filter (isAliveAt ss) (stackedFrom 0 ss)) ≤ 1
     most a true e = let k : count (sameAddress a) (filter (isAliveAt ss) (stackedFrom 0 ss)) ≡ 1 = count-filter (isAliveAt ss) a (stackedFrom 0 ss) ∙ ap (λ (b : Bool). cond b (count (sameAddress a) (stackedFrom 0 ss)) 0) e ∙ alive-once ss a (alive-back ss a e) in omega arith
     most a false e = let k : count (sameAddress a) (filter (isAliveAt ss) (stackedFrom 0 ss)) ≡ 0 = count-filter (isAliveAt ss) a (stackedFrom 0 ss) ∙ ap (λ (b : Bool). cond b (count (sameAddress a) (stackedFrom 0 ss)) 0) e in omega arith
+
+pub alive-distinct : (ss : List Segment) → isRepeated (aliveAddresses ss) ≡ false
+alive-distinct ss = not-repeated (aliveAddresses ss) (alive-each-once ss)
 
 pub count-order : (ss : List Segment) (a : Address) → count (sameAddress a) (timeOrder ss) ≡ cond (isAliveAt ss a) (count (sameAddress a) (stackedFrom 0 ss)) 0
 unfolding timeOrder aliveAddresses
@@ -304,19 +315,73 @@ order-once ss a e = count-order ss a ∙ ap (λ (b : Bool). cond b (count (sameA
 pub order-accepted : (ss : List Segment) → listsAliveRows ss (timeOrder ss) ≡ true
 unfolding listsAliveRows timeOrder aliveAddresses
 order-accepted ss =
-    let once : (a : Address) → count (sameAddress a) (timeOrder ss) ≤ 1 = λ a. most a (isAliveAt ss a) refl in
+    let once : EachOnce (timeOrder ss) = λ a. le-trans (le-of-eq (count-sort ss (sameAddress a) (aliveAddresses ss))) (alive-each-once ss a) in
     rw (all-sort ss (isAliveAt ss) (filter (isAliveAt ss) (stackedFrom 0 ss)) (all-filter (isAliveAt ss) (isAliveAt ss) (stackedFrom 0 ss) (λ a e. e)), not-repeated (timeOrder ss) once)
     (all-filter (isAliveAt ss) (λ a. isListed a (timeOrder ss)) (stackedFrom 0 ss) (λ a e. any-some (sameAddress a) (timeOrder ss) (let k = order-once ss a e in omega arith)))
-  where
-    most : (a : Address) (b : Bool) → isAliveAt ss a ≡ b → count (sameAddress a) (timeOrder ss) ≤ 1
-    most a true e = let k = order-once ss a e in omega arith
-    most a false e = let k : count (sameAddress a) (timeOrder ss) ≡ 0 = count-order ss a ∙ ap (λ (b : Bool). cond b (count (sameAddress a) (stackedFrom 0 ss)) 0) e in omega arith
 
 pub order-joins : (i : Input) → eqb (i .mode) 0 ≡ false → i .addresses ≡ timeOrder (segmentsOf i) → addressesWrong i ≡ false
 unfolding addressesWrong
 order-joins i m e =
     ap (λ (b : Bool). not (cond b (isEmpty (i .addresses)) (listsAliveRows (segmentsOf i) (i .addresses)))) m
     ∙ ap not (ap (listsAliveRows (segmentsOf i)) e ∙ order-accepted (segmentsOf i))
+
+-- ---- the time order is sorted
+
+both : (b c : Bool) → b && c ≡ true → (b ≡ true) × (c ≡ true)
+both true c e = (refl, e)
+both false c e = absurd (false≢true e)
+
+or-true : (b : Bool) → b || true ≡ true
+or-true true = refl
+or-true false = refl
+
+-- two that are compared by a number, and where it is the same by what comes next: if one is not before, the other is
+other-first : (k l : ℕ) (x y : Bool) → (eqb k l ≡ true → x ≡ false → y ≡ true) → ltb k l || (eqb k l && x) ≡ false → ltb l k || (eqb l k && y) ≡ true
+other-first k l x y next e = go (ltb k l) (eqb k l) refl refl e
+  where
+    go : (u v : Bool) → ltb k l ≡ u → eqb k l ≡ v → u || (v && x) ≡ false → ltb l k || (eqb l k && y) ≡ true
+    go true v p q e = absurd (false≢true (sym e))
+    go false true p q e = rw (eq-eqb l k (sym (eqb-true k l q)), next q e) (or-true (ltb l k))
+    go false false p q e = rw (lt-ltb l k (lt-of-le-ne (ltb-false k l p) (λ z. eqb-false k l q (sym z))))
+
+last-first : (r u : ℕ) → eqb r u ≡ false → ltb r u ≡ false → ltb u r ≡ true
+last-first r u d e = lt-ltb u r (lt-of-le-ne (ltb-false r u e) (λ z. eqb-false r u d (sym z)))
+
+module _ (ss : List Segment) where
+  total : (a b : Address) → sameAddress a b ≡ false → isBefore ss a b ≡ false → isBefore ss b a ≡ true
+  unfolding isBefore
+  total a b d =
+      other-first (keyOf ss a) (keyOf ss b) _ _
+      (λ _. other-first (a .segment) (b .segment) _ _ (λ q. last-first (a .row) (b .row) (subst (λ (t : Bool). t && eqb (a .row) (b .row) ≡ false) q d)))
+
+  -- after c, and after the rows in order that follow c
+  insert-from : (c a : Address) (bs : List Address) → count (sameAddress a) bs ≡ 0 → isBefore ss c a ≡ true → inOrderFrom ss c bs ≡ true → inOrderFrom ss c (insertAddress ss a bs) ≡ true
+  insert-from c a [] z h o = rw h
+  insert-from c a (b ∷ bs) z h o =
+      let d = none-head (sameAddress a b) z in
+      let o = both (isBefore ss c b) (inOrderFrom ss b bs) o in
+      go (isBefore ss a b) refl (o .0) (o .1) (λ k. insert-from b a bs (d .1) (total a b (d .0) k) (o .1))
+    where
+      go : (t : Bool) → isBefore ss a b ≡ t → isBefore ss c b ≡ true → inOrderFrom ss b bs ≡ true → (isBefore ss a b ≡ false → inOrderFrom ss b (insertAddress ss a bs) ≡ true)
+          → inOrderFrom ss c (cond t (a ∷ b ∷ bs) (b ∷ insertAddress ss a bs)) ≡ true
+      go true k l o f = rw (h, k, o)
+      go false k l o f = rw (l, f k)
+
+  insert-in-order : (a : Address) (bs : List Address) → count (sameAddress a) bs ≡ 0 → inTimeOrder ss bs ≡ true → inTimeOrder ss (insertAddress ss a bs) ≡ true
+  insert-in-order a [] z o = refl
+  insert-in-order a (b ∷ bs) z o = let d = none-head (sameAddress a b) z in go (isBefore ss a b) refl (λ k. insert-from b a bs (d .1) (total a b (d .0) k) o)
+    where
+      go : (t : Bool) → isBefore ss a b ≡ t → (isBefore ss a b ≡ false → inOrderFrom ss b (insertAddress ss a bs) ≡ true) → inTimeOrder ss (cond t (a ∷ b ∷ bs) (b ∷ insertAddress ss a bs)) ≡ true
+      go true k f = rw (k, o)
+      go false k f = f k
+
+  sort-in-order : (bs : List Address) → EachOnce bs → inTimeOrder ss (sortAddresses ss bs) ≡ true
+  sort-in-order [] h = refl
+  sort-in-order (a ∷ bs) h = insert-in-order a (sortAddresses ss bs) (count-sort ss (sameAddress a) bs ∙ first-once a bs h) (sort-in-order bs (rest-once a bs h))
+
+pub order-sorted : (ss : List Segment) → IsTimeOrder ss (timeOrder ss)
+unfolding timeOrder
+order-sorted ss = record { alive = order-accepted ss; rising = sort-in-order ss (aliveAddresses ss) (alive-each-once ss) }
 
 -- ---- how many addresses there are
 

@@ -1,31 +1,26 @@
 -- Joins in turn: at each call the book's answer is the joiner's, and what stands is what the book takes to stand. Assumes nothing.
-use Prim.Native.Nat.{ℕ, zero, suc, _+_, _≤_, _<_, zero-le, suc-le-suc}
-use native.Mathlib.Nat.{le-of-suc-le-suc, not-suc-le-zero, zero-add, add-zero, suc-add, add-suc}
+use Prim.Native.Nat.{ℕ, zero, suc, _<_}
 use mathlib.Core.Path.{_≡_, refl, sym, ap, ap₂, _∙_, subst}
-use mathlib.Core.List.{List, [], _∷_, _++_, map, List·Memᴰ, List·Memᴰ·head, List·Memᴰ·tail, List·Memᴰ·not-nil, Memᴰ·cast, List·Memᴰ·append-cases, List·Memᴰ·eq-of-singleton}
+use mathlib.Core.List.{List, [], _∷_, _++_, map, List·Memᴰ, List·Memᴰ·head, List·Memᴰ·tail, Memᴰ·cast, List·Memᴰ·append-cases, List·Memᴰ·eq-of-singleton}
 use mathlib.Core.Logic.{⊎-elim}
-use mathlib.Core.Bool.{Bool, true, false, not, cond, _||_, _&&_, false≢true}
+use mathlib.Core.Bool.{Bool, true, false, cond, false≢true}
 use lib.ListN.{length, getD, length-map}
-use lib.Dec.{T, eqb, ltb, ltb→lt, eqb→eq, eqb-refl}
-use lib.Ieee.Fits.{and-i, and-l, and-r}
-use lib.Ieee.Bits.{is-true}
-use Rattle.definitions.specs.Lists.{all, any, elem, concat}
-use Rattle.definitions.specs.Segment.{Segment, Address, Space, Input, aliveWords, segmentsOf, recordOf, sectionsOf}
-use Rattle.definitions.specs.Row.{isPresent, noType}
-use Rattle.definitions.specs.Join.{Column, Joined, absent, stackedFrom, rowOrder, joinedColumn, joinRules, asSegment}
-use Rattle.definitions.specs.Answer.{listsFit, valuesFit, allCoercible, answer, joinOf}
-use Rattle.definitions.specs.Outcome.{Buffers, Answer, accepted, refused, Outcome, numberOf, spaceOf, numbersOf, refusedBuffers, acceptedBuffers, Lent, inputOf, joinOutcome, readBack}
-use Rattle.definitions.specs.Book.{Standing, first, result, segmentIn, Call, lentTo, handedOf, leftFrom, callLent, callOutcome, callAnswer, afterAnswer, afterCall, answersOf, standsAfter, Entry, noEntry, firstEntry, firstEntries, oneJoin, standingOf, joinedEntry, bookAnswer, bookAfterCall, bookAnswersFrom, bookAfterFrom, isSegment, areDistinct, handsOnlyStanding, acceptedFrom}
+use lib.Dec.{T, eqb, ltb, ltb→lt, eqb→eq}
+use lib.Ieee.Fits.{and-l, and-r}
+use Rattle.definitions.specs.Lists.{all, elem}
+use Rattle.definitions.specs.Segment.{Segment, Input, segmentsOf}
+use Rattle.definitions.specs.Join.{Column, absent, stackedFrom, rowOrder, joinedColumn, joinRules}
+use Rattle.definitions.specs.Answer.{allCoercible, answer, joinOf}
+use Rattle.definitions.specs.Outcome.{Buffers, accepted, refused, spaceOf, numbersOf, refusedBuffers, acceptedBuffers, inputOf, joinOutcome}
+use Rattle.definitions.specs.Book.{Standing, first, result, segmentIn, Call, lentTo, handedOf, leftFrom, callLent, callOutcome, callAnswer, afterAnswer, afterCall, answersOf, standsAfter, Entry, noEntry, standingOf, joinedEntry, bookAnswer, bookAfterCall, bookAnswersFrom, bookAfterFrom, isSegment, segmentsHanded, acceptsOnlySegments, handsOnlyStanding, acceptedFrom}
 use Rattle.definitions.proofs.Sections.{flatten, flatten-back}
 use Rattle.definitions.proofs.Outcome.{read-back, number-is}
-use Rattle.definitions.proofs.Summary.{Uniform}
-use Rattle.definitions.proofs.Fit.{and3}
-use Rattle.definitions.proofs.Group.{all-mem, mem-map}
-use Rattle.definitions.proofs.Cell.{mem-at, either}
+use Rattle.definitions.proofs.Group.{all-mem}
+use Rattle.definitions.proofs.Cell.{mem-at}
 use Rattle.definitions.proofs.Accept.{Passed, all-passed, Lists, lists-order, mem-map-back}
 use Rattle.definitions.proofs.Part as P
 use Rattle.definitions.proofs.Part.{map-mem, map-twice}
-use Rattle.definitions.proofs.Entry.{getD-in, map-append, segOf, Good, good-first, partsOf, parts-segments, joined-is, good-joined}
+use Rattle.definitions.proofs.Entry.{getD-in, map-append, segOf, Good, partsOf, parts-segments, joined-is, good-joined}
 
 -- ---- lists
 
@@ -33,10 +28,6 @@ pub getD-all : {A : Type 0} (p : A → Bool) (l : List A) (k : ℕ) (d : A) → 
 getD-all p [] k d h e = e
 getD-all p (x ∷ xs) zero d h e = and-l (p x) (all p xs) h
 getD-all p (x ∷ xs) (suc k) d h e = getD-all p xs k d (and-r (p x) (all p xs) h) e
-
-all-map : {A B : Type 0} (p : B → Bool) (f : A → B) (l : List A) → ((x : A) → T (p (f x))) → T (all p (map f l))
-all-map p f [] h = tt
-all-map p f (x ∷ xs) h = and-i (p (f x)) (all p (map f xs)) (h x) (all-map p f xs h)
 
 left-map : {A B : Type 0} (f : A → B) (n : ℕ) (places : List ℕ) (l : List A) → leftFrom n places (map f l) ≡ map f (leftFrom n places l)
 left-map f n places [] = refl
@@ -81,24 +72,9 @@ after-is c standing = go (eqb (answer i) 0)
     go true = ap (λ (x : Column). leftFrom 0 (c .handed) standing ++ (result x ∷ [])) (read-back (joinOf i) b)
     go false = refl
 
-result-segment : (c : Column) → T (isSegment (asSegment c))
-unfolding isSegment asSegment aliveWords recordOf
-result-segment c = tt
-
-pub absent-segment : T (isSegment absent)
-unfolding isSegment aliveWords recordOf
-absent-segment = tt
-
-module _ (firsts : List Segment) (segs : T (all isSegment firsts)) (required u : ℕ) where
+module _ (firsts : List Segment) (required u : ℕ) where
   abbrev stand : Entry → Standing
   stand = standingOf firsts
-
-  seg-ok : (e : Entry) → T (isSegment (segOf firsts e))
-  unfolding standingOf
-  seg-ok e =
-      either (λ (x : Standing). T (isSegment (segmentIn x))) (e .isResult) (result (oneJoin firsts (e .required) (e .sources) (e .origins)))
-      (first (getD firsts (getD (e .sources) 0 0) absent)) (result-segment (oneJoin firsts (e .required) (e .sources) (e .origins)))
-      (getD-all isSegment firsts (getD (e .sources) 0 0) absent segs absent-segment)
 
   -- ---- one call
   module _ (c : Call) (book : List Entry) (goods : (e : Entry) → List·Memᴰ e book → Good firsts required u e)
@@ -116,7 +92,7 @@ module _ (firsts : List Segment) (segs : T (all isSegment firsts)) (required u :
         let t = mem-map-back (λ k. getD book k noEntry) (c .handed) m in
         goods e (Memᴰ·cast (t .2) (mem-at book (t .0) noEntry (in-range (t .0) (t .1))))
 
-    handed-same : map segmentIn (handedOf (first absent) (c .handed) (map stand book)) ≡ map (segOf firsts) es
+    handed-same : segmentsHanded c (map stand book) ≡ map (segOf firsts) es
     handed-same =
         ap (map segmentIn)
         (map-mem (λ k. getD (map stand book) k (first absent)) (λ k. stand (getD book k noEntry)) (c .handed) (λ k m. getD-in stand book k (first absent) noEntry (in-range k m))
@@ -137,24 +113,24 @@ module _ (firsts : List Segment) (segs : T (all isSegment firsts)) (required u :
     call-zero : answer input ≡ 0 → callAnswer c (map stand book) ≡ 0
     call-zero e = answer-is c (map stand book) ∙ ap answer input-same ∙ e
 
-    back : segmentsOf input ≡ map (segOf firsts) es
-    unfolding inputOf lentTo flatten
-    back = flatten-back (c .mode) (c .required) (map (segOf firsts) es) (c .addresses) (spaceOf (c .buffers)) (all-map isSegment (segOf firsts) es seg-ok)
-
     abbrev partSegments : List Segment
     partSegments = P.segmentsIn required u (partsOf firsts required u es good-es)
 
-    to-parts : map (segOf firsts) es ≡ partSegments
-    to-parts = sym (parts-segments firsts required u es good-es)
+    module _ (q : answer input ≡ 0 → c .required ≡ required) (laid : answer input ≡ 0 → T (all isSegment (map (segOf firsts) es))) where
+      -- the segments handed over are cut out of the sections again
+      back : answer input ≡ 0 → segmentsOf input ≡ partSegments
+      unfolding inputOf lentTo flatten
+      back e =
+          flatten-back (c .mode) (c .required) (map (segOf firsts) es) (c .addresses) (spaceOf (c .buffers)) (laid e)
+          ∙ sym (parts-segments firsts required u es good-es)
 
-    passed : answer input ≡ 0 → Passed input partSegments
-    passed e = subst (Passed input) (back ∙ to-parts) (all-passed input e)
+      passed : answer input ≡ 0 → Passed input partSegments
+      passed e = subst (Passed input) (back e) (all-passed input e)
 
-    column-same : joinOf input .column ≡ joinedColumn (c .required) partSegments (rowOrder (c .mode) partSegments (c .addresses))
-    unfolding joinRules inputOf lentTo
-    column-same = ap (λ (ss : List Segment). joinedColumn (c .required) ss (rowOrder (c .mode) ss (c .addresses))) (back ∙ to-parts)
+      column-same : answer input ≡ 0 → joinOf input .column ≡ joinedColumn (c .required) partSegments (rowOrder (c .mode) partSegments (c .addresses))
+      unfolding joinRules inputOf lentTo
+      column-same e = ap (λ (ss : List Segment). joinedColumn (c .required) ss (rowOrder (c .mode) ss (c .addresses))) (back e)
 
-    module _ (q : answer input ≡ 0 → c .required ≡ required) where
       lists-by : answer input ≡ 0 → Lists partSegments (cond (eqb (c .mode) 0) (stackedFrom 0 partSegments) (c .addresses))
       unfolding inputOf lentTo rowOrder
       lists-by e = lists-order input partSegments (passed e)
@@ -168,12 +144,12 @@ module _ (firsts : List Segment) (segs : T (all isSegment firsts)) (required u :
       unfolding standingOf joinedEntry rowOrder
       result-is e =
           ap result
-          (column-same
+          (column-same e
           ∙ ap (λ (n : ℕ). joinedColumn n partSegments (rowOrder (c .mode) partSegments (c .addresses))) (q e)
           ∙ joined-is firsts required u c es good-es (q e) (passed e .lists) (passed e .values) (lists-by e) (coercible-by e))
 
       new-good : answer input ≡ 0 → Good firsts required u (joinedEntry c es)
-      new-good e = good-joined firsts required u c es good-es (q e) (passed e .lists) (passed e .values) (lists-by e) (coercible-by e)
+      new-good e = good-joined firsts required u c es good-es (q e) (passed e .lists) (passed e .values) (lists-by e) (coercible-by e) (laid e)
 
       zero-of : eqb (answer input) 0 ≡ true → answer input ≡ 0
       zero-of e = eqb→eq (answer input) 0 (subst T (sym e) tt)
@@ -223,15 +199,20 @@ module _ (firsts : List Segment) (segs : T (all isSegment firsts)) (required u :
     pub standing : standsAfter calls (map stand book) ≡ map stand (bookAfterFrom firsts calls book)
     pub goods : (e : Entry) → List·Memᴰ e (bookAfterFrom firsts calls book) → Good firsts required u e
 
+  -- what is assumed of the calls, from what stands
+  pub record Given (calls : List Call) (standing : List Standing) : Type 0 where
+    pub hands : T (handsOnlyStanding calls standing)
+    pub segments : T (acceptsOnlySegments calls standing)
+    pub accepted : T (all (eqb required) (map (λ (c : Call). c .required) (acceptedFrom calls standing)))
+
   -- one call, and the rest
   joined-on : (c : Call) (cs : List Call) (book : List Entry) (goods : (e : Entry) → List·Memᴰ e book → Good firsts required u e)
       (range : T (all (λ k. ltb k (length (map stand book))) (c .handed))) (q : answer (input c book goods range) ≡ 0 → c .required ≡ required)
-      → ((b : List Entry) → ((e : Entry) → List·Memᴰ e b → Good firsts required u e) → T (handsOnlyStanding cs (map stand b))
-      → T (all (eqb required) (map (λ (c : Call). c .required) (acceptedFrom cs (map stand b)))) → Agreed cs b)
-      → T (handsOnlyStanding cs (afterCall c (map stand book)))
-      → T (all (eqb required) (map (λ (c : Call). c .required) (acceptedFrom cs (afterCall c (map stand book)))))
+      (laid : answer (input c book goods range) ≡ 0 → T (all isSegment (map (segOf firsts) (es c book goods range))))
+      → ((b : List Entry) → ((e : Entry) → List·Memᴰ e b → Good firsts required u e) → Given cs (map stand b) → Agreed cs b)
+      → Given cs (afterCall c (map stand book))
       → Agreed (c ∷ cs) book
-  joined-on c cs book goods range q ih h k =
+  joined-on c cs book goods range q laid ih g =
       record {
         answers = ap₂ (λ (n : ℕ) (l : List ℕ). n ∷ l) (answer-same c book goods range) (ap (answersOf cs) after ∙ rest .answers);
         standing = ap (standsAfter cs) after ∙ rest .standing;
@@ -239,20 +220,36 @@ module _ (firsts : List Segment) (segs : T (all isSegment firsts)) (required u :
       }
     where
       after : afterCall c (map stand book) ≡ map stand (bookAfterCall firsts c book)
-      after = after-same c book goods range q
+      after = after-same c book goods range q laid
 
       rest : Agreed cs (bookAfterCall firsts c book)
-      rest =
-          ih (bookAfterCall firsts c book) (goods-after c book goods range q) (subst (λ (l : List Standing). T (handsOnlyStanding cs l)) after h)
-          (subst (λ (l : List Standing). T (all (eqb required) (map (λ (c : Call). c .required) (acceptedFrom cs l)))) after k)
+      rest = ih (bookAfterCall firsts c book) (goods-after c book goods range q laid) (subst (Given cs) after g)
 
-  pub agreed : (calls : List Call) (book : List Entry) → ((e : Entry) → List·Memᴰ e book → Good firsts required u e)
-      → T (handsOnlyStanding calls (map stand book))
-      → T (all (eqb required) (map (λ (c : Call). c .required) (acceptedFrom calls (map stand book))))
-      → Agreed calls book
-  agreed [] book goods h k = record { answers = refl; standing = refl; goods = goods }
-  agreed (c ∷ cs) book goods h k =
-      let hs = and3 (all (λ k. ltb k (length (map stand book))) (c .handed)) (areDistinct (c .handed)) (handsOnlyStanding cs (afterCall c (map stand book))) h in
-      let ks = accepted-head c (eqb (callAnswer c (map stand book)) 0) (acceptedFrom cs (afterCall c (map stand book))) k in
-      joined-on c cs book goods (hs .0) (λ e. ks .0 (ap (λ (n : ℕ). eqb n 0) (call-zero c book goods (hs .0) e)))
-      (λ b g x y. agreed cs b g x y) (hs .2) (ks .1)
+  pub agreed : (calls : List Call) (book : List Entry) → ((e : Entry) → List·Memᴰ e book → Good firsts required u e) → Given calls (map stand book) → Agreed calls book
+  agreed [] book goods g = record { answers = refl; standing = refl; goods = goods }
+  agreed (c ∷ cs) book goods g =
+      joined-on c cs book goods range (λ e. types .0 (accepts e)) (λ e. subst (λ (ss : List Segment). T (all isSegment ss)) (handed-same c book goods range) (laid e))
+      (λ b h k. agreed cs b h k)
+      (record {
+        hands = and-r (all (λ k. ltb k (length (map stand book))) (c .handed)) (handsOnlyStanding cs (afterCall c (map stand book))) (g .hands);
+        segments = and-r (segmentsIf (eqb (callAnswer c (map stand book)) 0)) (acceptsOnlySegments cs (afterCall c (map stand book))) (g .segments);
+        accepted = types .1;
+      })
+    where
+      range : T (all (λ k. ltb k (length (map stand book))) (c .handed))
+      range = and-l (all (λ k. ltb k (length (map stand book))) (c .handed)) (handsOnlyStanding cs (afterCall c (map stand book))) (g .hands)
+
+      accepts : answer (input c book goods range) ≡ 0 → eqb (callAnswer c (map stand book)) 0 ≡ true
+      accepts e = ap (λ (n : ℕ). eqb n 0) (call-zero c book goods range e)
+
+      types : (eqb (callAnswer c (map stand book)) 0 ≡ true → c .required ≡ required)
+          × T (all (eqb required) (map (λ (c : Call). c .required) (acceptedFrom cs (afterCall c (map stand book)))))
+      types = accepted-head c (eqb (callAnswer c (map stand book)) 0) (acceptedFrom cs (afterCall c (map stand book))) (g .accepted)
+
+      segmentsIf : Bool → Bool
+      segmentsIf b = cond b (all isSegment (segmentsHanded c (map stand book))) true
+
+      laid : answer (input c book goods range) ≡ 0 → T (all isSegment (segmentsHanded c (map stand book)))
+      laid e =
+          subst (λ (b : Bool). T (segmentsIf b)) (accepts e)
+          (and-l (segmentsIf (eqb (callAnswer c (map stand book)) 0)) (acceptsOnlySegments cs (afterCall c (map stand book))) (g .segments))

@@ -1,8 +1,8 @@
 -- Joins in turn: what stands after a list of joins, the book of sources and origins, and the claim that both agree (document 01, "Weeks joined in turn").
 -- The statement; its proof is proofs/Demand.antt. Assumes nothing.
-use Prim.Native.Nat.{ℕ, zero, suc, _+_}
+use Prim.Native.Nat.{ℕ, suc}
 use mathlib.Core.Path.{_≡_}
-use mathlib.Core.List.{List, [], _∷_, _++_, map, List·Memᴰ}
+use mathlib.Core.List.{List, [], _∷_, _++_, map}
 use mathlib.Core.Bool.{Bool, true, false, _&&_, _||_, cond, not}
 use lib.ListN.{length, getD}
 use lib.Dec.{T, eqb, ltb}
@@ -57,8 +57,12 @@ abbrev pub segmentIn : Standing → Segment
 segmentIn (first s) = s
 segmentIn (result c) = asSegment c
 
+-- the segments that a call is handed
+abbrev pub segmentsHanded : Call → List Standing → List Segment
+segmentsHanded c standing = map segmentIn (handedOf (first absent) (c .handed) standing)
+
 unfoldable pub callLent : Call → List Standing → Lent
-callLent c standing = lentTo c (map segmentIn (handedOf (first absent) (c .handed) standing))
+callLent c standing = lentTo c (segmentsHanded c standing)
 
 -- what the joiner gives and leaves
 unfoldable pub callOutcome : Call → List Standing → Outcome
@@ -172,17 +176,16 @@ bookAfter firsts calls = bookAfterFrom firsts calls (firstEntries 0 firsts)
 unfoldable pub isSegment : Segment → Bool
 isSegment s = eqb (length (s .alive)) (aliveWords (recordOf s))
 
-abbrev pub areDistinct : List ℕ → Bool
-areDistinct [] = true
-areDistinct (n ∷ ns) = not (elem n ns) && areDistinct ns
+-- an accepted call is handed segments. Nothing is asked of what a refused call is handed, nor of a first segment that no call is handed; a result is one always
+abbrev pub acceptsOnlySegments : List Call → List Standing → Bool
+acceptsOnlySegments [] standing = true
+acceptsOnlySegments (c ∷ cs) standing =
+    cond (eqb (callAnswer c standing) 0) (all isSegment (segmentsHanded c standing)) true && acceptsOnlySegments cs (afterCall c standing)
 
--- each call is handed entries that stand, each at most once
+-- each call is handed entries that stand. Document 01's "each at most once" is not needed: the claim holds without it
 abbrev pub handsOnlyStanding : List Call → List Standing → Bool
 handsOnlyStanding [] standing = true
-handsOnlyStanding (c ∷ cs) standing =
-    all (λ k. ltb k (length standing)) (c .handed)
-    && areDistinct (c .handed)
-    && handsOnlyStanding cs (afterCall c standing)
+handsOnlyStanding (c ∷ cs) standing = all (λ k. ltb k (length standing)) (c .handed) && handsOnlyStanding cs (afterCall c standing)
 
 abbrev pub acceptedFrom : List Call → List Standing → List Call
 acceptedFrom [] standing = []
@@ -209,51 +212,42 @@ isUniform firsts calls =
 abbrev pub IsSequenceOf : List ℕ → List ℕ → Type 0
 IsSequenceOf xs ys = (n : ℕ) → count (eqb n) xs ≡ count (eqb n) ys
 
--- an entry of the book that a join made and that stands at the end
-pub record ResultStands (firsts : List Segment) (calls : List Call) (e : Entry) : Type 0 where
-  pub stands : List·Memᴰ e (bookAfter firsts calls)
+-- an entry of the book that a join made and that stands at place k at the end (`noEntry` is no result, so the place is there)
+pub record ResultStands (firsts : List Segment) (calls : List Call) (k : ℕ) (e : Entry) : Type 0 where
+  pub stands : getD (bookAfter firsts calls) k noEntry ≡ e
   pub isResult : e .isResult ≡ true
 
--- the one join, called with its sources in a sequence: ordered, or stacked if the origins are the sources' rows one after another
-pub record CalledAt (firsts : List Segment) (e : Entry) (sequence : List ℕ) (mode : ℕ) (addresses : List Address) : Type 0 where
-  pub ordered : mode ≡ 1 → addresses ≡ originsIn sequence (e .origins)
-  pub stacked : mode ≡ 0 → originsIn sequence (e .origins) ≡ stackedFrom 0 (segmentsAt firsts sequence)
-
-abbrev pub oneCall : List Segment → Entry → List ℕ → ℕ → List Address → Buffers → Outcome
-oneCall firsts e sequence mode addresses buffers =
-    joinOutcome
-    (record {
-      mode = mode;
-      required = e .required;
-      records = map recordOf (segmentsAt firsts sequence);
-      sections = sectionsOf (segmentsAt firsts sequence);
-      addresses = addresses;
-      buffers = buffers;
-    })
+-- a call of the one join, on the first segments: the sources in any sequence, ordered, or stacked if the origins are the sources' rows one after another
+pub record CallsOneJoin (firsts : List Segment) (e : Entry) (c : Call) : Type 0 where
+  pub sequence : IsSequenceOf (c .handed) (e .sources)
+  pub required : c .required ≡ e .required
+  pub ordered : c .mode ≡ 1 → c .addresses ≡ originsIn (c .handed) (e .origins)
+  pub stacked : c .mode ≡ 0 → originsIn (c .handed) (e .origins) ≡ stackedFrom 0 (segmentsAt firsts (c .handed))
 
 pub record JoinedInTurn (firsts : List Segment) (calls : List Call) : Type 0 where
   -- every answer is the book's
   pub answers : answersOf calls (map first firsts) ≡ bookAnswers firsts calls
   -- what stands is what the book takes to stand: each result is the one join of its sources. (One that was handed on later stands after a shorter list.)
   pub standing : standsAfter calls (map first firsts) ≡ map (standingOf firsts) (bookAfter firsts calls)
-  -- the sources may be taken in any sequence
+  -- and it is the one join of them in any sequence
   pub anySequence :
-      (e : Entry) (sequence : List ℕ) → ResultStands firsts calls e → IsSequenceOf sequence (e .sources)
-      → oneJoin firsts (e .required) sequence (e .origins) ≡ oneJoin firsts (e .required) (e .sources) (e .origins)
+      (k : ℕ) (e : Entry) (sequence : List ℕ)
+      → ResultStands firsts calls k e
+      → IsSequenceOf sequence (e .sources)
+      → getD (standsAfter calls (map first firsts)) k (first absent) ≡ result (oneJoin firsts (e .required) sequence (e .origins))
   -- where the one join is also called and accepted, the call gives that column too
   pub whereCalled :
-      (e : Entry) (sequence : List ℕ) (mode : ℕ) (addresses : List Address) (buffers : Buffers) (n : Numbers)
-      → ResultStands firsts calls e
-      → IsSequenceOf sequence (e .sources)
-      → CalledAt firsts e sequence mode addresses
-      → oneCall firsts e sequence mode addresses buffers .answer ≡ accepted n
-      → readBack n (oneCall firsts e sequence mode addresses buffers .buffers) ≡ oneJoin firsts (e .required) (e .sources) (e .origins)
+      (k : ℕ) (e : Entry) (c : Call) (n : Numbers)
+      → ResultStands firsts calls k e
+      → CallsOneJoin firsts e c
+      → callOutcome c (map first firsts) .answer ≡ accepted n
+      → readBack n (callOutcome c (map first firsts) .buffers) ≡ oneJoin firsts (e .required) (e .sources) (e .origins)
 
 -- demand 3
 unfoldable pub JoinsInTurnAgree : Type 0
 JoinsInTurnAgree =
     (firsts : List Segment) (calls : List Call)
-    → T (all isSegment firsts)
     → T (handsOnlyStanding calls (map first firsts))
+    → T (acceptsOnlySegments calls (map first firsts))
     → T (isUniform firsts calls)
     → JoinedInTurn firsts calls

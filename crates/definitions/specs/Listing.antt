@@ -4,6 +4,7 @@ use Prim.Native.Nat.{ℕ, zero, suc, _+_, _/_, _%_}
 use Prim.Native.Char.{code}
 use Prim.Native.String.{String, [] as []ˢ, _∷_ as _∷ˢ_}
 use mathlib.Core.List.{List, [], _∷_, _++_}
+use mathlib.Core.Path.{_≡_}
 use mathlib.Core.Bool.{cond}
 use lib.ListN.{length, take}
 use lib.Dec.{ltb}
@@ -132,3 +133,7 @@ listing o = answerText (o .buffers) (o .answer)
 -- what the joining program writes for the bytes that it reads
 unfoldable pub reply : List ℕ → List ℕ
 reply bytes = cond (bytesFit bytes) (listing (joinOutcome (lentBy bytes))) (valueLine answerName 2)
+
+-- the first n bytes of an input of any length are enough to give its reply: true of every n above mostBytes (proofs/Reading)
+abbrev pub Enough : ℕ → Type 0
+Enough n = (bytes : List ℕ) → reply (take n bytes) ≡ reply bytes

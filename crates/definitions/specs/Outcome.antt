@@ -6,7 +6,7 @@ use mathlib.Core.Bool.{Bool, true, false, cond}
 use lib.ListN.{length, take, drop, replicate}
 use lib.Dec.{eqb}
 use Rattle.definitions.specs.Lists.{concat}
-use Rattle.definitions.specs.Segment.{SegmentRecord, Sections, Address, Input, Space, cut}
+use Rattle.definitions.specs.Segment.{SegmentRecord, Sections, Address, Input, Space, recordFrom, addressFrom, cut}
 use Rattle.definitions.specs.Join.{Column, Joined}
 use Rattle.definitions.specs.Answer.{answer, joinOf}
 
@@ -67,6 +67,18 @@ pub record Lent : Type 0 where
   pub sections : Sections
   pub addresses : List Address
   pub buffers : Buffers
+
+-- mode, required type, records of eight numbers, the six sections, addresses of two numbers, and the memory
+abbrev pub lentOf : ℕ → ℕ → List (List ℕ) → List ℕ → List ℕ → List ℕ → List ℕ → List ℕ → List ℕ → List (List ℕ) → Buffers → Lent
+lentOf mode required records ids offsets values termLengths termBytes alive addresses buffers =
+    record {
+      mode = mode;
+      required = required;
+      records = map recordFrom records;
+      sections = record { ids = ids; offsets = offsets; values = values; termLengths = termLengths; termBytes = termBytes; alive = alive };
+      addresses = map addressFrom addresses;
+      buffers = buffers;
+    }
 
 -- the input of a call: its space is what the lent memory has
 unfoldable pub inputOf : Lent → Input

@@ -1,26 +1,20 @@
 -- What the joining program writes for C1, C2, C6, for refusals, and for inputs that are cut, too long or too wide: one table, proved by one
--- computation. Assumes nothing.
-use Prim.Native.Nat.{ℕ, zero, suc, _/_, _%_}
+-- computation; and what the program lends. Assumes nothing.
+use Prim.Native.Nat.{ℕ, zero, suc, _+_, _*_, _/_, _%_}
 use mathlib.Core.Path.{_≡_, refl}
 use Prim.Native.String.{String}
 use mathlib.Core.List.{List, [], _∷_, _++_, map}
-use lib.ListN.{take}
-use lib.Ieee.{ofInt, toBits}
-use Rattle.definitions.specs.Lists.{concat, upTo}
-use Rattle.definitions.specs.Segment.{aliveWords, firstSegment, afterFirst, segmentsOf}
-use Rattle.definitions.specs.Row.{rowValues, bitAt, isAlive, aliveRows, isDropped, isHeld, heldOf, asEmpty, effective}
-use Rattle.definitions.specs.Types.{isKnownType, isNumerical, hasTerms, sameCategory, hasType, everyValue, onlyType, numericalType, typeOf, signedOf, integerOf, doubleOf, coerced, isCoercible}
-use Rattle.definitions.specs.Class.{kindClass, aliveClass, classOf, greatestClass}
-use Rattle.definitions.specs.Join.{rowOrder, isUsed, keptTerms, termsOf, ordinalOf, mapOf, newWord, cellOf, encode, joinedType, joinedClass, joinedCells, joinedColumn, joinRules}
-use Rattle.definitions.specs.Answer.{tooManySegments, lengthsWrong, codesKnown, noColumnIsBare, segmentCodesWrong, codesWrong, idsFit, offsetsFit, emptyFits, fullFits, optionalFits, oldFits, newFits, listsFit, listsWrong, valuesFit, valuesWrong, bitPastRows, aliveWrong, sumsTooLarge, workingTooSmall, isAliveAt, aliveAddresses, listsAliveRows, addressesWrong, presentTypes, oneCategory, allCoercible, typesWrong, outputTooShort, answer}
-use Rattle.definitions.specs.Outcome.{spaceOf, numbersOf, refusedBuffers, acceptedBuffers, inputOf, joinOutcome, readBack}
-use Rattle.definitions.specs.Wire.{wordsIn, wordsOf, sectionsBy, wordSections, endsFrom, allBelow, widthsFit, wordsFit, wholeWords, bytesFit, grouped, recordGroups, addressGroups, programBuffers, lentFrom, lentBy}
+use lib.ListN.{length, take, replicate}
+use Rattle.definitions.specs.Lists.{concat, allBelow}
+use Rattle.definitions.specs.Outcome.{spaceOf}
+use Rattle.definitions.specs.Wire.{wordsIn, wordsOf, sectionsBy, wordSections, endsFrom, widthsFit, wordsFit, wholeWords, bytesFit, grouped, recordGroups, addressGroups, programBuffers, lentFrom, lentBy}
 use Rattle.definitions.specs.Listing.{text, decimal, hexadecimal, termText, numbersText, termsText, valueLine, listLine, termsLine, numbersPart, listsPart, termsPart, acceptedText, columnText, listing, reply}
+use Rattle.definitions.specs.Sheet.{outcomeOf}
 
--- every definition is opened here, once
-written : List ℕ → List ℕ
-unfolding ofInt toBits aliveWords firstSegment afterFirst segmentsOf rowValues bitAt isAlive aliveRows isDropped isHeld heldOf asEmpty effective isKnownType isNumerical hasTerms sameCategory hasType everyValue onlyType numericalType typeOf signedOf integerOf doubleOf coerced isCoercible kindClass aliveClass classOf greatestClass rowOrder isUsed keptTerms termsOf ordinalOf mapOf newWord cellOf encode joinedType joinedClass joinedCells joinedColumn joinRules tooManySegments lengthsWrong codesKnown noColumnIsBare segmentCodesWrong codesWrong idsFit offsetsFit emptyFits fullFits optionalFits oldFits newFits listsFit listsWrong valuesFit valuesWrong bitPastRows aliveWrong sumsTooLarge workingTooSmall isAliveAt aliveAddresses listsAliveRows addressesWrong presentTypes oneCategory allCoercible typesWrong outputTooShort answer spaceOf numbersOf refusedBuffers acceptedBuffers inputOf joinOutcome readBack wordsIn wordsOf sectionsBy wordSections endsFrom allBelow widthsFit wordsFit wholeWords bytesFit grouped recordGroups addressGroups programBuffers lentFrom lentBy decimal hexadecimal termText numbersText termsText valueLine listLine termsLine numbersPart listsPart termsPart acceptedText columnText listing reply
-written bytes = reply bytes
+-- the definitions of the input and of the listing are opened here, and those of the join with outcomeOf
+printed : List ℕ → List ℕ
+unfolding outcomeOf wordsIn wordsOf sectionsBy wordSections endsFrom allBelow widthsFit wordsFit wholeWords bytesFit grouped recordGroups addressGroups programBuffers lentFrom lentBy decimal hexadecimal termText numbersText termsText valueLine listLine termsLine numbersPart listsPart termsPart acceptedText columnText listing reply
+printed bytes = reply bytes
 
 -- n as k bytes, the lowest first
 bytesOf : ℕ → ℕ → List ℕ
@@ -78,9 +72,35 @@ strange =
 number : ℕ → ℕ → List ℕ
 number required w = 2 ∷ 0 ∷ required ∷ 1 ∷ 1 ∷ 1 ∷ 1 ∷ 0 ∷ 0 ∷ 1 ∷ 0 ∷ 0 ∷ 0 ∷ 0 ∷ 1 ∷ w ∷ 0 ∷ 0 ∷ 0 ∷ 0 ∷ []
 
--- ordered, no column of n rows, each of them listed: with n rows the input has 8 * (19 + 2 * n) bytes
-rows : ℕ → List ℕ
-rows n = 2 ∷ 1 ∷ 255 ∷ 1 ∷ 255 ∷ 0 ∷ n ∷ 0 ∷ 0 ∷ 0 ∷ 0 ∷ 0 ∷ 0 ∷ 0 ∷ 0 ∷ 0 ∷ 0 ∷ 0 ∷ n ∷ concat (map (λ (r : ℕ). 0 ∷ r ∷ []) (upTo n))
+-- U64 kind 4, 4 rows, ids 1 3, offsets 0 2 3, values 7 8 9
+kinds : List ℕ
+kinds = 2 ∷ 0 ∷ 255 ∷ 1 ∷ 1 ∷ 4 ∷ 4 ∷ 2 ∷ 3 ∷ 3 ∷ 0 ∷ 0 ∷ 2 ∷ 1 ∷ 3 ∷ 3 ∷ 0 ∷ 2 ∷ 3 ∷ 3 ∷ 7 ∷ 8 ∷ 9 ∷ 0 ∷ 0 ∷ 0 ∷ 0 ∷ []
+
+-- ordered, U64 Full 5 6 and 7, as the addresses say
+both : List ℕ → List ℕ
+both addresses =
+    (2 ∷ 1 ∷ 255 ∷ 2 ∷ 1 ∷ 1 ∷ 2 ∷ 0 ∷ 0 ∷ 2 ∷ 0 ∷ 0 ∷ 1 ∷ 1 ∷ 1 ∷ 0 ∷ 0 ∷ 1 ∷ 0 ∷ 0 ∷ 0 ∷ 0 ∷ 3 ∷ 5 ∷ 6 ∷ 7 ∷ 0 ∷ 0 ∷ 0 ∷ 3 ∷ []) ++ addresses
+
+-- U64 Optional, 1 row, the id as given
+listed : ℕ → List ℕ
+listed id = 2 ∷ 0 ∷ 255 ∷ 1 ∷ 1 ∷ 2 ∷ 1 ∷ 1 ∷ 0 ∷ 1 ∷ 0 ∷ 0 ∷ 1 ∷ id ∷ 0 ∷ 1 ∷ 5 ∷ 0 ∷ 0 ∷ 0 ∷ 0 ∷ []
+
+-- U64 kind 3, 1 row, the last offset as given
+upOffset : ℕ → List ℕ
+upOffset offset = 2 ∷ 0 ∷ 255 ∷ 1 ∷ 1 ∷ 3 ∷ 1 ∷ 0 ∷ 2 ∷ 1 ∷ 0 ∷ 0 ∷ 0 ∷ 2 ∷ 0 ∷ offset ∷ 1 ∷ 5 ∷ 0 ∷ 0 ∷ 0 ∷ 0 ∷ []
+
+-- ordered, no column of n rows, with an alive set of one word or without one, and one address
+onlyRows : ℕ → List ℕ → ℕ → ℕ → List ℕ
+onlyRows n words s r =
+    (2 ∷ 1 ∷ 255 ∷ 1 ∷ 255 ∷ 0 ∷ n ∷ 0 ∷ 0 ∷ 0 ∷ 0 ∷ length words ∷ 0 ∷ 0 ∷ 0 ∷ 0 ∷ 0 ∷ length words ∷ []) ++ (words ++ (1 ∷ s ∷ r ∷ []))
+
+-- 257 records of no column, and a term length that none of them announces
+many : ℕ → List ℕ
+many n = (2 ∷ 0 ∷ 255 ∷ 257 ∷ []) ++ (concat (replicate 257 (255 ∷ 0 ∷ 0 ∷ 0 ∷ 0 ∷ 0 ∷ 0 ∷ 0 ∷ [])) ++ (0 ∷ 0 ∷ 0 ∷ 1 ∷ n ∷ 0 ∷ 0 ∷ 0 ∷ []))
+
+-- type 6, of n rows and n values, all 0: 8 * (19 + n) bytes
+long : ℕ → List ℕ
+long n = input (2 ∷ 0 ∷ 255 ∷ 1 ∷ 6 ∷ 1 ∷ n ∷ 0 ∷ 0 ∷ n ∷ 0 ∷ 0 ∷ 0 ∷ 0 ∷ n ∷ []) ++ replicate (8 * (n + 4)) 0
 
 -- ---- the table
 
@@ -96,27 +116,65 @@ replies =
     ∷ case (input strange) "answer 0\ntype 4\nclass 0\nrows 2\nids 0\noffsets 0\nvalues 2 1 0\nterms 2 - 00090aff\nmaps 2 0 1\n"
     -- the greatest word
     ∷ case (input (number 255 0xffffffffffffffff)) "answer 0\ntype 1\nclass 0\nrows 1\nids 0\noffsets 0\nvalues 1 18446744073709551615\nterms 0\nmaps 0\n"
-    -- C11's refusal, and one by the table's first check of a record
+    -- C11's refusal, and that of an unknown required type
     ∷ case (input (number 0 9223372036854775808)) "answer 10\n"
     ∷ case (input (number 6 5)) "answer 3\n"
-    -- few rows are accepted; the same with too many bytes is not
-    ∷ case (input (rows 2)) "answer 0\ntype 255\nclass 0\nrows 2\nids 0\noffsets 0\nvalues 0\nterms 0\nmaps 0\n"
-    ∷ case (input (rows 4087)) "answer 2\n"
+    -- the record's eight numbers in their order, together with C1 and C6; an address's two
+    ∷ case (input kinds) "answer 0\ntype 1\nclass 2\nrows 4\nids 2 1 3\noffsets 3 0 2 3\nvalues 3 7 8 9\nterms 0\nmaps 0\n"
+    ∷ case (input (both (1 ∷ 0 ∷ 0 ∷ 1 ∷ 0 ∷ 0 ∷ []))) "answer 0\ntype 1\nclass 0\nrows 3\nids 0\noffsets 0\nvalues 3 7 6 5\nterms 0\nmaps 0\n"
+    -- numbers of two and three digits
+    ∷ case (input (number 255 10)) "answer 0\ntype 1\nclass 0\nrows 1\nids 0\noffsets 0\nvalues 1 10\nterms 0\nmaps 0\n"
+    ∷ case (input (number 255 109)) "answer 0\ntype 1\nclass 0\nrows 1\nids 0\noffsets 0\nvalues 1 109\nterms 0\nmaps 0\n"
+    -- 65,536 bytes are taken, and refused for the type; a byte or a word more gives 2
+    ∷ case (long 8173) "answer 3\n"
+    ∷ case (long 8173 ++ (0 ∷ [])) "answer 2\n"
+    ∷ case (long 8174) "answer 2\n"
+    -- 65,536 working bytes are lent: enough for as many rows, which the address is not among, and not for one more
+    ∷ case (input (onlyRows 65536 [] 0 65536)) "answer 9\n"
+    ∷ case (input (onlyRows 65537 [] 0 65536)) "answer 8\n"
     -- no bytes; a byte or a word short; a byte or a word too many
     ∷ case [] "answer 2\n"
     ∷ case (take 295 (input one)) "answer 2\n"
     ∷ case (take 288 (input one)) "answer 2\n"
     ∷ case (input one ++ (0 ∷ [])) "answer 2\n"
     ∷ case (input (one ++ (0 ∷ []))) "answer 2\n"
-    -- a first count other than 2, and counts whose product with 8 is 0 in 64 bits
+    -- a first count other than 2, and a count whose product with 8 is 0 in 64 bits
     ∷ case (input (3 ∷ 0 ∷ 255 ∷ 0 ∷ 0 ∷ 0 ∷ 0 ∷ 0 ∷ 0 ∷ 0 ∷ 0 ∷ 0 ∷ [])) "answer 2\n"
     ∷ case (input (1 ∷ 0 ∷ 0 ∷ 0 ∷ 0 ∷ 0 ∷ 0 ∷ 0 ∷ 0 ∷ 0 ∷ [])) "answer 2\n"
     ∷ case (input (2 ∷ 0 ∷ 255 ∷ 0x2000000000000000 ∷ 0 ∷ 0 ∷ 0 ∷ 0 ∷ 0 ∷ 0 ∷ 0 ∷ [])) "answer 2\n"
-    -- a required type of 33 bits, a term byte of 9
+    -- addresses that are cut
+    ∷ case (input (both (1 ∷ 0 ∷ 0 ∷ 1 ∷ 0 ∷ []))) "answer 2\n"
+    -- a number of 33 bits where 32 are the width: mode, required type, rows, a row id, an offset, an address's segment and row
+    ∷ case (input (2 ∷ 0x100000000 ∷ 255 ∷ 0 ∷ 0 ∷ 0 ∷ 0 ∷ 0 ∷ 0 ∷ 0 ∷ 0 ∷ [])) "answer 2\n"
     ∷ case (input (number 0x1000000ff 5)) "answer 2\n"
+    ∷ case (input (onlyRows 0x100000000 [] 0 0)) "answer 2\n"
+    ∷ case (input (listed 0x100000000)) "answer 2\n"
+    ∷ case (input (upOffset 0x100000000)) "answer 2\n"
+    ∷ case (input (onlyRows 1 [] 0x100000000 0)) "answer 2\n"
+    ∷ case (input (onlyRows 1 [] 0 0x100000000)) "answer 2\n"
+    -- a term length of 33 bits, before the check of the number of segments, and one of 32
+    ∷ case (input (many 0x100000000)) "answer 2\n"
+    ∷ case (input (many 0xffffffff)) "answer 1\n"
+    -- the widest numbers are taken, and the table refuses them
+    ∷ case (input (2 ∷ 0xffffffff ∷ 255 ∷ 0 ∷ 0 ∷ 0 ∷ 0 ∷ 0 ∷ 0 ∷ 0 ∷ 0 ∷ [])) "answer 3\n"
+    ∷ case (input (onlyRows 0xffffffff [] 0 0)) "answer 7\n"
+    ∷ case (input (listed 0xffffffff)) "answer 4\n"
+    ∷ case (input (upOffset 0xffffffff)) "answer 4\n"
+    ∷ case (input (onlyRows 1 [] 0xffffffff 0)) "answer 9\n"
+    -- an alive word may have more than 32 bits
+    ∷ case (input (onlyRows 33 (0x100000000 ∷ []) 0 32)) "answer 0\ntype 255\nclass 0\nrows 1\nids 0\noffsets 0\nvalues 0\nterms 0\nmaps 0\n"
+    -- a term byte of 9 bits
     ∷ case (input (2 ∷ 0 ∷ 255 ∷ 1 ∷ 4 ∷ 1 ∷ 1 ∷ 0 ∷ 0 ∷ 1 ∷ 1 ∷ 0 ∷ 0 ∷ 0 ∷ 1 ∷ 0 ∷ 1 ∷ 1 ∷ 1 ∷ 256 ∷ 0 ∷ 0 ∷ [])) "answer 2\n"
     ∷ []
 
-replies-hold : map (λ c. written (c .bytes)) replies ≡ map (λ c. c .text) replies
-unfolding written bytesOf input case one two six strange number rows replies
+replies-hold : map (λ c. printed (c .bytes)) replies ≡ map (λ c. c .text) replies
+unfolding printed bytesOf input case one two six strange number kinds both listed upOffset onlyRows many long replies
 replies-hold = refl
+
+-- ---- what the program lends: 65,536 working bytes and 8,192 elements of each output list. An input of 65,536 bytes has fewer than 8,192 words beside
+-- its counts, so no reply shows that more elements are not lent
+
+lends-hold :
+    spaceOf programBuffers ≡ record { working = 65536; ids = 8192; offsets = 8192; values = 8192; termLengths = 8192; termBytes = 8192; map = 8192 }
+unfolding spaceOf programBuffers
+lends-hold = refl

@@ -1,6 +1,7 @@
 -- The time order of the alive rows, and its answers (document 01, "Time order"). Assumes nothing.
 use Prim.Native.Nat.{ℕ, zero, suc, _+_, _%_, _^_}
 use mathlib.Core.List.{List, [], _∷_, _++_, map}
+use mathlib.Core.Path.{_≡_}
 use mathlib.Core.Bool.{Bool, true, false, _&&_, _||_, cond, not}
 use lib.ListN.{length, getD}
 use lib.Dec.{eqb, ltb, leb}
@@ -9,7 +10,7 @@ use Rattle.definitions.specs.Segment.{Segment, SegmentRecord, Sections, 
 use Rattle.definitions.specs.Row.{rowValues, isPresent}
 use Rattle.definitions.specs.Types.{DateTime}
 use Rattle.definitions.specs.Join.{absent}
-use Rattle.definitions.specs.Answer.{tooManySegments, lengthsWrong, segmentCodesWrong, listsWrong, valuesWrong, bitPastRows, sumsTooLarge, aliveAddresses}
+use Rattle.definitions.specs.Answer.{tooManySegments, lengthsWrong, segmentCodesWrong, listsWrong, valuesWrong, bitPastRows, sumsTooLarge, aliveAddresses, listsAliveRows}
 use Rattle.definitions.specs.Outcome.{written}
 
 -- no mode, required type or addresses; the space is the number of addresses that the output has place for
@@ -58,6 +59,23 @@ sortAddresses ss (a ∷ bs) = insertAddress ss a (sortAddresses ss bs)
 unfoldable pub timeOrder : List Segment → List Address
 timeOrder ss = sortAddresses ss (aliveAddresses ss)
 
+-- ---- that it is sorted
+
+-- a comes before the first of them, and each before the next
+abbrev pub inOrderFrom : List Segment → Address → List Address → Bool
+inOrderFrom ss a [] = true
+inOrderFrom ss a (b ∷ bs) = isBefore ss a b && inOrderFrom ss b bs
+
+-- each comes before the next
+abbrev pub inTimeOrder : List Segment → List Address → Bool
+inTimeOrder ss [] = true
+inTimeOrder ss (a ∷ bs) = inOrderFrom ss a bs
+
+-- alive rows sorted: each is listed once, nothing else is, and they are in order. The time order is this for any segments (proofs/TimeOrder)
+pub record IsTimeOrder (ss : List Segment) (addresses : List Address) : Type 0 where
+  pub alive : listsAliveRows ss addresses ≡ true
+  pub rising : inTimeOrder ss addresses ≡ true
+
 -- ---- answers
 
 -- 12: another type, a row of several times, or times falling within a segment
@@ -70,30 +88,27 @@ timesWrong ss =
     || not (notFalling (map timeOf (s .values))))
     ss
 
-unfoldable pub timeSegments : TimeInput → List Segment
-timeSegments i = segmentsFrom (i .records) (i .sections)
-
 unfoldable pub timeAnswer : TimeInput → ℕ
 timeAnswer i =
     cond (tooManySegments (i .records)) 1
     (cond (lengthsWrong (i .records) (i .sections)) 2
-    (cond (segmentCodesWrong (timeSegments i)) 3
-    (cond (listsWrong (timeSegments i)) 4
-    (cond (valuesWrong (timeSegments i)) 5
-    (cond (any bitPastRows (timeSegments i)) 6
-    (cond (sumsTooLarge (timeSegments i)) 7
-    (cond (ltb (i .space) (length (aliveAddresses (timeSegments i)))) 11
-    (cond (timesWrong (timeSegments i)) 12
+    (cond (segmentCodesWrong (segmentsFrom (i .records) (i .sections))) 3
+    (cond (listsWrong (segmentsFrom (i .records) (i .sections))) 4
+    (cond (valuesWrong (segmentsFrom (i .records) (i .sections))) 5
+    (cond (any bitPastRows (segmentsFrom (i .records) (i .sections))) 6
+    (cond (sumsTooLarge (segmentsFrom (i .records) (i .sections))) 7
+    (cond (ltb (i .space) (length (aliveAddresses (segmentsFrom (i .records) (i .sections))))) 11
+    (cond (timesWrong (segmentsFrom (i .records) (i .sections))) 12
     0))))))))
 
 -- the answer: how many addresses were written, or the number of the first check that fails
 pub data TimeAnswer : Type 0 where
-  ordered : ℕ → TimeAnswer
-  unordered : ℕ → TimeAnswer
+  sorted : ℕ → TimeAnswer
+  unsorted : ℕ → TimeAnswer
 
 abbrev pub timeNumberOf : TimeAnswer → ℕ
-timeNumberOf (ordered n) = 0
-timeNumberOf (unordered k) = k
+timeNumberOf (sorted n) = 0
+timeNumberOf (unsorted k) = k
 
 -- what a call gives, and the lent output as it leaves it
 pub record TimeOutcome : Type 0 where
@@ -104,6 +119,6 @@ pub record TimeOutcome : Type 0 where
 unfoldable pub timeOutcome : TimeInput → List Address → TimeOutcome
 timeOutcome i output =
     record {
-      answer = cond (eqb (timeAnswer i) 0) (ordered (length (timeOrder (timeSegments i)))) (unordered (timeAnswer i));
-      addresses = cond (eqb (timeAnswer i) 0) (written (timeOrder (timeSegments i)) output) output;
+      answer = cond (eqb (timeAnswer i) 0) (sorted (length (timeOrder (segmentsFrom (i .records) (i .sections))))) (unsorted (timeAnswer i));
+      addresses = cond (eqb (timeAnswer i) 0) (written (timeOrder (segmentsFrom (i .records) (i .sections))) output) output;
     }

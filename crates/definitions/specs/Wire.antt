@@ -4,10 +4,9 @@ use Prim.Native.Nat.{ℕ, zero, suc, _+_, _*_, _/_, _%_}
 use mathlib.Core.List.{List, [], _∷_, map}
 use mathlib.Core.Bool.{Bool, _&&_, cond}
 use lib.ListN.{length, getD, take, drop, replicate}
-use lib.Dec.{eqb, leb, ltb}
-use Rattle.definitions.specs.Lists.{all}
-use Rattle.definitions.specs.Segment.{SegmentRecord, Address}
-use Rattle.definitions.specs.Outcome.{Buffers, Lent}
+use lib.Dec.{eqb, leb}
+use Rattle.definitions.specs.Lists.{allBelow}
+use Rattle.definitions.specs.Outcome.{Buffers, Lent, lentOf}
 
 -- ---- words
 
@@ -49,9 +48,6 @@ endsFrom at (s ∷ ss) = (at + 1 + length s) ∷ endsFrom (at + 1 + length s) ss
 abbrev pub sectionAt : List (List ℕ) → ℕ → List ℕ
 sectionAt ss k = getD ss k []
 
-unfoldable pub allBelow : ℕ → List ℕ → Bool
-allBelow bound ws = all (λ (w : ℕ). ltb w bound) ws
-
 -- no number is too wide: 32 bits, term bytes 8; values and alive words are any words
 unfoldable pub widthsFit : List (List ℕ) → Bool
 widthsFit ss =
@@ -71,7 +67,7 @@ wordsFit words =
     && (eqb (length (sectionAt (wordSections words) 0)) 2
     && widthsFit (wordSections words)))
 
--- the most bytes that are read
+-- the most bytes that an input may have
 abbrev pub mostBytes : ℕ
 mostBytes = 65536
 
@@ -89,22 +85,6 @@ bytesFit bytes = wholeWords bytes && wordsFit (wordsOf bytes)
 unfoldable pub grouped : ℕ → ℕ → List ℕ → List (List ℕ)
 grouped e zero words = []
 grouped e (suc n) words = take e words ∷ grouped e n (drop e words)
-
-abbrev pub recordFrom : List ℕ → SegmentRecord
-recordFrom r =
-    record {
-      type = getD r 0 0;
-      kind = getD r 1 0;
-      rows = getD r 2 0;
-      ids = getD r 3 0;
-      offsets = getD r 4 0;
-      values = getD r 5 0;
-      terms = getD r 6 0;
-      flag = getD r 7 0;
-    }
-
-abbrev pub addressFrom : List ℕ → Address
-addressFrom a = record { segment = getD a 0 0; row = getD a 1 0 }
 
 unfoldable pub recordGroups : List (List ℕ) → List (List ℕ)
 recordGroups ss = grouped 8 (length (sectionAt ss 1) / 8) (sectionAt ss 1)
@@ -128,22 +108,18 @@ programBuffers =
 -- the nine sections, and what the program lends, as a call of the joiner
 unfoldable pub lentFrom : List (List ℕ) → Lent
 lentFrom ss =
-    record {
-      mode = getD (sectionAt ss 0) 0 0;
-      required = getD (sectionAt ss 0) 1 0;
-      records = map recordFrom (recordGroups ss);
-      sections =
-          record {
-            ids = sectionAt ss 2;
-            offsets = sectionAt ss 3;
-            values = sectionAt ss 4;
-            termLengths = sectionAt ss 5;
-            termBytes = sectionAt ss 6;
-            alive = sectionAt ss 7;
-          };
-      addresses = map addressFrom (addressGroups ss);
-      buffers = programBuffers;
-    }
+    lentOf
+    (getD (sectionAt ss 0) 0 0)
+    (getD (sectionAt ss 0) 1 0)
+    (recordGroups ss)
+    (sectionAt ss 2)
+    (sectionAt ss 3)
+    (sectionAt ss 4)
+    (sectionAt ss 5)
+    (sectionAt ss 6)
+    (sectionAt ss 7)
+    (addressGroups ss)
+    programBuffers
 
 unfoldable pub lentBy : List ℕ → Lent
 lentBy bytes = lentFrom (wordSections (wordsOf bytes))

@@ -38,7 +38,7 @@ module _ {a : TimeAnswer} {out left : List (List ℕ)} {o : Time.TimeOutcome} (e
       let r = sym (ap ordered.answerOf q) ∙ ap (λ (x : Time.TimeOutcome). x .answer) e in
       (ap timeNumberOf r, (l, (ap (λ (x : Time.TimeOutcome). x .addresses) e, ap (λ (x : Time.TimeAnswer). countAfter x old) r)))
 
-  pub told-ordered : {n : ℕ} → a ≡ T.Ordered n → ToldTimes o out left old 0 (n ∷ [])
+  pub told-ordered : {n : ℕ} → a ≡ T.Sorted n → ToldTimes o out left old 0 (n ∷ [])
   told-ordered q =
       let r = sym (ap ordered.answerOf q) ∙ ap (λ (x : Time.TimeOutcome). x .answer) e in
       (ap timeNumberOf r, (l, (ap (λ (x : Time.TimeOutcome). x .addresses) e, ap (λ (x : Time.TimeAnswer). countAfter x old) r)))

@@ -1,9 +1,9 @@
 // The joiner and the time order for callers in C or Rust: a run of numbers is handed over as a pointer and its length.
 ghost use mathlib.Core.Path.{_≡_};
 ghost use lib.ListN.{length};
-ghost use Rattle.definitions.specs.Outcome.{numberOf, joinOutcome};
+ghost use Rattle.definitions.specs.Outcome.{numberOf, joinOutcome, lentOf};
 ghost use Rattle.definitions.specs.TimeOrder.{timeNumberOf, timeOutcome};
-ghost use Rattle.merge.specs.Whole.{buffersOf, lentOf, answerOf};
+ghost use Rattle.merge.specs.Whole.{buffersOf, answerOf};
 ghost use Rattle.segment.specs.Lent.{addressesOf};
 ghost use Rattle.time_checks.specs.Lent.{lentTimes};
 ghost use Rattle.time_order.specs.Outcome.{outputOf};
@@ -110,7 +110,7 @@ pub extern "C" fn jadmirus_time_order(
     );
     match a {
         time_order::TimeAnswer::Refused(k) => k,
-        time_order::TimeAnswer::Ordered(n) => {
+        time_order::TimeAnswer::Sorted(n) => {
             *out_count = [n as u64];
             0
         }

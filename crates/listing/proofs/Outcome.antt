@@ -15,7 +15,7 @@ use Rattle.definitions.specs.Answer.{answer, joinOf}
 use Rattle.definitions.specs.Outcome.{Buffers, Numbers, Answer, accepted, refused, written, numbersOf, refusedBuffers, acceptedBuffers, Lent, Outcome, inputOf, joinOutcome, readBack}
 use Rattle.definitions.specs.Wire.{bytesFit, lentBy}
 use Rattle.definitions.specs.Listing.{valueLine, answerName, acceptedText, columnText, answerText, listing, reply}
-use Rattle.listing.specs.Shown.{outputs, Readable, ReadableBy, Short}
+use Rattle.listing.specs.Shown.{outputs, Announced, AnnouncedBy, Short}
 use Rattle.listing.proofs.Lengths.{value-length, listing-room}
 
 -- ---- an accepted column can be read back
@@ -32,7 +32,7 @@ terms-room : (ts : List (List ℕ)) (lengths bytes : List ℕ)
 terms-room ts lengths bytes =
     rw (take-at (map length ts) (drop (length (map length ts)) lengths) (length ts) (length-map ts length), lengths-sum ts) (written-room (concat ts) bytes)
 
-column-readable : (j : Joined) (b : Buffers) → Readable (numbersOf j) (acceptedBuffers j b)
+column-readable : (j : Joined) (b : Buffers) → Announced (numbersOf j) (acceptedBuffers j b)
 unfolding numbersOf acceptedBuffers
 column-readable j b =
     let ts = j .column .terms in
@@ -46,12 +46,12 @@ column-readable j b =
     }
 
 -- what the numbers of a call's answer announce stands in the lists that it left
-pub outcome-readable : (l : Lent) → ReadableBy (joinOutcome l .answer) (joinOutcome l .buffers)
+pub outcome-readable : (l : Lent) → AnnouncedBy (joinOutcome l .answer) (joinOutcome l .buffers)
 unfolding joinOutcome
 outcome-readable l = go (eqb (answer (inputOf l)) 0)
   where
     go : (t : Bool)
-        → ReadableBy (cond t (accepted (numbersOf (joinOf (inputOf l)))) (refused (answer (inputOf l)))) (cond t (acceptedBuffers (joinOf (inputOf l)) (l .buffers)) (refusedBuffers (l .buffers)))
+        → AnnouncedBy (cond t (accepted (numbersOf (joinOf (inputOf l)))) (refused (answer (inputOf l)))) (cond t (acceptedBuffers (joinOf (inputOf l)) (l .buffers)) (refusedBuffers (l .buffers)))
     go true = column-readable (joinOf (inputOf l)) (l .buffers)
     go false = tt
 
@@ -63,7 +63,7 @@ unfolding columnText readBack
 text-outputs b (accepted n) = refl
 text-outputs b (refused k) = refl
 
-readable-outputs : (b : Buffers) (a : Answer) → ReadableBy a b → ReadableBy a (outputs (b .ids) (b .offsets) (b .values) (b .termLengths) (b .termBytes) (b .map))
+readable-outputs : (b : Buffers) (a : Answer) → AnnouncedBy a b → AnnouncedBy a (outputs (b .ids) (b .offsets) (b .values) (b .termLengths) (b .termBytes) (b .map))
 readable-outputs b (accepted n) r = record { ids = r .ids; offsets = r .offsets; values = r .values; terms = r .terms; bytes = r .bytes; maps = r .maps }
 readable-outputs b (refused k) r = tt
 
@@ -103,8 +103,8 @@ reply-yes bytes l h e = rw (h, e)
 -- ---- what a call left: its answer, and the six lists that are printed
 
 module _ (l : Lent) (a : Answer) (b : Buffers) (e : record { answer = a; buffers = b } ≡ joinOutcome l) where
-  pub left-readable : ReadableBy a (outputs (b .ids) (b .offsets) (b .values) (b .termLengths) (b .termBytes) (b .map))
-  left-readable = readable-outputs b a (subst (λ (o : Outcome). ReadableBy (o .answer) (o .buffers)) (sym e) (outcome-readable l))
+  pub left-readable : AnnouncedBy a (outputs (b .ids) (b .offsets) (b .values) (b .termLengths) (b .termBytes) (b .map))
+  left-readable = readable-outputs b a (subst (λ (o : Outcome). AnnouncedBy (o .answer) (o .buffers)) (sym e) (outcome-readable l))
 
   pub left-text : answerText (outputs (b .ids) (b .offsets) (b .values) (b .termLengths) (b .termBytes) (b .map)) a ≡ listing (joinOutcome l)
   unfolding listing

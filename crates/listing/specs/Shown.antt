@@ -11,7 +11,7 @@ outputs ids offsets values lengths bytes maps =
     record { ids = ids; offsets = offsets; values = values; termLengths = lengths; termBytes = bytes; map = maps; working = [] }
 
 -- what the numbers announce stands in the lists
-pub record Readable (n : Numbers) (b : Buffers) : Type 0 where
+pub record Announced (n : Numbers) (b : Buffers) : Type 0 where
   pub ids : n .ids ≤ length (b .ids)
   pub offsets : n .offsets ≤ length (b .offsets)
   pub values : n .values ≤ length (b .values)
@@ -20,9 +20,9 @@ pub record Readable (n : Numbers) (b : Buffers) : Type 0 where
   pub maps : n .map ≤ length (b .map)
 
 -- the same of an answer; a refusal announces nothing
-abbrev pub ReadableBy : Answer → Buffers → Type 0
-ReadableBy (accepted n) b = Readable n b
-ReadableBy (refused k) b = Unit
+abbrev pub AnnouncedBy : Answer → Buffers → Type 0
+AnnouncedBy (accepted n) b = Announced n b
+AnnouncedBy (refused k) b = Unit
 
 -- no list is longer than the program's
 pub record Short (b : Buffers) : Type 0 where

@@ -173,7 +173,7 @@ fn put_addresses(xs: &[[u32; 2]]) {
 fn put_times(a: time_order::TimeAnswer) {
     match a {
         time_order::TimeAnswer::Refused(k) => put_word(b": answer ", k as u64),
-        time_order::TimeAnswer::Ordered(n) => put_word(b": answer 0, addresses ", n as u64),
+        time_order::TimeAnswer::Sorted(n) => put_word(b": answer 0, addresses ", n as u64),
     }
 }
 

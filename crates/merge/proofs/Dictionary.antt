@@ -10,11 +10,11 @@ use lib.Seq.{take-at, take-all, length-take-le}
 use lib.Dec.{T, eqb, ltb}
 use borrow.Author.Tests.{eqb-true, eqb-false, ltb-false}
 use Rattle.definitions.specs.Lists.{sum, all}
-use Rattle.definitions.specs.Segment.{Segment, SegmentRecord, aliveWords}
+use Rattle.definitions.specs.Segment.{Segment, SegmentRecord, aliveWords, recordFrom}
 use Rattle.definitions.specs.Row.{isHeld, hasAliveSet, heldOf}
 use Rattle.definitions.specs.Join.{absent}
 use Rattle.definitions.specs.Answer.{total, greatestSum, sumOver, termsIn, bytesIn, listsFit, listsWrong, valuesFit, valuesWrong, lengthsWrong, sumsTooLarge}
-use Rattle.segment.specs.Records.{recordOf, recordsOf, sectionsIn}
+use Rattle.segment.specs.Records.{recordsOf, sectionsIn}
 use Rattle.segment.proofs.Tests.{not-back}
 use Rattle.sections_fit.specs.Walks.{Exact, lengthsRight}
 use Rattle.sections_fit.proofs.Own.{exact, lengths-wrong, bytes-sum}
@@ -71,7 +71,7 @@ module _ {mode : ℕ} {records : List (List ℕ)} {held ids offsets values lengt
 
   start-is : (f : SegmentRecord → ℕ) → startAt f records (length records) ≡ total f (recordsOf records)
   start-is f =
-      start-total f records (length records) (omega arith) ∙ ap (total f) (take-all (length records) (recordsOf records) (le-of-eq (length-map records recordOf)))
+      start-total f records (length records) (omega arith) ∙ ap (total f) (take-all (length records) (recordsOf records) (le-of-eq (length-map records recordFrom)))
 
   terms-are : posAt records (length records) ≡ length lengths
   terms-are = start-is (λ (r : SegmentRecord). r .terms) ∙ whole .terms

@@ -14,7 +14,7 @@ use Rattle.definitions.specs.Row.{heldOf}
 use Rattle.definitions.specs.Join.{Column, rowOrder, termsOf, mapOf, joinedType, joinedClass, encode, joinedColumn, joinRules}
 use Rattle.definitions.specs.Answer.{answer, sumOver, termsIn, bytesIn, typesWrong, outputTooShort, joinOf}
 use Rattle.definitions.specs.Outcome as Outcome
-use Rattle.definitions.specs.Outcome.{Buffers, Lent, accepted, refused, written, spaceOf, inputOf, numbersOf, refusedBuffers, acceptedBuffers, joinOutcome}
+use Rattle.definitions.specs.Outcome.{Buffers, Lent, accepted, refused, written, spaceOf, inputOf, numbersOf, refusedBuffers, acceptedBuffers, joinOutcome, lentOf}
 use Rattle.runs.specs.Put.{put, putIf}
 use Rattle.places.specs.Width.{idsOf, totalsOf}
 use Rattle.placed.specs.Checked.{segmentsIn, Mapped, orderOf}
@@ -23,10 +23,10 @@ use Rattle.placed.proofs.Totals.{neither}
 use Rattle.merge_column.specs.declared.Shape.{Shape}
 use Rattle.merge_column.specs.declared.Plan.{Plan}
 use Rattle.merge_column.specs.declared.Plan.the-variants.{Refused, Column as Planned}
-use Rattle.merge_column.specs.Plan.{Prepared, widthsFor, wordsFor, planFor, Filling}
+use Rattle.merge_column.specs.Plan.{Prepared, widthsFor, joinedWords, planFor, Filling}
 use Rattle.merge_dict_column.specs.Stands.{Joins}
 use Rattle.merge.specs.declared.Answer.the-variants as A
-use Rattle.merge.specs.Whole.{Passed, DictionaryGiven, outcomeOf, lentOf, buffersOf}
+use Rattle.merge.specs.Whole.{AfterNine, DictionaryGiven, outcomeOf, buffersOf}
 use Rattle.merge.proofs.Given.{checked, alone, marks-room}
 use Rattle.merge.proofs.Parts.{flags, held-long}
 use Rattle.merge.proofs.Planned.{shape, plan-is, map-count}
@@ -89,7 +89,7 @@ six a b c d e f a′ b′ c′ d′ e′ f′ h =
     }
 
 module _ {mode required : ℕ} {records : List (List ℕ)} {ids offsets values lengths bytes words : List ℕ} {addresses : List (List ℕ)} {work : List ℕ}
-    (p : Passed mode required records ids offsets values lengths bytes words addresses work)
+    (p : AfterNine mode required records ids offsets values lengths bytes words addresses work)
     {places alives : List (List ℕ)} {held : List ℕ} {sources : List (List ℕ)} (r : Prepared records ids offsets words places alives held sources)
     (outIds outOffsets outValues lens outs ords : List ℕ) where
   abbrev ss : List Segment
@@ -156,7 +156,7 @@ module _ {mode required : ℕ} {records : List (List ℕ)} {ids offsets values l
       pub accepted-end : (ids′ offsets′ values′ work′ : List ℕ)
           → ids′ ≡ putIf (not (eqb (x .class) 0)) 0 (idsOf 0 (widthsFor mode addresses places ids offsets)) outIds
           → offsets′ ≡ putIf (eqb (x .class) 2) 0 (0 ∷ totalsOf 0 (widthsFor mode addresses places ids offsets)) outOffsets
-          → values′ ≡ put 0 (wordsFor mode (x .typ) addresses places sources ids offsets values ords′) outValues
+          → values′ ≡ put 0 (joinedWords mode (x .typ) addresses places sources ids offsets values ords′) outValues
           → work′ ≡ work
           → outcomeOf
           (A.Accepted
@@ -188,7 +188,7 @@ module _ {mode required : ℕ} {records : List (List ℕ)} {ids offsets values l
                 buffersOf
                 ((ei ∙ ap (λ (s : Shape). putIf (not (eqb (s .class) 0)) 0 (idsOf 0 (widthsFor mode addresses places ids offsets)) outIds) (c .is) ∙ ids-are p r map-stands outIds) j)
                 ((eo ∙ ap (λ (s : Shape). putIf (eqb (s .class) 2) 0 (0 ∷ totalsOf 0 (widthsFor mode addresses places ids offsets)) outOffsets) (c .is) ∙ offsets-are p r map-stands outOffsets) j)
-                ((ev ∙ ap (λ (s : Shape). put 0 (wordsFor mode (s .typ) addresses places sources ids offsets values ords′) outValues) (c .is) ∙ values-are p r map-stands outValues) j)
+                ((ev ∙ ap (λ (s : Shape). put 0 (joinedWords mode (s .typ) addresses places sources ids offsets values ords′) outValues) (c .is) ∙ values-are p r map-stands outValues) j)
                 (d .lengths-out j)
                 (d .texts-out j)
                 (d .map-out j)

@@ -16,13 +16,13 @@ use Rattle.column_values_merge.specs.Stack.{stackedWords}
 use Rattle.column_index_shuffled.specs.Order.{orderedWords}
 use Rattle.placed.specs.Checked.{segmentsIn, Mapped, placesOf, sourcesOf, orderOf}
 use Rattle.placed.proofs.Laws as Placed
-use Rattle.merge_column.specs.Plan.{Prepared, widthsFor, wordsFor, Filling}
-use Rattle.merge.specs.Whole.{Passed}
+use Rattle.merge_column.specs.Plan.{Prepared, widthsFor, joinedWords, Filling}
+use Rattle.merge.specs.Whole.{AfterNine}
 use Rattle.merge.proofs.Given.{checked, order}
 use Rattle.merge.proofs.Parts.{other, flags}
 
 module _ {mode required : ℕ} {records : List (List ℕ)} {ids offsets values lengths bytes words : List ℕ} {addresses : List (List ℕ)} {work : List ℕ}
-    (p : Passed mode required records ids offsets values lengths bytes words addresses work)
+    (p : AfterNine mode required records ids offsets values lengths bytes words addresses work)
     {places alives : List (List ℕ)} {held : List ℕ} {sources : List (List ℕ)} (r : Prepared records ids offsets words places alives held sources)
     {map′ : List ℕ} (m : Mapped map′ (segmentsIn records ids offsets values lengths bytes words)) where
   abbrev ss : List Segment
@@ -57,8 +57,8 @@ module _ {mode required : ℕ} {records : List (List ℕ)} {ids offsets values l
       go true e h = Placed.stacked-offsets-room (checked p) (flags p r) required m n h
       go false e h = Placed.ordered-offsets-room (checked p) (flags p r) required m addresses (order p (other mode e)) n h
 
-  values-room : (n : ℕ) → length (col .values) ≤ n → length (wordsFor mode (joinedType required ss) addresses at from ids offsets values map′) ≤ n
-  unfolding rowOrder wordsFor
+  values-room : (n : ℕ) → length (col .values) ≤ n → length (joinedWords mode (joinedType required ss) addresses at from ids offsets values map′) ≤ n
+  unfolding rowOrder joinedWords
   values-room n = go (eqb mode 0) refl
     where
       go : (b : Bool) → eqb mode 0 ≡ b → length (joinedColumn required ss (cond b (stackedFrom 0 ss) (orderOf addresses)) .values) ≤ n
@@ -98,8 +98,8 @@ module _ {mode required : ℕ} {records : List (List ℕ)} {ids offsets values l
       go true e = Placed.stacked-offsets-are (checked p) (flags p r) required m old
       go false e = Placed.ordered-offsets-are (checked p) (flags p r) required m addresses (order p (other mode e)) old
 
-  pub values-are : (old : List ℕ) → put 0 (wordsFor mode (joinedType required ss) addresses places sources ids offsets values map′) old ≡ written (col .values) old
-  unfolding rowOrder wordsFor
+  pub values-are : (old : List ℕ) → put 0 (joinedWords mode (joinedType required ss) addresses places sources ids offsets values map′) old ≡ written (col .values) old
+  unfolding rowOrder joinedWords
   values-are old = rw (r .places-are, r .sources-are) (go (eqb mode 0) refl)
     where
       go : (b : Bool) → eqb mode 0 ≡ b → put 0 (cond b (stackedWords (joinedType required ss) at from values map′) (orderedWords (joinedType required ss) at from ids offsets values map′ addresses)) old

@@ -27,7 +27,7 @@ use Rattle.merge_mapping.proofs.Own.{input-room}
 use Rattle.merge_mapping.proofs.Answer.{PassedNine, passed-nine}
 use Rattle.placed.specs.Checked.{segmentsIn, Checked, Flagged, orderOf}
 use Rattle.placed.proofs.Totals.{neither}
-use Rattle.merge.specs.Whole.{Passed}
+use Rattle.merge.specs.Whole.{AfterNine}
 
 pub true-T : (b : Bool) → b ≡ true → T b
 true-T b e = subst T (sym e) tt
@@ -45,7 +45,7 @@ and-right true b e h = h
 and-right false b e h = absurd (false≢true e)
 
 module _ {mode required : ℕ} {records : List (List ℕ)} {ids offsets values lengths bytes words : List ℕ} {addresses : List (List ℕ)} {work : List ℕ}
-    (p : Passed mode required records ids offsets values lengths bytes words addresses work) where
+    (p : AfterNine mode required records ids offsets values lengths bytes words addresses work) where
   abbrev i : Input
   i = lentInput mode required records ids offsets values lengths bytes words addresses (length work)
 

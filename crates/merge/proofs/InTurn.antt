@@ -1,13 +1,13 @@
 -- Demand 3's theorem speaks of `join`: runs that keep its contract are the book's calls. Assumes nothing.
-use Prim.Native.Nat.{ℕ}
 use mathlib.Core.Path.{_≡_, refl, sym, ap, _∙_, subst}
 use mathlib.Core.List.{List, [], _∷_, map}
-use Rattle.definitions.specs.Segment.{Segment}
-use Rattle.definitions.specs.Outcome.{Outcome, numberOf, joinOutcome}
+use lib.ListN.{getD}
+use Rattle.definitions.specs.Join.{absent}
+use Rattle.definitions.specs.Outcome.{Outcome, numberOf, joinOutcome, readBack}
 use Rattle.definitions.specs.Book.{JoinsInTurnAgree, Standing, first, callOutcome, callAnswer, afterAnswer, afterCall, answersOf, standsAfter}
 use Rattle.definitions.proofs.Demand.{joins-in-turn-agree}
-use Rattle.merge.specs.Whole.{outcomeOf}
-use Rattle.merge.specs.InTurn.{Run, Ran, afterRun, RanFrom, afterRuns, callsOf, numbersGiven, RunsAgree, RunsInTurnAgree}
+use Rattle.merge.specs.Whole.{numbersIn, answerOf, outcomeOf}
+use Rattle.merge.specs.InTurn.{Run, Ran, afterRun, RanFrom, afterRuns, callsOf, numbersGiven, RunsInTurnAgree}
 
 -- one run
 
@@ -37,9 +37,14 @@ stands-are (x ∷ xs) standing r =
 
 pub runs-in-turn-agree : RunsInTurnAgree
 unfolding RunsInTurnAgree JoinsInTurnAgree
-runs-in-turn-agree firsts runs r segs hands uni =
-    let d = joins-in-turn-agree firsts (callsOf runs) segs hands uni in
+runs-in-turn-agree firsts runs r hands segments uni =
+    let d = joins-in-turn-agree firsts (callsOf runs) hands segments uni in
+    let stands = stands-are runs (map first firsts) r in
     record {
       answers = answers-are runs (map first firsts) r ∙ d .answers;
-      standing = stands-are runs (map first firsts) r ∙ d .standing;
+      standing = stands ∙ d .standing;
+      anySequence = λ k e sequence m seq. ap (λ (l : List Standing). getD l k (first absent)) stands ∙ d .anySequence k e sequence m seq;
+      whereCalled = λ k e x n m at ran a.
+          let o = outcome-is x (map first firsts) ran in
+          ap (λ (o : Outcome). readBack (numbersIn n) (o .buffers)) o ∙ d .whereCalled k e (x .call) (numbersIn n) m at (sym (ap (λ (o : Outcome). o .answer) o) ∙ ap answerOf a);
     }

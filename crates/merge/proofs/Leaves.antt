@@ -12,7 +12,7 @@ use Rattle.definitions.specs.Segment.{Segment, Input, segmentsOf}
 use Rattle.definitions.specs.Join.{Column, Joined, rowOrder, termsOf, mapOf, joinedType, joinedClass, encode, joinedColumn, joinRules}
 use Rattle.definitions.specs.Answer.{answer, joinOf, typesWrong, outputTooShort}
 use Rattle.definitions.specs.Outcome as Outcome
-use Rattle.definitions.specs.Outcome.{Buffers, Lent, accepted, refused, written, zeroed, spaceOf, inputOf, numbersOf, refusedBuffers, acceptedBuffers, joinOutcome}
+use Rattle.definitions.specs.Outcome.{Buffers, Lent, accepted, refused, written, zeroed, spaceOf, inputOf, numbersOf, refusedBuffers, acceptedBuffers, joinOutcome, lentOf}
 use Rattle.segment.specs.Lent.{lentInput}
 use Rattle.merge_mapping.specs.Mapping.{answerToNine}
 use Rattle.merge_mapping.proofs.Zeros.{zero-again}
@@ -23,7 +23,7 @@ use Rattle.merge_column.specs.declared.Plan.the-variants.{Refused, Column as Pl
 use Rattle.merge_column.specs.declared.Shape.{Shape}
 use Rattle.merge_dict_column.specs.Stands.{Joins}
 use Rattle.merge.specs.declared.Answer.the-variants as A
-use Rattle.merge.specs.Whole.{Passed, answerOf, outcomeOf, lentOf, buffersOf}
+use Rattle.merge.specs.Whole.{AfterNine, answerOf, outcomeOf, buffersOf}
 
 -- ---- a refusal
 
@@ -75,7 +75,7 @@ module _ (mode required : ℕ) (records : List (List ℕ)) (ids offsets values l
     long : length work′ ≡ length work
     long = ap length z ∙ length-replicate (length work) 0
 
-    pub passed : k ≡ 0 → Passed mode required records ids offsets values lengths bytes words addresses work′
+    pub passed : k ≡ 0 → AfterNine mode required records ids offsets values lengths bytes words addresses work′
     passed q = record { nine = ap nine long ∙ sym e ∙ q; clean = zero-again work′ (length work) z }
 
     -- an outcome has of the working bytes their number alone

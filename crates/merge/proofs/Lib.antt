@@ -6,3 +6,4 @@ pub mod Leaves
 pub mod Dictionary
 pub mod Ends
 pub mod InTurn
+pub mod Exhibit

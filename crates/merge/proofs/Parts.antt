@@ -10,13 +10,13 @@ use lib.Seq.{ext-getD, take-all}
 use lib.Dec.{T, eqb, ltb, leb}
 use borrow.Author.Tests.{eqb-true, eqb-false}
 use Rattle.definitions.specs.Lists.{sum, upTo}
-use Rattle.definitions.specs.Segment.{Segment, SegmentRecord, Address}
+use Rattle.definitions.specs.Segment.{Segment, SegmentRecord, Address, recordFrom}
 use Rattle.definitions.specs.Row.{noType, isHeld, heldOf}
 use Rattle.definitions.specs.Class.{greatestClass}
 use Rattle.definitions.specs.Join.{Column, absent, rowsOf, stackedFrom, rowOrder, cellAt, termsOf, mapOf, joinedType, joinedClass, joinedCells, encode, joinedColumn}
 use Rattle.definitions.specs.Answer.{total, sumOver, termsIn, bytesIn, typesWrong, listsAliveRows}
 use Rattle.definitions.specs.Outcome.{written}
-use Rattle.segment.specs.Records.{recordOf, recordsOf, sectionsIn}
+use Rattle.segment.specs.Records.{recordsOf, sectionsIn}
 use Rattle.runs.specs.Put.{put, putIf, RoomIf}
 use Rattle.runs.proofs.Laws.{upFrom-length}
 use Rattle.places.specs.Width.{idsOf, totalsOf}
@@ -43,9 +43,9 @@ use Rattle.placed.proofs.Stand.{count-is, few-records, flagged, places-length, 
 use Rattle.placed.proofs.Counted.{values-same, listed-same}
 use Rattle.placed.proofs.Index.{stacked-values-fit}
 use Rattle.placed.proofs.Laws as Placed
-use Rattle.merge_column.specs.Plan.{Prepared, flagsOf, Planning, classFor, widthsFor, wordsFor, idsFor, offsetsFor, Filling}
+use Rattle.merge_column.specs.Plan.{Prepared, flagsOf, Planning, classFor, widthsFor, joinedWords, idsFor, offsetsFor, Filling}
 use Rattle.merge_column.proofs.Laws.{put-whole}
-use Rattle.merge.specs.Whole.{Passed}
+use Rattle.merge.specs.Whole.{AfterNine}
 use Rattle.merge.proofs.Given.{checked, rest, alone, order}
 
 -- ---- by mode
@@ -62,7 +62,7 @@ stacked-length n [] = refl
 stacked-length n (s ∷ ss) = length-append (rowsOf n s) (stackedFrom (suc n) ss) ∙ ap₂ (λ (a b : ℕ). a + b) (rows-length n s) (stacked-length (suc n) ss)
 
 module _ {mode required : ℕ} {records : List (List ℕ)} {ids offsets values lengths bytes words : List ℕ} {addresses : List (List ℕ)} {work : List ℕ}
-    (p : Passed mode required records ids offsets values lengths bytes words addresses work)
+    (p : AfterNine mode required records ids offsets values lengths bytes words addresses work)
     {places alives : List (List ℕ)} {held : List ℕ} {sources : List (List ℕ)} (r : Prepared records ids offsets words places alives held sources) where
   abbrev ss : List Segment
   ss = segmentsIn records ids offsets values lengths bytes words
@@ -120,7 +120,7 @@ module _ {mode required : ℕ} {records : List (List ℕ)} {ids offsets values l
   terms-inside =
       le-of-eq
       (start-total (λ (x : SegmentRecord). x .terms) records (length records) (omega arith)
-      ∙ ap (total (λ (x : SegmentRecord). x .terms)) (take-all (length records) (recordsOf records) (le-of-eq (length-map records recordOf)))
+      ∙ ap (total (λ (x : SegmentRecord). x .terms)) (take-all (length records) (recordsOf records) (le-of-eq (length-map records recordFrom)))
       ∙ rest p .exact .terms)
 
   pub texts-inside : fromAt records lengths (length records) ≤ length bytes

@@ -13,7 +13,7 @@ use Rattle.definitions.specs.Segment.{Segment, SegmentRecord, Input, Space, seg
 use Rattle.definitions.specs.Row.{isHeld, heldOf}
 use Rattle.definitions.specs.Join.{Column, absent, rowOrder, termsOf, ordinalOf, mapOf, joinedType, joinedClass, joinedColumn, joinRules}
 use Rattle.definitions.specs.Answer.{total, sumOver, termsIn, bytesIn, typesWrong, outputTooShort, joinOf}
-use Rattle.definitions.specs.Outcome.{Buffers, spaceOf, inputOf}
+use Rattle.definitions.specs.Outcome.{Buffers, spaceOf, inputOf, lentOf}
 use Rattle.segment.specs.Records.{recordsOf, sectionsIn}
 use Rattle.segment.proofs.Tests.{not-ltb}
 use Rattle.places.specs.Width.{idsOf}
@@ -34,7 +34,7 @@ use Rattle.merge_column.specs.declared.Space as Place
 use Rattle.merge_column.specs.declared.Plan.{Plan}
 use Rattle.merge_column.specs.declared.Plan.the-variants.{Refused, Column as Planned}
 use Rattle.merge_column.specs.Plan.{Prepared, classFor, widthsFor, idsFor, offsetsFor, enoughFor, shapeOf, planOf, planBy, planFor}
-use Rattle.merge.specs.Whole.{Passed, lentOf, buffersOf}
+use Rattle.merge.specs.Whole.{AfterNine, buffersOf}
 use Rattle.merge.proofs.Given.{checked}
 use Rattle.merge.proofs.Parts.{flags, held-long, terms-inside, texts-inside, class-is, ids-number, offsets-number, values-number, rows-number}
 
@@ -84,7 +84,7 @@ not-cond true x y = refl
 not-cond false x y = refl
 
 module _ {mode required : ℕ} {records : List (List ℕ)} {ids offsets values lengths bytes words : List ℕ} {addresses : List (List ℕ)} {work : List ℕ}
-    (p : Passed mode required records ids offsets values lengths bytes words addresses work)
+    (p : AfterNine mode required records ids offsets values lengths bytes words addresses work)
     {places alives : List (List ℕ)} {held : List ℕ} {sources : List (List ℕ)} (r : Prepared records ids offsets words places alives held sources) where
   abbrev ss : List Segment
   ss = segmentsIn records ids offsets values lengths bytes words

@@ -10,7 +10,7 @@ use Rattle.definitions.specs.Row.{hasAliveSet, heldOf}
 use Rattle.definitions.specs.Join.{absent}
 use Rattle.definitions.specs.Answer.{sumOver, termsIn, bytesIn}
 use Rattle.definitions.specs.Outcome as Outcome
-use Rattle.definitions.specs.Outcome.{Buffers, Lent, accepted, refused}
+use Rattle.definitions.specs.Outcome.{Buffers, Lent, accepted, refused, joinOutcome}
 use Rattle.segment.specs.Records.{recordsOf, sectionsIn}
 use Rattle.segment.specs.Lent.{addressesOf, lentInput}
 use Rattle.merge_mapping.specs.Mapping.{answerToNine}
@@ -51,16 +51,9 @@ buffersOf ids offsets values lengths bytes map work =
 abbrev pub outcomeOf : Answer → Buffers → Outcome.Outcome
 outcomeOf a b = record { answer = answerOf a; buffers = b }
 
-abbrev pub lentOf : ℕ → ℕ → List (List ℕ) → List ℕ → List ℕ → List ℕ → List ℕ → List ℕ → List ℕ → List (List ℕ) → Buffers → Lent
-lentOf mode required records ids offsets values lengths bytes alive addresses b =
-    record {
-      mode = mode;
-      required = required;
-      records = recordsOf records;
-      sections = sectionsIn ids offsets values lengths bytes alive;
-      addresses = addressesOf addresses;
-      buffers = b;
-    }
+-- what `join` promises of what it was lent, gave and left: the whole outcome is the definition's
+abbrev pub JoinKept : Lent → Answer → Buffers → Type 0
+JoinKept lent gave left = outcomeOf gave left ≡ joinOutcome lent
 
 -- ---- the dictionary
 
@@ -89,7 +82,7 @@ pub record DictionaryLeft (records : List (List ℕ)) (ids offsets values length
 
 -- ---- after the checks 1 to 9
 
-pub record Passed (mode required : ℕ) (records : List (List ℕ)) (ids offsets values lengths bytes alive : List ℕ) (addresses : List (List ℕ)) (work : List ℕ) : Type 0 where
+pub record AfterNine (mode required : ℕ) (records : List (List ℕ)) (ids offsets values lengths bytes alive : List ℕ) (addresses : List (List ℕ)) (work : List ℕ) : Type 0 where
   pub nine : answerToNine (lentInput mode required records ids offsets values lengths bytes alive addresses (length work)) ≡ 0
   pub clean : work ≡ replicate (length work) 0
 

@@ -4,8 +4,8 @@ ghost use mathlib.Core.Bool.{cond};
 ghost use Prim.Native.Nat.{_≤_};
 ghost use lib.ListN.{length, replicate};
 ghost use lib.Dec.{eqb};
-ghost use Rattle.definitions.specs.Outcome.{joinOutcome};
-ghost use Rattle.merge.specs.Whole.{marksFor, MarksFor, DictionaryGiven, DictionaryLeft, Passed, Tables, outcomeOf, lentOf, buffersOf};
+ghost use Rattle.definitions.specs.Outcome.{lentOf};
+ghost use Rattle.merge.specs.Whole.{marksFor, MarksFor, DictionaryGiven, DictionaryLeft, AfterNine, Tables, JoinKept, buffersOf};
 
 // What comes with acceptance: type, class and rows, and the number of elements of each list.
 pub struct Numbers {
@@ -124,9 +124,9 @@ fn join_tables(
     held: &mut [u8],
     sources: &mut [[usize; 3]],
 ) -> Answer
-    requires { ⌜ Passed mode required (now records) (now ids) (now offsets) (now values) (now lengths) (now bytes) (now alive) (now addresses) (now work) ⌝ }
+    requires { ⌜ AfterNine mode required (now records) (now ids) (now offsets) (now values) (now lengths) (now bytes) (now alive) (now addresses) (now work) ⌝ }
     requires { ⌜ Tables (now records) (now places) (now alives) (now held) (now sources) ⌝ }
-    ensures { λ r. ⌜ outcomeOf r (buffersOf (now («out_ids» .exit)) (now («out_offsets» .exit)) (now («out_values» .exit)) (now («out_lengths» .exit)) (now («out_bytes» .exit)) (now («out_map» .exit)) (now (work .exit))) ≡ joinOutcome (lentOf mode required (now (records .entry)) (now (ids .entry)) (now (offsets .entry)) (now (values .entry)) (now (lengths .entry)) (now (bytes .entry)) (now (alive .entry)) (now (addresses .entry)) (buffersOf (now («out_ids» .entry)) (now («out_offsets» .entry)) (now («out_values» .entry)) (now («out_lengths» .entry)) (now («out_bytes» .entry)) (now («out_map» .entry)) (now (work .entry)))) ⌝ }
+    ensures { λ r. ⌜ JoinKept (lentOf mode required (now (records .entry)) (now (ids .entry)) (now (offsets .entry)) (now (values .entry)) (now (lengths .entry)) (now (bytes .entry)) (now (alive .entry)) (now (addresses .entry)) (buffersOf (now («out_ids» .entry)) (now («out_offsets» .entry)) (now («out_values» .entry)) (now («out_lengths» .entry)) (now («out_bytes» .entry)) (now («out_map» .entry)) (now (work .entry)))) r (buffersOf (now («out_ids» .exit)) (now («out_offsets» .exit)) (now («out_values» .exit)) (now («out_lengths» .exit)) (now («out_bytes» .exit)) (now («out_map» .exit)) (now (work .exit))) ⌝ }
 {
     merge_column::prepare(records, ids, offsets, alive, places, alives, held, sources);
     let space = merge_column::Space {
@@ -221,8 +221,8 @@ fn join_checked(
     out_bytes: &mut [u8],
     out_map: &mut [u32],
 ) -> Answer
-    requires { ⌜ Passed mode required (now records) (now ids) (now offsets) (now values) (now lengths) (now bytes) (now alive) (now addresses) (now work) ⌝ }
-    ensures { λ r. ⌜ outcomeOf r (buffersOf (now («out_ids» .exit)) (now («out_offsets» .exit)) (now («out_values» .exit)) (now («out_lengths» .exit)) (now («out_bytes» .exit)) (now («out_map» .exit)) (now (work .exit))) ≡ joinOutcome (lentOf mode required (now (records .entry)) (now (ids .entry)) (now (offsets .entry)) (now (values .entry)) (now (lengths .entry)) (now (bytes .entry)) (now (alive .entry)) (now (addresses .entry)) (buffersOf (now («out_ids» .entry)) (now («out_offsets» .entry)) (now («out_values» .entry)) (now («out_lengths» .entry)) (now («out_bytes» .entry)) (now («out_map» .entry)) (now (work .entry)))) ⌝ }
+    requires { ⌜ AfterNine mode required (now records) (now ids) (now offsets) (now values) (now lengths) (now bytes) (now alive) (now addresses) (now work) ⌝ }
+    ensures { λ r. ⌜ JoinKept (lentOf mode required (now (records .entry)) (now (ids .entry)) (now (offsets .entry)) (now (values .entry)) (now (lengths .entry)) (now (bytes .entry)) (now (alive .entry)) (now (addresses .entry)) (buffersOf (now («out_ids» .entry)) (now («out_offsets» .entry)) (now («out_values» .entry)) (now («out_lengths» .entry)) (now («out_bytes» .entry)) (now («out_map» .entry)) (now (work .entry)))) r (buffersOf (now («out_ids» .exit)) (now («out_offsets» .exit)) (now («out_values» .exit)) (now («out_lengths» .exit)) (now («out_bytes» .exit)) (now («out_map» .exit)) (now (work .exit))) ⌝ }
 {
     let n = records.len();
     let mut places = [[0usize; 8]; 256];
@@ -255,7 +255,7 @@ fn join_checked(
 }
 
 // The join of one column's segments: stacked (mode 0) or as the addresses say (mode 1), to the required type (255 for none). The answer with its numbers, and
-// all that is left in the lent memory, are `joinOutcome`'s.
+// all that is left in the lent memory, are `joinOutcome`'s (`JoinKept`).
 pub fn join(
     mode: u32,
     required: u32,
@@ -275,7 +275,7 @@ pub fn join(
     out_bytes: &mut [u8],
     out_map: &mut [u32],
 ) -> Answer
-    ensures { λ r. ⌜ outcomeOf r (buffersOf (now («out_ids» .exit)) (now («out_offsets» .exit)) (now («out_values» .exit)) (now («out_lengths» .exit)) (now («out_bytes» .exit)) (now («out_map» .exit)) (now (work .exit))) ≡ joinOutcome (lentOf mode required (now (records .entry)) (now (ids .entry)) (now (offsets .entry)) (now (values .entry)) (now (lengths .entry)) (now (bytes .entry)) (now (alive .entry)) (now (addresses .entry)) (buffersOf (now («out_ids» .entry)) (now («out_offsets» .entry)) (now («out_values» .entry)) (now («out_lengths» .entry)) (now («out_bytes» .entry)) (now («out_map» .entry)) (now (work .entry)))) ⌝ }
+    ensures { λ r. ⌜ JoinKept (lentOf mode required (now (records .entry)) (now (ids .entry)) (now (offsets .entry)) (now (values .entry)) (now (lengths .entry)) (now (bytes .entry)) (now (alive .entry)) (now (addresses .entry)) (buffersOf (now («out_ids» .entry)) (now («out_offsets» .entry)) (now («out_values» .entry)) (now («out_lengths» .entry)) (now («out_bytes» .entry)) (now («out_map» .entry)) (now (work .entry)))) r (buffersOf (now («out_ids» .exit)) (now («out_offsets» .exit)) (now («out_values» .exit)) (now («out_lengths» .exit)) (now («out_bytes» .exit)) (now («out_map» .exit)) (now (work .exit))) ⌝ }
 {
     let first = merge_mapping::verdict(
         mode,

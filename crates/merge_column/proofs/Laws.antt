@@ -19,7 +19,7 @@ use Rattle.merge_column.specs.declared.Shape.{Shape}
 use Rattle.merge_column.specs.declared.Space.{Space}
 use Rattle.merge_column.specs.declared.Plan.{Plan}
 use Rattle.merge_column.specs.declared.Plan.the-variants.{Refused, Column}
-use Rattle.merge_column.specs.Plan.{classFor, widthsFor, idsFor, offsetsFor, enoughFor, wordsFor, leftFor, Filling}
+use Rattle.merge_column.specs.Plan.{classFor, widthsFor, idsFor, offsetsFor, enoughFor, joinedWords, leftFor, Filling}
 
 -- put from the start over something as long
 pub put-whole : {A : Type 0} (vs old : List A) → length vs ≡ length old → put 0 vs old ≡ vs
@@ -73,15 +73,15 @@ module _ (mode : ℕ) (addresses places : List (List ℕ)) (ids offsets : List �
 
 module _ {mode class to : ℕ} {addresses places sources : List (List ℕ)} {ids offsets values map outIds outOffsets outValues : List ℕ}
     (g : Filling mode class to addresses places sources ids offsets values map outIds outOffsets outValues) where
-  pub words-stacked : mode ≡ 0 → stackedWords to places sources values map ≡ wordsFor mode to addresses places sources ids offsets values map
-  unfolding wordsFor
+  pub words-stacked : mode ≡ 0 → stackedWords to places sources values map ≡ joinedWords mode to addresses places sources ids offsets values map
+  unfolding joinedWords
   words-stacked e = at-code mode 0 (stackedWords to places sources values map) (orderedWords to places sources ids offsets values map addresses) e
 
-  pub words-ordered : (mode ≡ 0 → ⊥) → orderedWords to places sources ids offsets values map addresses ≡ wordsFor mode to addresses places sources ids offsets values map
-  unfolding wordsFor
+  pub words-ordered : (mode ≡ 0 → ⊥) → orderedWords to places sources ids offsets values map addresses ≡ joinedWords mode to addresses places sources ids offsets values map
+  unfolding joinedWords
   words-ordered e = past-code mode 0 (stackedWords to places sources values map) (orderedWords to places sources ids offsets values map addresses) e
 
-  module _ (ws vs : List ℕ) (e : ws ≡ widthsFor mode addresses places ids offsets) (q : vs ≡ wordsFor mode to addresses places sources ids offsets values map) where
+  module _ (ws vs : List ℕ) (e : ws ≡ widthsFor mode addresses places ids offsets) (q : vs ≡ joinedWords mode to addresses places sources ids offsets values map) where
     pub ids-place : RoomIf (not (eqb class 0)) 0 (length (idsOf 0 ws)) (length outIds)
     ids-place = rw e (g .ids-room)
 

@@ -126,8 +126,8 @@ planFor mode required records ids offsets values lengths words addresses places 
 -- ---- the fills
 
 -- the joined column's values
-unfoldable pub wordsFor : ℕ → ℕ → List (List ℕ) → List (List ℕ) → List (List ℕ) → List ℕ → List ℕ → List ℕ → List ℕ → List ℕ
-wordsFor mode to addresses places sources ids offsets values map =
+unfoldable pub joinedWords : ℕ → ℕ → List (List ℕ) → List (List ℕ) → List (List ℕ) → List ℕ → List ℕ → List ℕ → List ℕ → List ℕ
+joinedWords mode to addresses places sources ids offsets values map =
     cond (eqb mode 0) (stackedWords to places sources values map) (orderedWords to places sources ids offsets values map addresses)
 
 -- the working bytes: an ordered join leaves them zero
@@ -139,4 +139,4 @@ pub record Filling (mode class to : ℕ) (addresses places sources : List (List 
   pub ordered : (mode ≡ 0 → ⊥) → Ordered to addresses places sources ids offsets values map
   pub ids-room : RoomIf (not (eqb class 0)) 0 (length (idsOf 0 (widthsFor mode addresses places ids offsets))) (length outIds)
   pub offsets-room : RoomIf (eqb class 2) 0 (length (0 ∷ totalsOf 0 (widthsFor mode addresses places ids offsets))) (length outOffsets)
-  pub values-room : length (wordsFor mode to addresses places sources ids offsets values map) ≤ length outValues
+  pub values-room : length (joinedWords mode to addresses places sources ids offsets values map) ≤ length outValues

@@ -10,7 +10,7 @@ ghost use Rattle.runs.specs.Put.{put, putIf};
 ghost use Rattle.places.specs.Width.{idsOf, totalsOf};
 ghost use Rattle.term_rows.specs.Runs.{toAt, textAt};
 ghost use Rattle.column_index_merge.specs.Class.{greatestIn, AllClassed};
-ghost use Rattle.merge_column.specs.Plan.{Preparing, Prepared, classFor, HeldRuns, idsFor, offsetsFor, enoughFor, planOf, Planning, planFor, widthsFor, wordsFor, leftFor, Filling};
+ghost use Rattle.merge_column.specs.Plan.{Preparing, Prepared, classFor, HeldRuns, idsFor, offsetsFor, enoughFor, planOf, Planning, planFor, widthsFor, joinedWords, leftFor, Filling};
 
 // Where the segments stand, which of them are held, and each one's part of the map.
 pub fn prepare(
@@ -250,7 +250,7 @@ pub fn fill_rows(
     requires { ⌜ Filling mode class to (now addresses) (now places) (now sources) (now ids) (now offsets) (now values) (now map) (now «out_ids») (now «out_offsets») (now «out_values») ⌝ }
     ensures { λ _. ⌜ now («out_ids» .exit) ≡ putIf (not (eqb class 0)) 0 (idsOf 0 (widthsFor mode (now (addresses .entry)) (now (places .entry)) (now (ids .entry)) (now (offsets .entry)))) (now («out_ids» .entry)) ⌝ }
     ensures { λ _. ⌜ now («out_offsets» .exit) ≡ putIf (eqb class 2) 0 (0 ∷ totalsOf 0 (widthsFor mode (now (addresses .entry)) (now (places .entry)) (now (ids .entry)) (now (offsets .entry)))) (now («out_offsets» .entry)) ⌝ }
-    ensures { λ _. ⌜ now («out_values» .exit) ≡ put 0 (wordsFor mode to (now (addresses .entry)) (now (places .entry)) (now (sources .entry)) (now (ids .entry)) (now (offsets .entry)) (now (values .entry)) (now (map .entry))) (now («out_values» .entry)) ⌝ }
+    ensures { λ _. ⌜ now («out_values» .exit) ≡ put 0 (joinedWords mode to (now (addresses .entry)) (now (places .entry)) (now (sources .entry)) (now (ids .entry)) (now (offsets .entry)) (now (values .entry)) (now (map .entry))) (now («out_values» .entry)) ⌝ }
     ensures { λ _. ⌜ now (work .exit) ≡ leftFor mode (now (work .entry)) ⌝ }
 {
     if mode == 0 {

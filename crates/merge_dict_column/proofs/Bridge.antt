@@ -12,10 +12,11 @@ use Rattle.definitions.specs.Lists.{sum, upFrom, upTo, filter, concat, sortTerm
 use Rattle.definitions.specs.Segment.{Segment, SegmentRecord, Sections, cut, firstSegment, segmentsFrom}
 use Rattle.definitions.specs.Row.{isHeld, heldOf, hasAliveSet}
 use Rattle.definitions.specs.Join.{absent, isUsed, keptTerms, termsOf, ordinalOf, mapOf}
-use Rattle.definitions.specs.Outcome.{written}
 use Rattle.term_rows.specs.Rows.{rankAt}
 use Rattle.term_rows.specs.Runs.{joinTo, countAt, heldAt, posAt, fromAt, toAt, textAt}
-use Rattle.merge_dict_column.specs.Dict.{heldDict, markedFrom, mergedTerms, mergedMap, Dictionary}
+use Rattle.term_walk.specs.Walk.{markedFrom}
+use Rattle.term_walk.proofs.Ends.{merged-same}
+use Rattle.merge_dict_column.specs.Dict.{heldDict, mergedTerms, mergedMap, Dictionary}
 use Rattle.merge_dict_column.specs.Stands.{Stands, Joins}
 use Rattle.definitions.specs.Answer.{total}
 use Rattle.segment.specs.Records.{recordsOf}
@@ -128,14 +129,7 @@ module _ {ss : List Segment} {records : List (List ℕ)} {held lengths bytes mar
       (λ s l. split (λ x. map (ordinalOf (termsOf ss)) (x .terms)) (λ t s. map (ordinalOf (termsOf ss)) t) s l (λ t e. ap (map (ordinalOf (termsOf ss))) e) (λ e. refl))
 
   pub joins : (lens outs ords : List ℕ) (n m : ℕ) (lens′ outs′ ords′ : List ℕ) → Dictionary records held lengths bytes marks all lens outs ords n m lens′ outs′ ords′ → Joins ss lens outs ords n m lens′ outs′ ords′
-  joins lens outs ords n m lens′ outs′ ords′ d =
-      record {
-        terms = d .terms ∙ ap length terms-are;
-        used = d .used ∙ ap (λ (o : List (List ℕ)). length (concat o)) terms-are;
-        lengths-out = d .lengths-out ∙ ap (λ (o : List (List ℕ)). written (map length o) lens) terms-are;
-        texts-out = d .texts-out ∙ ap (λ (o : List (List ℕ)). written (concat o) outs) terms-are;
-        map-out = d .map-out ∙ ap (λ (l : List ℕ). written l ords) map-is;
-      }
+  joins lens outs ords n m lens′ outs′ ords′ d = merged-same terms-are map-is d
 
 -- ---- the segments that the sections say have their terms in the runs
 

@@ -10,20 +10,21 @@ use lib.Ieee.Fits.{and-l, and-r}
 use lib.ListN.{length, getD, take, drop, length-map, length-take, List·getD-eq-default}
 use borrow.Author.Tests.{eqb-false}
 use Rattle.definitions.specs.Lists.{sum, all, filter, isEmpty, concat, termsAscending}
-use Rattle.definitions.specs.Segment.{Segment, cut, segmentsFrom}
+use Rattle.definitions.specs.Segment.{Segment, segmentsFrom, recordFrom}
 use Rattle.definitions.specs.Row.{isHeld, heldOf, hasAliveSet}
 use Rattle.definitions.specs.Types.{hasTerms, BoolType}
 use Rattle.definitions.specs.Join.{absent, isUsed}
 use Rattle.definitions.specs.Answer.{valuesFit}
-use Rattle.segment.specs.Records.{recordOf, recordsOf, sectionsIn}
+use Rattle.segment.specs.Records.{recordsOf, sectionsIn}
 use Rattle.term_rows.specs.Rows.{rankAt}
-use Rattle.term_rows.specs.Runs.{countAt, heldAt, posAt, fromAt, Runs}
+use Rattle.term_rows.specs.Runs.{countAt, posAt, fromAt, Runs}
 use Rattle.term_rows.proofs.Rows.{le-lt, cut-length, sum-take-le}
 use Rattle.term_rows.proofs.Starts.{from-sum}
 use Rattle.term_marks.specs.Marks.{marksOf}
 use Rattle.term_marks.proofs.Kept.{all-at, segments-length, mark-of}
 use Rattle.merge_dict_column.specs.Dict.{heldDict, Texts}
 use Rattle.merge_dict_column.specs.Stands.{Stands, Flags}
+use Rattle.merge_dict_column.proofs.Ends.{dict-empty}
 use Rattle.merge_dict_column.proofs.Bridge.{sections-dict, dict-held, dict-none, terms-sum, texts-sum}
 
 module _ (records : List (List ℕ)) (held ids offsets values lengths bytes alive : List ℕ) where
@@ -31,7 +32,7 @@ module _ (records : List (List ℕ)) (held ids offsets values lengths bytes aliv
   ss = segmentsFrom (recordsOf records) (sectionsIn ids offsets values lengths bytes alive)
 
   size : length records ≡ length ss
-  size = sym (segments-length (recordsOf records) (sectionsIn ids offsets values lengths bytes alive) ∙ length-map records recordOf)
+  size = sym (segments-length (recordsOf records) (sectionsIn ids offsets values lengths bytes alive) ∙ length-map records recordFrom)
 
   terms-few : (s : ℕ) → s < length records → length (getD ss s absent .terms) ≤ countAt records s
   terms-few s h =
@@ -101,10 +102,9 @@ unfolding heldOf
 held-filter h ss = filter-sum h isHeld ss
 
 dict-past : (records : List (List ℕ)) (held lengths bytes : List ℕ) (s : ℕ) → length records ≤ s → heldDict records held lengths bytes s ≡ []
-unfolding heldDict
 dict-past records held lengths bytes s h =
-    let z : heldAt records held s ≡ 0 = ap (λ (r : List ℕ). cond (eqb (getD held s 0) 0) 0 (recordOf r .terms)) (List·getD-eq-default records [] h) ∙ none (eqb (getD held s 0) 0) in
-    ap (λ (n : ℕ). cut (take n (drop (posAt records s) lengths)) (drop (fromAt records lengths s) bytes)) z
+    dict-empty records held lengths bytes s
+    (ap (λ (r : List ℕ). cond (eqb (getD held s 0) 0) 0 (recordFrom r .terms)) (List·getD-eq-default records [] h) ∙ none (eqb (getD held s 0) 0))
   where
     none : (b : Bool) → _≡_ {A = ℕ} (cond b 0 0) 0
     none true = refl

@@ -1,33 +1,25 @@
 -- The dictionaries of the held segments in the flat runs, and what is merged of them. Assumes nothing.
-use Prim.Native.Nat.{ℕ, suc, _≤_, _<_}
-use mathlib.Core.Bool.{Bool, cond}
-use mathlib.Core.List.{List, [], _∷_, map}
-use mathlib.Core.Path.{_≡_}
-use lib.Dec.{eqb, T}
+use Prim.Native.Nat.{ℕ, _≤_, _<_}
+use mathlib.Core.Bool.{Bool}
+use mathlib.Core.List.{List}
+use lib.Dec.{T}
 use lib.ListN.{length, take, drop}
-use Rattle.definitions.specs.Lists.{sortTerms, termsAscending, concat}
+use Rattle.definitions.specs.Lists.{termsAscending}
 use Rattle.definitions.specs.Segment.{cut}
-use Rattle.definitions.specs.Join.{ordinalOf}
-use Rattle.definitions.specs.Outcome.{written}
-use Rattle.term_rows.specs.Runs.{joinTo, heldAt, posAt, fromAt, toAt, textAt}
-use Rattle.term_rows.specs.Rows.{rankAt}
+use Rattle.term_rows.specs.Runs.{heldAt, posAt, fromAt, toAt, textAt}
+use Rattle.term_walk.specs.Walk.{termsTo, mapTo, Merged}
 
 -- the dictionary of a held segment, nothing for another
 unfoldable pub heldDict : List (List ℕ) → List ℕ → List ℕ → List ℕ → ℕ → List (List ℕ)
 heldDict records held lengths bytes s = cut (take (heldAt records held s) (drop (posAt records s) lengths)) (drop (fromAt records lengths s) bytes)
 
--- the terms that are marked; the first one's mark stands at pos
-abbrev pub markedFrom : List ℕ → Bool → ℕ → List (List ℕ) → List (List ℕ)
-markedFrom marks all pos [] = []
-markedFrom marks all pos (t ∷ ts) = cond (eqb (rankAt marks all pos) 0) (t ∷ markedFrom marks all (suc pos) ts) (markedFrom marks all (suc pos) ts)
-
+-- the marked terms of the held segments, ascending, each once
 unfoldable pub mergedTerms : List (List ℕ) → List ℕ → List ℕ → List ℕ → List ℕ → Bool → List (List ℕ)
-mergedTerms records held lengths bytes marks all =
-    sortTerms (joinTo (λ s. markedFrom marks all (posAt records s) (heldDict records held lengths bytes s)) (length records))
+mergedTerms records held lengths bytes marks all = termsTo marks all (posAt records) (heldDict records held lengths bytes) (length records)
 
+-- each old ordinal's new one, held segment by segment
 unfoldable pub mergedMap : List (List ℕ) → List ℕ → List ℕ → List ℕ → List ℕ → Bool → List ℕ
-mergedMap records held lengths bytes marks all =
-    joinTo (λ s. map (ordinalOf (mergedTerms records held lengths bytes marks all)) (heldDict records held lengths bytes s)) (length records)
+mergedMap records held lengths bytes marks all = mapTo (mergedTerms records held lengths bytes marks all) (heldDict records held lengths bytes) (length records)
 
 -- ---- what the walk needs of the texts and the outputs
 
@@ -41,9 +33,5 @@ pub record Texts (records : List (List ℕ)) (held lengths bytes : List ℕ) (le
 
 -- ---- what is left at the end
 
-pub record Dictionary (records : List (List ℕ)) (held lengths bytes marks : List ℕ) (all : Bool) (lens outs ords : List ℕ) (n m : ℕ) (lens′ outs′ ords′ : List ℕ) : Type 0 where
-  pub terms : n ≡ length (mergedTerms records held lengths bytes marks all)
-  pub used : m ≡ length (concat (mergedTerms records held lengths bytes marks all))
-  pub lengths-out : lens′ ≡ written (map length (mergedTerms records held lengths bytes marks all)) lens
-  pub texts-out : outs′ ≡ written (concat (mergedTerms records held lengths bytes marks all)) outs
-  pub map-out : ords′ ≡ written (mergedMap records held lengths bytes marks all) ords
+abbrev pub Dictionary : List (List ℕ) → List ℕ → List ℕ → List ℕ → List ℕ → Bool → List ℕ → List ℕ → List ℕ → ℕ → ℕ → List ℕ → List ℕ → List ℕ → Type 0
+Dictionary records held lengths bytes marks all = Merged (mergedTerms records held lengths bytes marks all) (mergedMap records held lengths bytes marks all)

@@ -1,17 +1,16 @@
 -- How the segments of the definitions stand in what is lent. Assumes nothing.
 use Prim.Native.Nat.{ℕ, _+_, _<_}
 use mathlib.Core.Bool.{Bool, true, cond, not}
-use mathlib.Core.List.{List, map}
+use mathlib.Core.List.{List}
 use mathlib.Core.Path.{_≡_}
 use lib.Dec.{eqb}
 use lib.ListN.{length, take, drop, getD}
-use Rattle.definitions.specs.Lists.{concat}
 use Rattle.definitions.specs.Segment.{Segment, cut}
 use Rattle.definitions.specs.Row.{isHeld, hasAliveSet}
 use Rattle.definitions.specs.Join.{absent, isUsed, termsOf, mapOf}
-use Rattle.definitions.specs.Outcome.{written}
 use Rattle.term_rows.specs.Rows.{rankAt}
 use Rattle.term_rows.specs.Runs.{countAt, posAt, fromAt}
+use Rattle.term_walk.specs.Walk.{Merged}
 
 -- a byte for each segment, 0 where it is not held
 pub record Flags (ss : List Segment) (held : List ℕ) : Type 0 where
@@ -26,9 +25,5 @@ pub record Stands (ss : List Segment) (records : List (List ℕ)) (held lengths 
       → eqb (rankAt marks all (posAt records s + i)) 0 ≡ cond (hasAliveSet (getD ss s absent)) (isUsed (getD ss s absent) i) true
 
 -- the outputs and the counts that the definitions give
-pub record Joins (ss : List Segment) (lens outs ords : List ℕ) (n m : ℕ) (lens′ outs′ ords′ : List ℕ) : Type 0 where
-  pub terms : n ≡ length (termsOf ss)
-  pub used : m ≡ length (concat (termsOf ss))
-  pub lengths-out : lens′ ≡ written (map length (termsOf ss)) lens
-  pub texts-out : outs′ ≡ written (concat (termsOf ss)) outs
-  pub map-out : ords′ ≡ written (mapOf ss) ords
+abbrev pub Joins : List Segment → List ℕ → List ℕ → List ℕ → ℕ → ℕ → List ℕ → List ℕ → List ℕ → Type 0
+Joins ss = Merged (termsOf ss) (mapOf ss)

@@ -20,7 +20,7 @@ pub fn merge_dict(
     requires { ⌜ Texts (now records) (now held) (now lengths) (now bytes) (now «out_lengths») (now «out_bytes») (now map) ⌝ }
     ensures { λ r. ⌜ Dictionary (now (records .entry)) (now (held .entry)) (now (lengths .entry)) (now (bytes .entry)) (now (marks .entry)) all (now («out_lengths» .entry)) (now («out_bytes» .entry)) (now (map .entry)) (r .terms) (r .bytes) (now («out_lengths» .exit)) (now («out_bytes» .exit)) (now (map .exit)) ⌝ }
 {
-    let mut rows = [[0usize; 6]; 256];
+    let mut rows = [[0usize; 6]; term_merger::Heap::CAP];
     term_rows::fill_rows(records, held, lengths, marks, all, &mut rows);
     let heap = term_merger::start_heap(bytes, &rows);
     term_walk::merge_terms(

@@ -11,7 +11,7 @@ use Rattle.definitions.specs.Segment.{SegmentRecord, Sections, Address, Space, 
 use Rattle.definitions.specs.Answer.{total, tooManySegments, lengthsWrong, codesWrong, listsWrong, valuesWrong, aliveWrong, sumsTooLarge, workingTooSmall, addressesWrong, typesWrong, outputTooShort, answer}
 use Rattle.segment.specs.Lent.{workingOnly}
 use Rattle.sections_fit.specs.Walks.{firstSeven}
-use Rattle.sections_fit.proofs.Seven.{cond-none, cond-stop, seven-stop, seven-go, Passed, passed, ready}
+use Rattle.sections_fit.proofs.Seven.{cond-none, cond-stop, seven-stop, seven-go, PassedSeven, passed, ready}
 use Rattle.merge_mapping.specs.Mapping.{rowsIn, addressesRight, roomEnough, answerToNine}
 use Rattle.merge_mapping.proofs.Own.{input-room, input-addresses}
 
@@ -26,7 +26,7 @@ module _ (i : Input) where
   unfolding answerToNine
   nine-first e h = e ∙ seven-stop i later (λ z. h (e ∙ z))
 
-  module _ (p : Passed i) where
+  module _ (p : PassedSeven i) where
     after : answerToNine i ≡ later
     unfolding answerToNine
     after = seven-go i later p
@@ -60,7 +60,7 @@ room-rows mode rows terms working {b} e t k n = go (ltb working (rows + terms)) 
 
 -- every one of the nine checks has passed
 pub record PassedNine (i : Input) : Type 0 where
-  pub seven : Passed i
+  pub seven : PassedSeven i
   pub room : workingTooSmall i ≡ false
   pub addresses : addressesWrong i ≡ false
 

@@ -11,16 +11,16 @@ use lib.ListN.{length, drop, take, getD, set, drop-of-length-le, length-map, Lis
 use lib.Seq.{drop-cons, getD-take, take-at}
 use borrow.Author.Tests.{eq-eqb, ne-eqb, lt-ltb, le-ltb, ltb-true}
 use Rattle.definitions.specs.Lists.{all, upFrom, upTo}
-use Rattle.definitions.specs.Segment.{SegmentRecord, Address, aliveWords}
+use Rattle.definitions.specs.Segment.{SegmentRecord, Address, aliveWords, addressFrom}
 use Rattle.definitions.specs.Answer.{total}
 use Rattle.runs.specs.Put.{put}
 use Rattle.runs.proofs.Laws.{putting, putting-next, putting-all, upFrom-length, upFrom-at}
 use Rattle.segment.specs.declared.Record.{Record}
-use Rattle.segment.specs.Records.{structOf, plain, recordsOf}
-use Rattle.segment.specs.Lent.{address, addressOf, addressesOf}
+use Rattle.segment.specs.Records.{structOf, recordIn, recordsOf}
+use Rattle.segment.specs.Lent.{address, addressesOf}
 use Rattle.segment.proofs.Tests.{both-true}
 use Rattle.segment.proofs.Walk.{records-long, record-is, records-end, records-step, part-is, rest-is}
-use Rattle.merge_mapping.specs.Mapping.{noRecord, rowsIn, runStart, startsOf, Starts, Markable, rowAlive, wordsOf, aliveIn, placeOf, allNew, marked, rowListed, rowsListed, listedFrom}
+use Rattle.merge_mapping.specs.Mapping.{noRecord, rowsIn, runStart, startsOf, Starts, Markable, rowAlive, wordsOf, aliveIn, markPlace, allNew, marked, rowListed, rowsListed, listedFrom}
 
 -- ---- starts
 
@@ -41,7 +41,7 @@ module _ (f : SegmentRecord → ℕ) where
   start-suc (r ∷ rs) zero h = omega arith
   start-suc (r ∷ rs) (suc k) h = let e = start-suc rs k (le-of-suc-le-suc h) in omega arith
 
-  pub start-next : (records : List (List ℕ)) (i n x : ℕ) {r : Record} → i < length records → r ≡ structOf (getD records i []) → n ≡ runStart f (recordsOf records) i → x ≡ f (plain r)
+  pub start-next : (records : List (List ℕ)) (i n x : ℕ) {r : Record} → i < length records → r ≡ structOf (getD records i []) → n ≡ runStart f (recordsOf records) i → x ≡ f (recordIn r)
       → n + x ≡ runStart f (recordsOf records) (i + 1)
   start-next records i n x h e p q =
       ap₂ (λ (a b : ℕ). a + b) p (q ∙ ap f (sym (record-is records i e)))
@@ -96,18 +96,18 @@ module _ (records : List (List ℕ)) (alive : List ℕ) (seg row : ℕ) where
   in-absent h = rw (records-long records, le-ltb seg (length records) h)
 
   module _ (h : seg < length records) {r : Record} (e : r ≡ structOf (getD records seg [])) where
-    in-step : aliveIn (recordsOf records) alive (address seg row) ≡ ltb row (r .rows) && rowAlive (plain r) (take (aliveWords (plain r)) (drop (runStart aliveWords (recordsOf records) seg) alive)) row
+    in-step : aliveIn (recordsOf records) alive (address seg row) ≡ ltb row (r .rows) && rowAlive (recordIn r) (take (aliveWords (recordIn r)) (drop (runStart aliveWords (recordsOf records) seg) alive)) row
     unfolding aliveIn wordsOf
     in-step = rw (records-long records, lt-ltb seg (length records) h, record-is records seg e)
 
     pub in-past : (x : ℕ) → x ≡ r .rows → x ≤ row → false ≡ aliveIn (recordsOf records) alive (address seg row)
     in-past x p l = rw (in-step, le-ltb row (r .rows) (let k : r .rows ≤ row = omega arith in k))
 
-    pub in-found : (x from n : ℕ) {b : Bool} → x ≡ r .rows → row < x → from ≡ runStart aliveWords (recordsOf records) seg → n ≡ aliveWords (plain r)
-        → b ≡ rowAlive (plain r) (take (from + n - from) (drop from alive)) row → b ≡ aliveIn (recordsOf records) alive (address seg row)
+    pub in-found : (x from n : ℕ) {b : Bool} → x ≡ r .rows → row < x → from ≡ runStart aliveWords (recordsOf records) seg → n ≡ aliveWords (recordIn r)
+        → b ≡ rowAlive (recordIn r) (take (from + n - from) (drop from alive)) row → b ≡ aliveIn (recordsOf records) alive (address seg row)
     in-found x from n p l q m t =
         rw (in-step, lt-ltb row (r .rows) (let k : row < r .rows = omega arith in k))
-        (t ∙ ap₂ (λ (w f : ℕ). rowAlive (plain r) (take w (drop f alive)) row) (let z : from + n - from ≡ aliveWords (plain r) = omega arith in z) q)
+        (t ∙ ap₂ (λ (w f : ℕ). rowAlive (recordIn r) (take w (drop f alive)) row) (let z : from + n - from ≡ aliveWords (recordIn r) = omega arith in z) q)
 
 -- what an alive address says of itself
 pub in-range : (rs : List SegmentRecord) (alive : List ℕ) (seg row : ℕ) → aliveIn rs alive (address seg row) ≡ true → (seg < length rs) × (row < getD rs seg noRecord .rows)
@@ -119,8 +119,8 @@ in-range rs alive seg row h =
 
 -- ---- a place for each row
 
-pub place-within : (rs : List SegmentRecord) (alive : List ℕ) (a : Address) → aliveIn rs alive a ≡ true → placeOf rs a < total rowsIn rs
-unfolding placeOf
+pub place-within : (rs : List SegmentRecord) (alive : List ℕ) (a : Address) → aliveIn rs alive a ≡ true → markPlace rs a < total rowsIn rs
+unfolding markPlace
 place-within rs alive a t =
     let p = in-range rs alive (a .segment) (a .row) t in
     let e = start-within rowsIn rs (a .segment) (p .0) in
@@ -129,7 +129,7 @@ place-within rs alive a t =
 -- where the code finds the place of an alive row
 pub row-place : (rs : List SegmentRecord) (alive rows words work : List ℕ) (seg row : ℕ) {b : Bool} → Markable rs alive rows words work → b ≡ aliveIn rs alive (address seg row) → b ≡ true
     → (seg < length rows) × (getD rows seg 0 + row ≡ runStart rowsIn rs seg + row) × (getD rows seg 0 + row < length work)
-unfolding placeOf
+unfolding markPlace
 row-place rs alive rows words work seg row m e t =
     let p = in-range rs alive seg row (sym e ∙ t) in
     let s = m .starts .at seg (p .0) in
@@ -143,8 +143,8 @@ module _ (rs : List SegmentRecord) (alive : List ℕ) (addresses : List (List �
   next-is : drop j (addressesOf addresses) ≡ address seg row ∷ drop (j + 1) (addressesOf addresses)
   next-is =
       rw (add-one j)
-      (drop-cons (addressesOf addresses) j (addressOf []) (rw (length-map addresses addressOf) h)
-      ∙ ap (λ (a : Address). a ∷ drop (suc j) (addressesOf addresses)) (List·getD-map addressOf addresses j [] ∙ ap₂ (λ (a b : ℕ). address a b) (sym p) (sym q)))
+      (drop-cons (addressesOf addresses) j (addressFrom []) (rw (length-map addresses addressFrom) h)
+      ∙ ap (λ (a : Address). a ∷ drop (suc j) (addressesOf addresses)) (List·getD-map addressFrom addresses j [] ∙ ap₂ (λ (a b : ℕ). address a b) (sym p) (sym q)))
 
   -- what stands at the end of a run that stops here, and of one that goes on with w
   abbrev Stops : Type 0
@@ -160,8 +160,8 @@ module _ (rs : List SegmentRecord) (alive : List ℕ) (addresses : List (List �
   turn-absent e f = rw (next-is, ← e, f) (refl, refl)
 
   module _ (s : at ≡ runStart rowsIn rs seg + row) {b : Bool} (e : b ≡ aliveIn rs alive (address seg row)) (t : b ≡ true) where
-    at-place : placeOf rs (address seg row) ≡ at
-    unfolding placeOf
+    at-place : markPlace rs (address seg row) ≡ at
+    unfolding markPlace
     at-place = sym s
 
     pub turn-seen : (getD work at 0 ≡ 0 → ⊥) → Stops
@@ -175,7 +175,7 @@ module _ (rs : List SegmentRecord) (alive : List ℕ) (addresses : List (List �
 pub turn-end : (rs : List SegmentRecord) (alive work : List ℕ) (addresses : List (List ℕ)) (j : ℕ) → length addresses ≤ j
     → (true ≡ allNew rs alive work (drop j (addressesOf addresses))) × (work ≡ marked rs alive work (drop j (addressesOf addresses)))
 unfolding allNew marked
-turn-end rs alive work addresses j h = rw (drop-of-length-le (addressesOf addresses) (let l : length (addressesOf addresses) ≤ j = rw (length-map addresses addressOf) h in l)) (refl, refl)
+turn-end rs alive work addresses j h = rw (drop-of-length-le (addressesOf addresses) (let l : length (addressesOf addresses) ≤ j = rw (length-map addresses addressFrom) h in l)) (refl, refl)
 
 -- ---- every alive row of a segment is marked
 
@@ -205,9 +205,9 @@ row-marked r alive marks k p q = rw (← p, q)
 -- ---- and of all segments
 
 pub all-step : (records : List (List ℕ)) (s : ℕ) (h : s < length records) {r : Record} (e : r ≡ structOf (getD records s [])) (alive marks : List ℕ) (a a′ n m m′ : ℕ)
-    → n ≡ aliveWords (plain r) → a′ ≡ a + n → m′ ≡ m + r .rows
+    → n ≡ aliveWords (recordIn r) → a′ ≡ a + n → m′ ≡ m + r .rows
     → listedFrom (recordsOf (drop s records)) (drop a alive) (drop m marks)
-    ≡ rowsListed (plain r) (take (a′ - a) (drop a alive)) (take (m′ - m) (drop m marks)) && listedFrom (recordsOf (drop (s + 1) records)) (drop a′ alive) (drop m′ marks)
+    ≡ rowsListed (recordIn r) (take (a′ - a) (drop a alive)) (take (m′ - m) (drop m marks)) && listedFrom (recordsOf (drop (s + 1) records)) (drop a′ alive) (drop m′ marks)
 unfolding listedFrom
 all-step records s h {r} e alive marks a a′ n m m′ k p q =
     rw (part-is n a a′ alive p, rest-is n a a′ alive p, part-is (r .rows) m m′ marks q, rest-is (r .rows) m m′ marks q, k, records-step records s h e)

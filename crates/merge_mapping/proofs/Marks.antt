@@ -17,7 +17,7 @@ use Rattle.definitions.specs.Answer.{total, sameAddress, isListed, isRepeated}
 use Rattle.segment.specs.Lent.{address}
 use Rattle.segment.proofs.Tests.{both-true, not-not}
 use Rattle.sections_fit.proofs.Walks.{eqb-same}
-use Rattle.merge_mapping.specs.Mapping.{noRecord, rowsIn, runStart, rowAlive, wordsOf, aliveIn, placeOf, allNew, marked, Marks, rowListed, rowsListed, listedFrom, stackedRows, aliveListed, eachOnce}
+use Rattle.merge_mapping.specs.Mapping.{noRecord, rowsIn, runStart, rowAlive, wordsOf, aliveIn, markPlace, allNew, marked, Marks, rowListed, rowsListed, listedFrom, stackedRows, aliveListed, eachOnce}
 use Rattle.merge_mapping.proofs.Laws.{in-range, place-within}
 
 -- ---- lists
@@ -55,8 +55,8 @@ all-upTo p q n e = all-from p q 0 n (λ x h l. e x (omega arith))
 -- ---- a place for each row
 
 place-unique : (rs : List SegmentRecord) (k k′ x x′ : ℕ) → k < length rs → k′ < length rs → x < getD rs k noRecord .rows → x′ < getD rs k′ noRecord .rows
-    → placeOf rs (address k x) ≡ placeOf rs (address k′ x′) → (k ≡ k′) × (x ≡ x′)
-unfolding placeOf runStart
+    → markPlace rs (address k x) ≡ markPlace rs (address k′ x′) → (k ≡ k′) × (x ≡ x′)
+unfolding markPlace runStart
 place-unique [] k k′ x x′ h h′ l l′ e = absurd (omega arith)
 place-unique (r ∷ rs) zero zero x x′ h h′ l l′ e = (refl, omega arith)
 place-unique (r ∷ rs) zero (suc k′) x x′ h h′ l l′ e = absurd (omega arith)
@@ -86,26 +86,26 @@ getD-zeros (suc n) (suc k) = getD-zeros n k
 
 marks-none : (rs : List SegmentRecord) (work : List ℕ) → work ≡ replicate (length work) 0 → Marks rs [] work
 marks-none rs work e k r h l =
-    eq-eqb (getD work (placeOf rs (address k r)) 0) 0 (ap (λ (w : List ℕ). getD w (placeOf rs (address k r)) 0) e ∙ getD-zeros (length work) (placeOf rs (address k r)))
+    eq-eqb (getD work (markPlace rs (address k r)) 0) 0 (ap (λ (w : List ℕ). getD w (markPlace rs (address k r)) 0) e ∙ getD-zeros (length work) (markPlace rs (address k r)))
 
 marks-more : (rs : List SegmentRecord) (seen : List Address) (work : List ℕ) (seg row : ℕ) → Marks rs seen work → seg < length rs → row < getD rs seg noRecord .rows
-    → placeOf rs (address seg row) < length work → Marks rs (seen ++ (address seg row ∷ [])) (set work (placeOf rs (address seg row)) 1)
-marks-more rs seen work seg row m h l inside k x hk lx = rw (listed-snoc (address k x) (address seg row) seen) (go (ℕ-discrete (placeOf rs (address k x)) at))
+    → markPlace rs (address seg row) < length work → Marks rs (seen ++ (address seg row ∷ [])) (set work (markPlace rs (address seg row)) 1)
+marks-more rs seen work seg row m h l inside k x hk lx = rw (listed-snoc (address k x) (address seg row) seen) (go (ℕ-discrete (markPlace rs (address k x)) at))
   where
     at : ℕ
-    at = placeOf rs (address seg row)
+    at = markPlace rs (address seg row)
 
     same : k ≡ seg → x ≡ row → sameAddress (address k x) (address seg row) ≡ true
     same p q = rw (eq-eqb k seg p, eq-eqb x row q)
 
-    other : (placeOf rs (address k x) ≡ at → ⊥) → sameAddress (address k x) (address seg row) ≡ false
+    other : (markPlace rs (address k x) ≡ at → ⊥) → sameAddress (address k x) (address seg row) ≡ false
     other n = pick (eqb k seg && eqb x row) refl
       where
         pick : (t : Bool) → eqb k seg && eqb x row ≡ t → t ≡ false
         pick false q = refl
         pick true q =
             let b = both-true (eqb k seg) (eqb x row) q in
-            absurd (n (ap₂ (λ (i j : ℕ). placeOf rs (address i j)) (eqb-true k seg (b .0)) (eqb-true x row (b .1))))
+            absurd (n (ap₂ (λ (i j : ℕ). markPlace rs (address i j)) (eqb-true k seg (b .0)) (eqb-true x row (b .1))))
 
     or-true : (t : Bool) → t || true ≡ true
     or-true true = refl
@@ -115,11 +115,11 @@ marks-more rs seen work seg row m h l inside k x hk lx = rw (listed-snoc (addres
     or-false true = refl
     or-false false = refl
 
-    go : Dec (placeOf rs (address k x) ≡ at) → eqb (getD (set work at 1) (placeOf rs (address k x)) 0) 0 ≡ not (isListed (address k x) seen || sameAddress (address k x) (address seg row))
+    go : Dec (markPlace rs (address k x) ≡ at) → eqb (getD (set work at 1) (markPlace rs (address k x)) 0) 0 ≡ not (isListed (address k x) seen || sameAddress (address k x) (address seg row))
     go (yes q) =
         let u = place-unique rs k seg x row hk h lx l q in
         rw (q, getD-set-same work at 1 0 inside, same (u .0) (u .1), or-true (isListed (address k x) seen))
-    go (no n) = rw (getD-set-other work at (placeOf rs (address k x)) 1 0 n, other n, or-false (isListed (address k x) seen)) (m k x hk lx)
+    go (no n) = rw (getD-set-other work at (markPlace rs (address k x)) 1 0 n, other n, or-false (isListed (address k x) seen)) (m k x hk lx)
 
 -- ---- no address comes twice
 
@@ -156,24 +156,24 @@ record Seen (rs : List SegmentRecord) (seen : List Address) (work : List ℕ) : 
   room : total rowsIn rs ≤ length work
 
 seen-more : (rs : List SegmentRecord) (alive : List ℕ) (seen : List Address) (work : List ℕ) (a : Address) → Seen rs seen work → aliveIn rs alive a ≡ true
-    → Seen rs (seen ++ (a ∷ [])) (set work (placeOf rs a) 1)
+    → Seen rs (seen ++ (a ∷ [])) (set work (markPlace rs a) 1)
 seen-more rs alive seen work a s t =
     let r = in-range rs alive (a .segment) (a .row) t in
     let p = place-within rs alive a t in
     record {
       marks = marks-more rs seen work (a .segment) (a .row) (s .marks) (r .0) (r .1) (omega (arith, s .room));
-      room = rw (length-set work (placeOf rs a) 1) (s .room);
+      room = rw (length-set work (markPlace rs a) 1) (s .room);
     }
 
 new-from : (rs : List SegmentRecord) (alive : List ℕ) (bs seen : List Address) (work : List ℕ) → Seen rs seen work
     → allNew rs alive work bs ≡ all (aliveIn rs alive) bs && (not (clash seen bs) && not (isRepeated bs))
 unfolding allNew
 new-from rs alive [] seen work s = refl
-new-from rs alive (a ∷ bs) seen work s = go (new-from rs alive bs (seen ++ (a ∷ [])) (set work (placeOf rs a) 1)) (aliveIn rs alive a) refl
+new-from rs alive (a ∷ bs) seen work s = go (new-from rs alive bs (seen ++ (a ∷ [])) (set work (markPlace rs a) 1)) (aliveIn rs alive a) refl
   where
-    go : (Seen rs (seen ++ (a ∷ [])) (set work (placeOf rs a) 1) → allNew rs alive (set work (placeOf rs a) 1) bs ≡ all (aliveIn rs alive) bs && (not (clash (seen ++ (a ∷ [])) bs) && not (isRepeated bs)))
+    go : (Seen rs (seen ++ (a ∷ [])) (set work (markPlace rs a) 1) → allNew rs alive (set work (markPlace rs a) 1) bs ≡ all (aliveIn rs alive) bs && (not (clash (seen ++ (a ∷ [])) bs) && not (isRepeated bs)))
         → (t : Bool) → aliveIn rs alive a ≡ t
-        → t && (eqb (getD work (placeOf rs a) 0) 0 && allNew rs alive (set work (placeOf rs a) 1) bs)
+        → t && (eqb (getD work (markPlace rs a) 0) 0 && allNew rs alive (set work (markPlace rs a) 1) bs)
         ≡ (t && all (aliveIn rs alive) bs) && (not (isListed a seen || clash seen bs) && not (isListed a bs || isRepeated bs))
     go ih false e = refl
     go ih true e =
@@ -186,11 +186,11 @@ marked-from : (rs : List SegmentRecord) (alive : List ℕ) (bs seen : List Addre
 unfolding allNew marked
 marked-from rs alive [] seen work s t = subst (λ (l : List Address). Seen rs l work) (sym (append-nil seen)) s
 marked-from rs alive (a ∷ bs) seen work s t =
-    let w = set work (placeOf rs a) 1 in
-    let p = both-true (aliveIn rs alive a) (eqb (getD work (placeOf rs a) 0) 0 && allNew rs alive w bs) t in
-    let q = both-true (eqb (getD work (placeOf rs a) 0) 0) (allNew rs alive w bs) (p .1) in
+    let w = set work (markPlace rs a) 1 in
+    let p = both-true (aliveIn rs alive a) (eqb (getD work (markPlace rs a) 0) 0 && allNew rs alive w bs) t in
+    let q = both-true (eqb (getD work (markPlace rs a) 0) 0) (allNew rs alive w bs) (p .1) in
     let ih = marked-from rs alive bs (seen ++ (a ∷ [])) w (seen-more rs alive seen work a s (p .0)) (q .1) in
-    let e : cond (aliveIn rs alive a && eqb (getD work (placeOf rs a) 0) 0) (marked rs alive w bs) work ≡ marked rs alive w bs = rw (p .0, q .0) in
+    let e : cond (aliveIn rs alive a && eqb (getD work (markPlace rs a) 0) 0) (marked rs alive w bs) work ≡ marked rs alive w bs = rw (p .0, q .0) in
     subst (λ (l : List ℕ). Seen rs (seen ++ (a ∷ bs)) l) (sym e) (subst (λ (l : List Address). Seen rs l (marked rs alive w bs)) (append-assoc seen (a ∷ []) bs) ih)
 
 pub words-after : (r : SegmentRecord) (rs : List SegmentRecord) (alive : List ℕ) (k : ℕ) → wordsOf (r ∷ rs) alive (suc k) ≡ wordsOf rs (drop (aliveWords r) alive) k
@@ -260,7 +260,7 @@ unfolding aliveIn
 in-self rs alive k x h l = rw (lt-ltb k (length rs) h, lt-ltb x (getD rs k noRecord .rows) l)
 
 pub listed-is : (rs : List SegmentRecord) (alive work : List ℕ) (bs : List Address) → Marks rs bs work → listedFrom rs alive work ≡ aliveListed rs alive bs
-unfolding aliveListed placeOf
+unfolding aliveListed markPlace
 listed-is rs alive work bs m =
     listed-from rs alive bs 0 rs alive work
     (record {

@@ -8,11 +8,11 @@ use lib.Dec.{eqb, ltb}
 use lib.ListN.{length, getD, length-map}
 use borrow.Author.Tests.{eq-eqb, ne-eqb}
 use Rattle.definitions.specs.Lists.{all, filter, upTo}
-use Rattle.definitions.specs.Segment.{SegmentRecord, Sections, Address, Input, firstSegment, afterFirst, segmentsFrom, segmentsOf}
+use Rattle.definitions.specs.Segment.{SegmentRecord, Sections, Address, Input, firstSegment, afterFirst, segmentsFrom, segmentsOf, addressFrom}
 use Rattle.definitions.specs.Row.{isAlive}
 use Rattle.definitions.specs.Join.{absent, stackedFrom}
 use Rattle.definitions.specs.Answer.{total, isListed, isRepeated, isAliveAt, aliveAddresses, listsAliveRows, addressesWrong, workingTooSmall}
-use Rattle.segment.specs.Lent.{address, addressOf, addressesOf}
+use Rattle.segment.specs.Lent.{address, addressesOf}
 use Rattle.segment.proofs.Tests.{empty-length}
 use Rattle.sections_fit.specs.Walks.{Exact}
 use Rattle.sections_fit.proofs.Own.{rows-all, terms-sum}
@@ -84,7 +84,7 @@ input-addresses i =
 
 pub right-stacked : (mode : ℕ) (rs : List SegmentRecord) (alive : List ℕ) (addresses : List (List ℕ)) → mode ≡ 0 → eqb (length addresses) 0 ≡ addressesRight mode rs alive (addressesOf addresses)
 unfolding addressesRight
-right-stacked mode rs alive addresses e = rw (eq-eqb mode 0 e, length-map addresses addressOf)
+right-stacked mode rs alive addresses e = rw (eq-eqb mode 0 e, length-map addresses addressFrom)
 
 pub right-ordered : (mode : ℕ) (rs : List SegmentRecord) (alive : List ℕ) (bs : List Address) {b : Bool} → (mode ≡ 0 → ⊥) → b ≡ eachOnce rs alive bs → b ≡ addressesRight mode rs alive bs
 unfolding addressesRight

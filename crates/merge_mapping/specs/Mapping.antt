@@ -7,16 +7,15 @@ use mathlib.Core.Bool.{Bool, true, _&&_, _||_, cond, not}
 use lib.ListN.{length, getD, take, drop, set, replicate}
 use lib.Dec.{eqb, ltb}
 use Rattle.definitions.specs.Lists.{all, upTo}
-use Rattle.definitions.specs.Segment.{SegmentRecord, Address, Input, aliveWords}
+use Rattle.definitions.specs.Segment.{SegmentRecord, Address, Input, aliveWords, recordFrom}
 use Rattle.definitions.specs.Row.{bitAt}
 use Rattle.definitions.specs.Answer.{total, isListed, isRepeated, workingTooSmall, addressesWrong}
-use Rattle.segment.specs.Records.{recordOf}
 use Rattle.segment.specs.Lent.{address}
 use Rattle.sections_fit.specs.Walks.{firstSeven}
 
 -- what stands for a record that is absent
 abbrev pub noRecord : SegmentRecord
-noRecord = recordOf []
+noRecord = recordFrom []
 
 abbrev pub rowsIn : SegmentRecord → ℕ
 rowsIn r = r .rows
@@ -58,18 +57,18 @@ pub record Found (rs : List SegmentRecord) (alive words : List ℕ) : Type 0 whe
 
 -- ---- marks: a byte for each row of all segments
 
-unfoldable pub placeOf : List SegmentRecord → Address → ℕ
-placeOf rs a = runStart rowsIn rs (a .segment) + a .row
+unfoldable pub markPlace : List SegmentRecord → Address → ℕ
+markPlace rs a = runStart rowsIn rs (a .segment) + a .row
 
 -- each address is of an alive row that has no mark yet
 unfoldable pub allNew : List SegmentRecord → List ℕ → List ℕ → List Address → Bool
 allNew rs alive work [] = true
-allNew rs alive work (a ∷ bs) = aliveIn rs alive a && (eqb (getD work (placeOf rs a) 0) 0 && allNew rs alive (set work (placeOf rs a) 1) bs)
+allNew rs alive work (a ∷ bs) = aliveIn rs alive a && (eqb (getD work (markPlace rs a) 0) 0 && allNew rs alive (set work (markPlace rs a) 1) bs)
 
 -- the marks, up to the first address that is not so
 unfoldable pub marked : List SegmentRecord → List ℕ → List ℕ → List Address → List ℕ
 marked rs alive work [] = work
-marked rs alive work (a ∷ bs) = cond (aliveIn rs alive a && eqb (getD work (placeOf rs a) 0) 0) (marked rs alive (set work (placeOf rs a) 1) bs) work
+marked rs alive work (a ∷ bs) = cond (aliveIn rs alive a && eqb (getD work (markPlace rs a) 0) 0) (marked rs alive (set work (markPlace rs a) 1) bs) work
 
 -- the marks have room, and the starts are as they should be
 pub record Markable (rs : List SegmentRecord) (alive rows words work : List ℕ) : Type 0 where
@@ -79,7 +78,7 @@ pub record Markable (rs : List SegmentRecord) (alive rows words work : List ℕ)
 
 -- a row's byte is 0 where the row is not among those seen
 abbrev pub Marks : List SegmentRecord → List Address → List ℕ → Type 0
-Marks rs seen work = (k r : ℕ) → k < length rs → r < getD rs k noRecord .rows → eqb (getD work (placeOf rs (address k r)) 0) 0 ≡ not (isListed (address k r) seen)
+Marks rs seen work = (k r : ℕ) → k < length rs → r < getD rs k noRecord .rows → eqb (getD work (markPlace rs (address k r)) 0) 0 ≡ not (isListed (address k r) seen)
 
 -- ---- every alive row is marked
 
@@ -124,7 +123,7 @@ pub record Unmarked (rs : List SegmentRecord) (alive marks : List ℕ) : Type 0 
   pub clean : marks ≡ replicate (length marks) 0
 
 -- what the checks before 9 have established, and the working bytes are zero
-pub record Checked (mode rows : ℕ) (rs : List SegmentRecord) (alive work : List ℕ) : Type 0 where
+pub record BeforeNine (mode rows : ℕ) (rs : List SegmentRecord) (alive work : List ℕ) : Type 0 where
   pub few : length rs ≤ 256
   pub held : total aliveWords rs ≤ length alive
   pub counted : rows ≡ total rowsIn rs

@@ -7,9 +7,9 @@ ghost use lib.ListN.{length, replicate};
 ghost use Rattle.definitions.specs.Segment.{aliveWords};
 ghost use Rattle.definitions.specs.Answer.{total};
 ghost use Rattle.runs.specs.Put.{put};
-ghost use Rattle.segment.specs.Records.{plain, recordsOf};
+ghost use Rattle.segment.specs.Records.{recordIn, recordsOf};
 ghost use Rattle.segment.specs.Lent.{address, addressesOf, lentInput};
-ghost use Rattle.merge_mapping.specs.Mapping.{rowsIn, startsOf, rowAlive, aliveIn, Found, allNew, marked, Markable, rowListed, Parts, rowsListed, listedFrom, eachOnce, Unmarked, addressesRight, Checked, roomEnough, answerToNine};
+ghost use Rattle.merge_mapping.specs.Mapping.{rowsIn, startsOf, rowAlive, aliveIn, Found, allNew, marked, Markable, rowListed, Parts, rowsListed, listedFrom, eachOnce, Unmarked, addressesRight, BeforeNine, roomEnough, answerToNine};
 
 // The number of rows before each segment.
 pub fn row_starts(records: &[[u32; 8]], starts: &mut [usize])
@@ -45,9 +45,9 @@ pub fn word_starts(records: &[[u32; 8]], starts: &mut [usize])
 
 // Whether a row of a segment is alive; without an alive set every row is.
 pub fn row_alive(r: segment::Record, alive: &[u64], row: usize) -> bool
-    requires { ⌜ length (now alive) ≡ aliveWords (plain r) ⌝ }
+    requires { ⌜ length (now alive) ≡ aliveWords (recordIn r) ⌝ }
     requires { ⌜ row < r .rows ⌝ }
-    ensures { λ x. ⌜ x ≡ rowAlive (plain r) (now (alive .entry)) row ⌝ }
+    ensures { λ x. ⌜ x ≡ rowAlive (recordIn r) (now (alive .entry)) row ⌝ }
 {
     if r.flag != 1 {
         return true;
@@ -104,9 +104,9 @@ fn mark_all(
 }
 
 fn row_listed(r: segment::Record, alive: &[u64], marks: &[u8], row: usize) -> bool
-    requires { ⌜ Parts (plain r) (now alive) (now marks) ⌝ }
+    requires { ⌜ Parts (recordIn r) (now alive) (now marks) ⌝ }
     requires { ⌜ row < r .rows ⌝ }
-    ensures { λ x. ⌜ x ≡ rowListed (plain r) (now (alive .entry)) (now (marks .entry)) row ⌝ }
+    ensures { λ x. ⌜ x ≡ rowListed (recordIn r) (now (alive .entry)) (now (marks .entry)) row ⌝ }
 {
     if !row_alive(r, alive, row) {
         return true;
@@ -116,8 +116,8 @@ fn row_listed(r: segment::Record, alive: &[u64], marks: &[u8], row: usize) -> bo
 
 // Whether every alive row of a segment is marked.
 fn rows_listed(r: segment::Record, alive: &[u64], marks: &[u8]) -> bool
-    requires { ⌜ Parts (plain r) (now alive) (now marks) ⌝ }
-    ensures { λ x. ⌜ x ≡ rowsListed (plain r) (now (alive .entry)) (now (marks .entry)) ⌝ }
+    requires { ⌜ Parts (recordIn r) (now alive) (now marks) ⌝ }
+    ensures { λ x. ⌜ x ≡ rowsListed (recordIn r) (now (alive .entry)) (now (marks .entry)) ⌝ }
 {
     let mut row: usize = 0;
     while row < marks.len() {
@@ -177,7 +177,7 @@ fn addresses_fit(
     rows: usize,
     work: &mut [u8],
 ) -> bool
-    requires { ⌜ Checked mode rows (recordsOf (now records)) (now alive) (now work) ⌝ }
+    requires { ⌜ BeforeNine mode rows (recordsOf (now records)) (now alive) (now work) ⌝ }
     ensures { λ x. ⌜ x ≡ addressesRight mode (recordsOf (now (records .entry))) (now (alive .entry)) (addressesOf (now (addresses .entry))) ⌝ }
     ensures { λ _. ⌜ now (work .exit) ≡ replicate (length (now (work .entry))) 0 ⌝ }
 {

@@ -8,10 +8,9 @@ use lib.Dec.{ltb}
 use lib.ListN.{length, take, length-map}
 use borrow.Author.Tests.{lt-ltb, ltb-true, ltb-false}
 use Rattle.definitions.specs.Answer.{answer, tooManySegments}
-use Rattle.definitions.specs.Outcome.{Buffers, Lent, Outcome, refused, inputOf, refusedBuffers, joinOutcome}
+use Rattle.definitions.specs.Outcome.{Buffers, Lent, Outcome, refused, inputOf, refusedBuffers, joinOutcome, lentOf}
+use Rattle.definitions.specs.Segment.{recordFrom}
 use Rattle.segment.specs.declared.Record.{Record}
-use Rattle.segment.specs.Records.{recordOf}
-use Rattle.merge.specs.Whole.{lentOf}
 use Rattle.records.specs.Rows.{rowsOf, countOf, laidTo}
 use Rattle.records.proofs.Laws.{rows-size, laid-all, laid-many}
 
@@ -26,7 +25,7 @@ many l h = rw (lt-ltb 256 (length (l .records)) h)
 many-rows : (mode required : ℕ) (rows : List (List ℕ)) (ids offsets values lengths bytes alive : List ℕ) (addresses : List (List ℕ)) (b : Buffers) → 256 < length rows
     → joinOutcome (lentOf mode required rows ids offsets values lengths bytes alive addresses b) ≡ tooMany b
 many-rows mode required rows ids offsets values lengths bytes alive addresses b h =
-    many (lentOf mode required rows ids offsets values lengths bytes alive addresses b) (let e : length (map recordOf rows) ≡ length rows = length-map rows recordOf in omega (arith, e, h))
+    many (lentOf mode required rows ids offsets values lengths bytes alive addresses b) (let e : length (map recordFrom rows) ≡ length rows = length-map rows recordFrom in omega (arith, e, h))
 
 pub rows-join : (rs : List Record) (mode required : ℕ) (ids offsets values lengths bytes alive : List ℕ) (addresses : List (List ℕ)) (b : Buffers)
     → joinOutcome (lentOf mode required (take (countOf (length rs)) (laidTo rs (countOf (length rs)))) ids offsets values lengths bytes alive addresses b)

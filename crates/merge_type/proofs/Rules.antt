@@ -9,13 +9,13 @@ use lib.Dec.{eqb, ltb}
 use lib.ListN.{length, take, drop, getD}
 use borrow.Author.Tests.{eq-eqb, ne-eqb, eqb-true, eqb-false, not-true, not-false}
 use Rattle.definitions.specs.Lists.{all, any, filter, isEmpty}
-use Rattle.definitions.specs.Segment.{Segment, SegmentRecord, Sections, firstSegment, afterFirst, segmentsFrom}
+use Rattle.definitions.specs.Segment.{Segment, SegmentRecord, Sections, firstSegment, afterFirst, segmentsFrom, recordFrom}
 use Rattle.definitions.specs.Row.{noType, isPresent, isDropped, isHeld, heldOf}
 use Rattle.definitions.specs.Types.{F64, U64, I64, isCoercible, hasType, everyValue, onlyType, numericalType, heldType, typeOf, greatestI64, isNegative}
 use Rattle.definitions.specs.Join.{joinedType}
 use Rattle.definitions.specs.Answer as Answer
 use Rattle.definitions.specs.Answer.{presentTypes, oneCategory, allCoercible, typesWrong}
-use Rattle.segment.specs.Records.{recordOf, recordsOf}
+use Rattle.segment.specs.Records.{recordsOf}
 use Rattle.numerical.specs.Seen.{seenFrom, noneSeen, joinedSeen}
 use Rattle.numerical.proofs.Seen.{AllPresent, seen-joined}
 use Rattle.merge_type.specs.declared.TypeAnswer.{TypeAnswer}
@@ -194,8 +194,8 @@ pub parts-of-segments : (rs : List (List ℕ)) (sections : Sections) (more : Lis
 unfolding partsFrom firstSegment afterFirst
 parts-of-segments [] sections more = refl
 parts-of-segments (r ∷ rs) sections more =
-    let s : Segment = firstSegment (recordOf r) sections in
-    let rest = parts-of-segments rs (afterFirst (recordOf r) sections) more in
+    let s : Segment = firstSegment (recordFrom r) sections in
+    let rest = parts-of-segments rs (afterFirst (recordFrom r) sections) more in
     let h = flag-held s in
     λ i. record { type = typeAt r; values = take (countAt r) (sections .values); held = h i } ∷ rest i
 

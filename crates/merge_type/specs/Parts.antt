@@ -5,11 +5,10 @@ use mathlib.Core.Bool.{Bool, true, false, _&&_, _||_, cond, not}
 use lib.Dec.{eqb}
 use lib.ListN.{length, take, drop}
 use Rattle.definitions.specs.Lists.{all, filter}
-use Rattle.definitions.specs.Segment.{Segment}
+use Rattle.definitions.specs.Segment.{Segment, recordFrom}
 use Rattle.definitions.specs.Row.{noType}
 use Rattle.definitions.specs.Types.{isCoercible, typeOf}
 use Rattle.definitions.specs.Answer.{oneCategory}
-use Rattle.segment.specs.Records.{recordOf}
 use Rattle.column_type.specs.Codes.{category}
 use Rattle.numerical.specs.Seen.{firstOf}
 use Rattle.merge_type.specs.declared.TypeAnswer.{TypeAnswer}
@@ -22,10 +21,10 @@ pub record Part : Type 0 where
 
 -- a record's type, and its number of values
 abbrev pub typeAt : List ℕ → ℕ
-typeAt r = recordOf r .type
+typeAt r = recordFrom r .type
 
 abbrev pub countAt : List ℕ → ℕ
-countAt r = recordOf r .values
+countAt r = recordFrom r .values
 
 -- held: flagged 1, and present
 unfoldable pub isPart : ℕ → ℕ → Bool

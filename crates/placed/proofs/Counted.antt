@@ -9,7 +9,7 @@ use lib.ListN.{length, getD}
 use lib.Dec.{T, eqb, ltb}
 use borrow.Author.Tests.{lt-ltb}
 use Rattle.definitions.specs.Lists.{sum, upFrom, upTo, filter}
-use Rattle.definitions.specs.Segment.{Segment, Address}
+use Rattle.definitions.specs.Segment.{Segment, Address, addressFrom}
 use Rattle.definitions.specs.Row.{bitAt, hasAliveSet, isAlive}
 use Rattle.definitions.specs.Join.{absent, rowsOf, stackedFrom}
 use Rattle.definitions.specs.Answer.{isAliveAt, aliveAddresses, listsAliveRows}
@@ -26,7 +26,7 @@ use Rattle.places.specs.Stack.{segmentWidths}
 use Rattle.places.proofs.Fill.{table-length, table-at}
 use Rattle.column_index_merge.specs.Counted.{aliveWidth, countedIn, countedAll}
 use Rattle.column_index_merge.proofs.Count.{countOf, count-nil, count-cons, count-is}
-use Rattle.placed.specs.Checked.{segmentsIn, Checked, Flagged, placesOf, alivesOf, addressOf, orderOf}
+use Rattle.placed.specs.Checked.{segmentsIn, Checked, Flagged, placesOf, alivesOf, orderOf}
 use Rattle.placed.proofs.Stand.{count-is as segments-are, effective-rows, places-length, stands, alive-flag, alive-run}
 use Rattle.placed.proofs.Index.{not-repeated}
 use Rattle.placed.proofs.Distinct.{sum-distinct}
@@ -109,7 +109,7 @@ module _ {records : List (List ℕ)} {ids offsets values lengths bytes words : L
   widths-are : (l : List (List ℕ)) → widths places ids offsets l ≡ map width (orderOf l)
   unfolding widths
   widths-are [] = refl
-  widths-are (a ∷ rest) = ap (λ (ws : List ℕ). width (addressOf a) ∷ ws) (widths-are rest)
+  widths-are (a ∷ rest) = ap (λ (ws : List ℕ). width (addressFrom a) ∷ ws) (widths-are rest)
 
   module _ (φ : ℕ → ℕ) (z : φ 0 ≡ 0) where
     abbrev h : Address → ℕ

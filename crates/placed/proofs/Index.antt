@@ -10,7 +10,7 @@ use lib.Seq.{drop-cons}
 use lib.Dec.{T, ltb}
 use borrow.Author.Tests.{ltb-false}
 use Rattle.definitions.specs.Lists.{sum, all, upFrom, upTo}
-use Rattle.definitions.specs.Segment.{Segment, Address}
+use Rattle.definitions.specs.Segment.{Segment, Address, addressFrom}
 use Rattle.definitions.specs.Row.{isHeld, asEmpty, effective}
 use Rattle.definitions.specs.Join.{absent, newWord, cellOf, cellAt, rowsOf, stackedFrom, joinedType, termsOf, joinedCells}
 use Rattle.definitions.specs.Answer.{sumOver, bytesIn, greatestSum, sumsTooLarge, isListed, isRepeated, isAliveAt, aliveAddresses, listsAliveRows}
@@ -21,11 +21,11 @@ use Rattle.definitions.proofs.Part.{map-twice}
 use Rattle.definitions.proofs.Accept.{lists-ordered, mem-stacked}
 use Rattle.segment.proofs.At.{sum-append}
 use Rattle.runs.proofs.Laws.{upFrom-length}
-use Rattle.places.specs.Place.{rowsAt, widthIn, widths, placeOf, rowOf, Inside}
+use Rattle.places.specs.Place.{rowsAt, widthIn, widths, placeAt, rowOf, Inside}
 use Rattle.places.specs.Stack.{segmentWidths, stackedWidths, allRows}
 use Rattle.places.proofs.Bulk.{seg-sum}
 use Rattle.places.proofs.Bridge.{count-stands, inside-stands, width-stands, sound-stands}
-use Rattle.placed.specs.Checked.{segmentsIn, Checked, Flagged, placesOf, addressOf, orderOf}
+use Rattle.placed.specs.Checked.{segmentsIn, Checked, Flagged, placesOf, orderOf}
 use Rattle.placed.proofs.Totals.{neither}
 use Rattle.placed.proofs.Stand.{effective-rows, places-length, stands}
 use Rattle.placed.proofs.Distinct.{sum-distinct}
@@ -115,7 +115,7 @@ module _ {records : List (List ℕ)} {ids offsets values lengths bytes words : L
   unfolding widths
   widths-at required [] known = refl
   widths-at required (a ∷ rest) known =
-      let k = known (addressOf a) (List·Memᴰ·head refl) in
+      let k = known (addressFrom a) (List·Memᴰ·head refl) in
       ap₂ (λ (n : ℕ) (l : List ℕ). n ∷ l) (row-width required (getD a 0 0) (getD a 1 0) (k .0) (k .1)) (widths-at required rest (λ b m. known b (List·Memᴰ·tail m)))
 
   module _ (addresses : List (List ℕ)) (o : T (listsAliveRows ss (orderOf addresses))) where
@@ -155,7 +155,7 @@ module _ {records : List (List ℕ)} {ids offsets values lengths bytes words : L
       let q = sum-ones (stackedFrom 0 ss) in
       let r = stacked-length 0 ss in
       let t = sums-fit .0 in
-      let u : length (orderOf addresses) ≡ length addresses = length-map addresses addressOf in
+      let u : length (orderOf addresses) ≡ length addresses = length-map addresses addressFrom in
       omega arith
 
   values-from : (m n : ℕ) → n + m ≡ length ss → sum (stackedWidths (drop n places) ids offsets) ≤ sumOver (λ (s : Segment). length (s .values)) (drop n ss)
@@ -199,14 +199,14 @@ module _ {records : List (List ℕ)} {ids offsets values lengths bytes words : L
   -- ---- the rows of the addresses can be looked up
 
   inside-at : (k : ℕ) (addresses : List (List ℕ)) → Known addresses → k < length addresses
-      → (getD (getD addresses k []) 0 0 < length places) × Inside (placeOf places (getD addresses k [])) ids offsets values (rowOf (getD addresses k []))
+      → (getD (getD addresses k []) 0 0 < length places) × Inside (placeAt places (getD addresses k [])) ids offsets values (rowOf (getD addresses k []))
   inside-at k [] known h = absurd (not-suc-le-zero h)
   inside-at zero (a ∷ rest) known h =
-      let q = known (addressOf a) (List·Memᴰ·head refl) in
+      let q = known (addressFrom a) (List·Memᴰ·head refl) in
       let t = stands c f (getD a 0 0) (q .0) in
       (subst (λ (n : ℕ). getD a 0 0 < n) (sym (places-length c f)) (q .0), inside-stands (t .0) (t .1) (getD a 1 0) (rw (effective-rows (getD ss (getD a 0 0) absent)) (q .1)))
   inside-at (suc k) (a ∷ rest) known h = inside-at k rest (λ b m. known b (List·Memᴰ·tail m)) (le-of-suc-le-suc h)
 
   module _ (addresses : List (List ℕ)) (o : T (listsAliveRows ss (orderOf addresses))) (k : ℕ) (h : k < length addresses) where
-    pub ordered-inside : (getD (getD addresses k []) 0 0 < length places) × Inside (placeOf places (getD addresses k [])) ids offsets values (rowOf (getD addresses k []))
+    pub ordered-inside : (getD (getD addresses k []) 0 0 < length places) × Inside (placeAt places (getD addresses k [])) ids offsets values (rowOf (getD addresses k []))
     ordered-inside = inside-at k addresses (known-rows addresses o) h

@@ -27,7 +27,7 @@ use Rattle.places.specs.Places.{table, isSet, recordAt, termsIf, termsBefore, s
 use Rattle.places.proofs.Cells.{drop-take}
 use Rattle.places.proofs.Raw.{sums-are, before-is, run-fits}
 use Rattle.places.proofs.Fill.{table-at}
-use Rattle.column_values_merge.specs.Word.{mapAt, coercedAll, wordsFor, Worded}
+use Rattle.column_values_merge.specs.Word.{mapAt, coercedAll, newWords, Worded}
 use Rattle.placed.specs.Checked.{segmentsIn, Checked, Flagged, Mapped, placesOf, sourcesOf}
 use Rattle.placed.proofs.Totals.{all-at}
 use Rattle.placed.proofs.Stand.{set-byte, count-is, terms-held, segment-is, stands}
@@ -257,8 +257,8 @@ module _ {records : List (List ℕ)} {ids offsets values lengths bytes words : L
     pub worded : (vs : List ℕ) → Own (getD ss k absent) vs → Worded (getD (sourcesOf records held) k []) map′ vs
     worded vs o = subst (λ (s : List ℕ). Worded s map′ vs) (sym source-is) (worded-source vs o)
 
-    words-held : (to : ℕ) (vs : List ℕ) → Own (getD ss k absent) vs → isHeld (getD ss k absent) ≡ true → wordsFor to source map′ vs ≡ map (newWord to (termsOf ss) (getD ss k absent)) vs
-    unfolding wordsFor looked coercedAll newWord sourceAt
+    words-held : (to : ℕ) (vs : List ℕ) → Own (getD ss k absent) vs → isHeld (getD ss k absent) ≡ true → newWords to source map′ vs ≡ map (newWord to (termsOf ss) (getD ss k absent)) vs
+    unfolding newWords looked coercedAll newWord sourceAt
     words-held to vs o e = ap (λ (t : ℕ). cond (hasTerms t) (looked (mapAt source map′) vs) (coercedAll t to vs)) (type-is k h) ∙ go (hasTerms (getD ss k absent .type)) refl
       where
         s : Segment
@@ -272,20 +272,20 @@ module _ {records : List (List ℕ)} {ids offsets values lengths bytes words : L
             (o .ordinals e q)
         go false q = refl
 
-    words-none : (to : ℕ) → wordsFor to source map′ [] ≡ []
-    unfolding wordsFor looked coercedAll
+    words-none : (to : ℕ) → newWords to source map′ [] ≡ []
+    unfolding newWords looked coercedAll
     words-none to = go (hasTerms (getD source 0 0))
       where
         go : (b : Bool) → cond b (looked (mapAt source map′) []) (coercedAll (getD source 0 0) to []) ≡ []
         go true = refl
         go false = refl
 
-    pub words-are : (to : ℕ) (vs : List ℕ) → Own (getD ss k absent) vs → wordsFor to (getD (sourcesOf records held) k []) map′ vs ≡ map (newWord to (termsOf ss) (effective (getD ss k absent))) vs
-    words-are to vs o = ap (λ (s : List ℕ). wordsFor to s map′ vs) source-is ∙ go (isHeld (getD ss k absent)) refl
+    pub words-are : (to : ℕ) (vs : List ℕ) → Own (getD ss k absent) vs → newWords to (getD (sourcesOf records held) k []) map′ vs ≡ map (newWord to (termsOf ss) (effective (getD ss k absent))) vs
+    words-are to vs o = ap (λ (s : List ℕ). newWords to s map′ vs) source-is ∙ go (isHeld (getD ss k absent)) refl
       where
-        go : (b : Bool) → isHeld (getD ss k absent) ≡ b → wordsFor to source map′ vs ≡ map (newWord to (termsOf ss) (effective (getD ss k absent))) vs
+        go : (b : Bool) → isHeld (getD ss k absent) ≡ b → newWords to source map′ vs ≡ map (newWord to (termsOf ss) (effective (getD ss k absent))) vs
         go true e = words-held to vs o e ∙ ap (λ (s : Segment). map (newWord to (termsOf ss) s) vs) (sym (effective-held (getD ss k absent) e))
         go false e =
-            ap (wordsFor to source map′) (o .none e)
+            ap (newWords to source map′) (o .none e)
             ∙ words-none to
             ∙ ap (map (newWord to (termsOf ss) (effective (getD ss k absent)))) (sym (o .none e))

@@ -8,7 +8,7 @@ use lib.ListN.{length, getD, drop, length-drop, drop-of-length-le}
 use lib.Seq.{drop-cons, slice, length-take-le}
 use lib.Dec.{T}
 use Rattle.definitions.specs.Lists.{concat, upFrom, upTo}
-use Rattle.definitions.specs.Segment.{Segment, Address}
+use Rattle.definitions.specs.Segment.{Segment, Address, addressFrom}
 use Rattle.definitions.specs.Row.{rowValues, effective}
 use Rattle.definitions.specs.Join.{absent, newWord, cellOf, cellAt, rowsOf, stackedFrom, joinedType, termsOf, joinedCells}
 use Rattle.definitions.specs.Answer.{listsAliveRows}
@@ -16,7 +16,7 @@ use Rattle.definitions.proofs.Entry.{map-append}
 use Rattle.definitions.proofs.Sections.{concat-append}
 use Rattle.column_index.specs.Lookup.{startOf, endOf, Sound}
 use Rattle.column_index.proofs.Walk.{walk-values, map-same}
-use Rattle.places.specs.Place.{kindAt, rowsAt, idsAt, offsetsAt, valuesAt, startIn, endIn, cellIn, placeOf, rowOf}
+use Rattle.places.specs.Place.{kindAt, rowsAt, idsAt, offsetsAt, valuesAt, startIn, endIn, cellIn, placeAt, rowOf}
 use Rattle.places.specs.Places.{sourceAt}
 use Rattle.places.specs.Stack.{SoundAt}
 use Rattle.places.proofs.Cells.{cell-slice}
@@ -25,7 +25,7 @@ use Rattle.places.proofs.Fill.{table-length}
 use Rattle.column_values_merge.specs.Word.{Worded}
 use Rattle.column_values_merge.specs.Stack.{stackedWords, AllWorded}
 use Rattle.column_index_shuffled.specs.Order.{sourceOf, orderedWords}
-use Rattle.placed.specs.Checked.{segmentsIn, Checked, Flagged, Mapped, placesOf, sourcesOf, addressOf, orderOf}
+use Rattle.placed.specs.Checked.{segmentsIn, Checked, Flagged, Mapped, placesOf, sourcesOf, orderOf}
 use Rattle.placed.proofs.Stand.{effective-rows, count-is, places-length, stands}
 use Rattle.placed.proofs.Index.{known-rows}
 use Rattle.placed.proofs.Map.{Own, own-slice, own-values, worded, words-are}
@@ -138,7 +138,7 @@ module _ {records : List (List ℕ)} {ids offsets values lengths bytes words : L
   unfolding orderedWords cellOf
   words-at required [] known = refl
   words-at required (a ∷ rest) known =
-      let k = known (addressOf a) (List·Memᴰ·head refl) in
+      let k = known (addressFrom a) (List·Memᴰ·head refl) in
       let n = getD a 0 0 in
       ap₂ (λ (x y : List ℕ). x ++ y)
       (words-are c f m (getD a 0 0) (k .0) (joinedType required ss) (cellIn (getD places (getD a 0 0) []) ids offsets values (getD a 1 0)) (own-cell (getD a 0 0) (getD a 1 0) (k .0))
@@ -146,10 +146,10 @@ module _ {records : List (List ℕ)} {ids offsets values lengths bytes words : L
       (words-at required rest (λ b q. known b (List·Memᴰ·tail q)))
 
   worded-at : (k : ℕ) (addresses : List (List ℕ)) → Known addresses → k < length addresses
-      → (getD (getD addresses k []) 0 0 < length sources) × Worded (sourceOf sources (getD addresses k [])) map′ (cellIn (placeOf places (getD addresses k [])) ids offsets values (rowOf (getD addresses k [])))
+      → (getD (getD addresses k []) 0 0 < length sources) × Worded (sourceOf sources (getD addresses k [])) map′ (cellIn (placeAt places (getD addresses k [])) ids offsets values (rowOf (getD addresses k [])))
   worded-at k [] known h = absurd (not-suc-le-zero h)
   worded-at zero (a ∷ rest) known h =
-      let q = known (addressOf a) (List·Memᴰ·head refl) in
+      let q = known (addressFrom a) (List·Memᴰ·head refl) in
       (subst (λ (n : ℕ). getD a 0 0 < n) (sym sources-length) (q .0), worded c f m (getD a 0 0) (q .0) (cellIn (getD places (getD a 0 0) []) ids offsets values (getD a 1 0)) (own-cell (getD a 0 0) (getD a 1 0) (q .0)))
   worded-at (suc k) (a ∷ rest) known h = worded-at k rest (λ b q. known b (List·Memᴰ·tail q)) (le-of-suc-le-suc h)
 
@@ -159,5 +159,5 @@ module _ {records : List (List ℕ)} {ids offsets values lengths bytes words : L
     ordered-words required = words-at required addresses (known-rows c f addresses o)
 
     pub ordered-worded : (k : ℕ) → k < length addresses
-        → (getD (getD addresses k []) 0 0 < length sources) × Worded (sourceOf sources (getD addresses k [])) map′ (cellIn (placeOf places (getD addresses k [])) ids offsets values (rowOf (getD addresses k [])))
+        → (getD (getD addresses k []) 0 0 < length sources) × Worded (sourceOf sources (getD addresses k [])) map′ (cellIn (placeAt places (getD addresses k [])) ids offsets values (rowOf (getD addresses k [])))
     ordered-worded k h = worded-at k addresses (known-rows c f addresses o) h

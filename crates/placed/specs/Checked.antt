@@ -4,7 +4,7 @@ use mathlib.Core.Path.{_≡_}
 use mathlib.Core.List.{List, map}
 use mathlib.Core.Bool.{false}
 use lib.ListN.{length, getD, take}
-use Rattle.definitions.specs.Segment.{Segment, Address, segmentsFrom}
+use Rattle.definitions.specs.Segment.{Segment, Address, addressFrom, segmentsFrom}
 use Rattle.definitions.specs.Row.{isHeld}
 use Rattle.definitions.specs.Join.{absent, mapOf}
 use Rattle.definitions.specs.Answer.{tooManySegments, lengthsWrong, segmentCodesWrong, listsWrong, valuesWrong, sumsTooLarge}
@@ -47,9 +47,5 @@ alivesOf records = table (aliveAt records) (length records)
 abbrev pub sourcesOf : List (List ℕ) → List ℕ → List (List ℕ)
 sourcesOf records held = table (sourceAt records held) (length records)
 
--- a lent address
-abbrev pub addressOf : List ℕ → Address
-addressOf a = record { segment = getD a 0 0; row = getD a 1 0 }
-
 abbrev pub orderOf : List (List ℕ) → List Address
-orderOf addresses = map addressOf addresses
+orderOf addresses = map addressFrom addresses

@@ -10,7 +10,7 @@ use lib.Seq.{drop-cons, set-split, set-set, drop-set-lt}
 use Rattle.runs.specs.Put.{put}
 use Rattle.runs.proofs.Laws.{Filling, fill-start, fill-more}
 use Rattle.places.specs.Width.{idPart, idsOf, totalsOf}
-use Rattle.places.specs.Place.{widthIn, widths, placeOf, rowOf}
+use Rattle.places.specs.Place.{widthIn, widths, placeAt, rowOf}
 
 -- one element put
 pub put-one : (at x : ℕ) (old : List ℕ) → at < length old → set old at x ≡ put at (x ∷ []) old
@@ -52,7 +52,7 @@ totals-cons t (suc w) ws = refl
 
 module _ (places : List (List ℕ)) (ids offsets : List ℕ) (addresses : List (List ℕ)) (j : ℕ) where
   abbrev pub widthNow : ℕ
-  widthNow = widthIn (placeOf places (getD addresses j [])) ids offsets (rowOf (getD addresses j []))
+  widthNow = widthIn (placeAt places (getD addresses j [])) ids offsets (rowOf (getD addresses j []))
 
   pub widths-step : j < length addresses → widths places ids offsets (drop j addresses) ≡ widthNow ∷ widths places ids offsets (drop (j + 1) addresses)
   unfolding widths

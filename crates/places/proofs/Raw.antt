@@ -7,11 +7,11 @@ use mathlib.Core.List.{List, [], _∷_, map}
 use lib.ListN.{length, getD, take, drop, length-map, List·getD-map}
 use lib.Seq.{take-suc, take-length}
 use Rattle.definitions.specs.Lists.{sum}
-use Rattle.definitions.specs.Segment.{Segment, SegmentRecord, Sections, aliveWords, firstSegment, afterFirst, segmentsFrom}
+use Rattle.definitions.specs.Segment.{Segment, SegmentRecord, Sections, aliveWords, firstSegment, afterFirst, segmentsFrom, recordFrom}
 use Rattle.definitions.specs.Join.{absent}
 use Rattle.definitions.specs.Answer.{total}
 use Rattle.definitions.proofs.Entry.{map-append}
-use Rattle.segment.specs.Records.{recordOf, recordsOf, sectionsIn}
+use Rattle.segment.specs.Records.{recordsOf, sectionsIn}
 use Rattle.segment.proofs.At.{sum-append, sectionsAt, segment-at}
 use Rattle.places.specs.Place.{run}
 use Rattle.places.specs.Places.{sumBelow, recordAt, idsBefore, offsetsBefore, valuesBefore, wordsBefore, rawAt, aliveAt}
@@ -37,14 +37,14 @@ sums-are {A = A} g p l d e (suc k) h =
     ∙ ap (λ (m : List A). sum (map p m)) (sym (take-suc l k d h))
 
 module _ (records : List (List ℕ)) where
-  record-is : (k : ℕ) → getD (recordsOf records) k (recordOf []) ≡ recordAt records k
-  record-is k = List·getD-map recordOf records k []
+  record-is : (k : ℕ) → getD (recordsOf records) k (recordFrom []) ≡ recordAt records k
+  record-is k = List·getD-map recordFrom records k []
 
   pub records-length : length (recordsOf records) ≡ length records
-  records-length = length-map records recordOf
+  records-length = length-map records recordFrom
 
   pub before-is : (f : SegmentRecord → ℕ) (k : ℕ) → k ≤ length records → sumBelow (λ j. f (recordAt records j)) k ≡ total f (take k (recordsOf records))
-  before-is f k h = sums-are (λ j. f (recordAt records j)) f (recordsOf records) (recordOf []) (λ j q. ap f (sym (record-is j))) k (omega (arith, records-length))
+  before-is f k h = sums-are (λ j. f (recordAt records j)) f (recordsOf records) (recordFrom []) (λ j q. ap f (sym (record-is j))) k (omega (arith, records-length))
 
   -- a segment's run ends within the section
   pub run-fits : (f : SegmentRecord → ℕ) (m k : ℕ) → total f (recordsOf records) ≤ m → k < length records → sumBelow (λ j. f (recordAt records j)) k + f (recordAt records k) ≤ m
@@ -81,7 +81,7 @@ module _ (records : List (List ℕ)) (ids offsets values lengths bytes words : L
     pub segment-there : getD (segmentsFrom (recordsOf records) (sectionsIn ids offsets values lengths bytes words)) k absent
         ≡ firstSegment (recordAt records k) (sectionsAt k (recordsOf records) (sectionsIn ids offsets values lengths bytes words))
     segment-there =
-        segment-at k (recordsOf records) sections absent (recordOf []) (omega (arith, records-length records))
+        segment-at k (recordsOf records) sections absent (recordFrom []) (omega (arith, records-length records))
         ∙ ap (λ (r : SegmentRecord). firstSegment r (sectionsAt k (recordsOf records) sections)) (record-is records k)
 
     at-stands : Stands (rawAt records k) ids offsets values (firstSegment (recordAt records k) (sectionsAt k (recordsOf records) (sectionsIn ids offsets values lengths bytes words)))

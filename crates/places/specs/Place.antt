@@ -36,8 +36,8 @@ unfoldable pub widthIn : List ℕ → List ℕ → List ℕ → ℕ → ℕ
 unfolding startIn endIn
 widthIn place ids offsets row = endIn place ids offsets row - startIn place ids offsets row
 
-abbrev pub placeOf : List (List ℕ) → List ℕ → List ℕ
-placeOf places address = getD places (getD address 0 0) []
+abbrev pub placeAt : List (List ℕ) → List ℕ → List ℕ
+placeAt places address = getD places (getD address 0 0) []
 
 abbrev pub rowOf : List ℕ → ℕ
 rowOf address = getD address 1 0
@@ -46,7 +46,7 @@ rowOf address = getD address 1 0
 unfoldable pub widths : List (List ℕ) → List ℕ → List ℕ → List (List ℕ) → List ℕ
 unfolding widthIn
 widths places ids offsets [] = []
-widths places ids offsets (a ∷ as′) = widthIn (placeOf places a) ids offsets (rowOf a) ∷ widths places ids offsets as′
+widths places ids offsets (a ∷ as′) = widthIn (placeAt places a) ids offsets (rowOf a) ∷ widths places ids offsets as′
 
 -- the segment that stands there, as far as its rows' values go
 unfoldable pub segmentAt : List ℕ → List ℕ → List ℕ → List ℕ → Segment

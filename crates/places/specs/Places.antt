@@ -5,8 +5,7 @@ use mathlib.Core.Bool.{Bool, cond}
 use lib.ListN.{getD}
 use lib.Dec.{eqb}
 use Rattle.definitions.specs.Lists.{upTo}
-use Rattle.definitions.specs.Segment.{SegmentRecord, aliveWords}
-use Rattle.segment.specs.Records.{recordOf}
+use Rattle.definitions.specs.Segment.{SegmentRecord, aliveWords, recordFrom}
 
 -- f 0, f 1, .., n elements in all
 unfoldable pub table : {A : Type 0} → (ℕ → A) → ℕ → List A
@@ -22,7 +21,7 @@ abbrev pub isSet : ℕ → Bool
 isSet h = eqb h 1
 
 abbrev pub recordAt : List (List ℕ) → ℕ → SegmentRecord
-recordAt records k = recordOf (getD records k [])
+recordAt records k = recordFrom (getD records k [])
 
 -- where segment k's ids, offsets, values and alive words start
 unfoldable pub idsBefore : List (List ℕ) → ℕ → ℕ

@@ -3,7 +3,7 @@
 ghost use mathlib.Core.Path.{_≡_};
 ghost use Prim.Native.Nat.{_<_};
 ghost use lib.ListN.{length, getD, set};
-ghost use Rattle.segment.specs.Records.{plain};
+ghost use Rattle.segment.specs.Records.{recordIn};
 ghost use Rattle.segment_fit.specs.Fits.{fitsCodes};
 ghost use Rattle.records.specs.Rows.{none, numbersOf, countOf, blank, laidTo};
 
@@ -18,7 +18,7 @@ pub fn record_of(records: &[segment::Record], i: usize) -> segment::Record
 // Check 3 of segment i.
 pub fn codes_fit_at(records: &[segment::Record], i: usize) -> bool
     requires { ⌜ i < length (now records) ⌝ }
-    ensures { λ x. ⌜ x ≡ fitsCodes (plain (getD (now (records .entry)) i none)) ⌝ }
+    ensures { λ x. ⌜ x ≡ fitsCodes (recordIn (getD (now (records .entry)) i none)) ⌝ }
 {
     segment_fit::codes_fit(records[i])
 }

@@ -3,17 +3,11 @@ ghost use mathlib.Core.Path.{_≡_};
 ghost use Prim.Native.Nat.{_≤_};
 ghost use lib.ListN.{length};
 
-// Place for all inputs and for every listing. As functions, since a longer array literal in main costs the checker its stack.
+// Place for all inputs. As a function, since a longer array literal in main costs the checker its stack.
 fn input_buffer() -> [u8; 262144]
     ensures { λ r. ⌜ 262144 ≡ length r ⌝ }
 {
     [0; 262144]
-}
-
-fn output_buffer() -> [u8; 786432]
-    ensures { λ r. ⌜ 786432 ≡ length r ⌝ }
-{
-    [0; 786432]
 }
 
 // An input that is cut is not answered, nor is what follows.
@@ -36,7 +30,7 @@ fn answer_all(inputs: &[u8], out: &mut [u8])
 
 fn main() {
     let mut inputs = input_buffer();
-    let mut out = output_buffer();
+    let mut out = reply::output_buffer();
     let n = io::read_full(0, &mut inputs);
     answer_all(&inputs[..n], &mut out);
 }

@@ -1,16 +1,16 @@
 // The joining program's reply: bytes read to bytes written, with the join in the middle. (Added: no file of the crate has it.)
 ghost use mathlib.Core.Path.{_≡_};
-ghost use Prim.Native.Nat.{_≤_};
-ghost use lib.ListN.{length};
-ghost use Rattle.definitions.specs.Outcome.{accepted, joinOutcome};
-ghost use Rattle.definitions.specs.Wire.{wordSections, lentFrom};
+ghost use Prim.Native.Nat.{suc, _≤_};
+ghost use lib.ListN.{length, take};
+ghost use Rattle.definitions.specs.Outcome.{accepted, joinOutcome, lentOf};
+ghost use Rattle.definitions.specs.Wire.{mostBytes, wordSections, lentFrom, programBuffers};
 ghost use Rattle.definitions.specs.Listing.{answerText, listing, reply as Listing·reply};
 ghost use Rattle.io.specs.Counts.{Counts};
 ghost use Rattle.runs.specs.Put.{put};
 ghost use Rattle.wire.specs.Bounds.{Fitted};
-ghost use Rattle.wire.specs.Lent.{programLent};
-ghost use Rattle.listing.specs.Shown.{outputs, Readable, ReadableBy, Short};
+ghost use Rattle.listing.specs.Shown.{outputs, Announced, AnnouncedBy, Short};
 ghost use Rattle.merge.specs.Whole.{numbersIn, answerOf};
+ghost use Rattle.reply.specs.Input.{zeros, Answers};
 
 // An accepted column, out of the output lists.
 fn put_column(
@@ -23,7 +23,7 @@ fn put_column(
     map: &[u32],
     out: &mut [u8],
 ) -> usize
-    requires { ⌜ Readable (numbersIn n) (outputs (now ids) (now offsets) (now values) (now lengths) (now bytes) (now map)) ⌝ }
+    requires { ⌜ Announced (numbersIn n) (outputs (now ids) (now offsets) (now values) (now lengths) (now bytes) (now map)) ⌝ }
     requires { ⌜ Short (outputs (now ids) (now offsets) (now values) (now lengths) (now bytes) (now map)) ⌝ }
     requires { ⌜ 786432 ≤ length (now out) ⌝ }
     ensures { λ r. ⌜ r ≡ length (answerText (outputs (now (ids .entry)) (now (offsets .entry)) (now (values .entry)) (now (lengths .entry)) (now (bytes .entry)) (now (map .entry))) (accepted (numbersIn n))) ⌝ }
@@ -59,7 +59,7 @@ fn put_answer(
     map: &[u32],
     out: &mut [u8],
 ) -> usize
-    requires { ⌜ ReadableBy (answerOf a) (outputs (now ids) (now offsets) (now values) (now lengths) (now bytes) (now map)) ⌝ }
+    requires { ⌜ AnnouncedBy (answerOf a) (outputs (now ids) (now offsets) (now values) (now lengths) (now bytes) (now map)) ⌝ }
     requires { ⌜ Short (outputs (now ids) (now offsets) (now values) (now lengths) (now bytes) (now map)) ⌝ }
     requires { ⌜ 786432 ≤ length (now out) ⌝ }
     ensures { λ r. ⌜ r ≤ 786432 ⌝ }
@@ -88,8 +88,8 @@ fn answer_lists(
 ) -> usize
     requires { ⌜ 786432 ≤ length (now out) ⌝ }
     ensures { λ r. ⌜ r ≤ 786432 ⌝ }
-    ensures { λ r. ⌜ r ≡ length (listing (joinOutcome (programLent mode required (now (records .entry)) (now (ids .entry)) (now (offsets .entry)) (now (values .entry)) (now (lengths .entry)) (now (bytes .entry)) (now (alive .entry)) (now (addresses .entry))))) ⌝ }
-    ensures { λ _. ⌜ now (out .exit) ≡ put 0 (listing (joinOutcome (programLent mode required (now (records .entry)) (now (ids .entry)) (now (offsets .entry)) (now (values .entry)) (now (lengths .entry)) (now (bytes .entry)) (now (alive .entry)) (now (addresses .entry))))) (now (out .entry)) ⌝ }
+    ensures { λ r. ⌜ r ≡ length (listing (joinOutcome (lentOf mode required (now (records .entry)) (now (ids .entry)) (now (offsets .entry)) (now (values .entry)) (now (lengths .entry)) (now (bytes .entry)) (now (alive .entry)) (now (addresses .entry)) programBuffers))) ⌝ }
+    ensures { λ _. ⌜ now (out .exit) ≡ put 0 (listing (joinOutcome (lentOf mode required (now (records .entry)) (now (ids .entry)) (now (offsets .entry)) (now (values .entry)) (now (lengths .entry)) (now (bytes .entry)) (now (alive .entry)) (now (addresses .entry)) programBuffers))) (now (out .entry)) ⌝ }
 {
     let mut i = [0u32; 8192];
     let mut o = [0u32; 8192];
@@ -173,4 +173,31 @@ pub fn reply(input: &[u8], out: &mut [u8]) -> usize
     }
     let n = input.len() / 8;
     answer_words(&words[..n], &bounds, out)
+}
+
+// Place for an input: one byte more than is taken, so that an input that is too long is seen.
+pub fn input_buffer() -> [u8; 65537]
+    ensures { λ r. ⌜ suc mostBytes ≡ length r ⌝ }
+    ensures { λ r. ⌜ r ≡ zeros (suc mostBytes) ⌝ }
+{
+    [0; 65537]
+}
+
+// Place for every listing.
+pub fn output_buffer() -> [u8; 786432]
+    ensures { λ r. ⌜ 786432 ≡ length r ⌝ }
+    ensures { λ r. ⌜ r ≡ zeros 786432 ⌝ }
+{
+    [0; 786432]
+}
+
+// The reply to an input of any length, of which the buffer holds as much as it has place for: its first n bytes.
+pub fn answer_input(buffer: &[u8], n: usize, out: &mut [u8]) -> usize
+    requires { ⌜ suc mostBytes ≤ length (now buffer) ⌝ }
+    requires { ⌜ n ≤ length (now buffer) ⌝ }
+    requires { ⌜ 786432 ≤ length (now out) ⌝ }
+    ensures { λ r. ⌜ Counts r (now (out .exit)) ⌝ }
+    ensures { λ r. ⌜ Answers (length (now (buffer .entry))) (take n (now (buffer .entry))) r (now (out .entry)) (now (out .exit)) ⌝ }
+{
+    reply(&buffer[..n], out)
 }

@@ -16,7 +16,7 @@ use Rattle.definitions.specs.Answer.{total, codesWrong, aliveWrong, lengthsWron
 use Rattle.segment.proofs.Tests.{both-true, not-not, not-ltb}
 use Rattle.segment_fit.specs.Fits.{pastRows, fitsAlive}
 use Rattle.segment_fit.proofs.Own.{assoc5, length-cut, codes-first, lists-first, values-first, past-first, flag-first}
-use Rattle.sections_fit.specs.Walks.{lengthsRight, Exact, codesFrom, knownCodes, listsFrom, valuesFrom, aliveFrom, sumsRight}
+use Rattle.sections_fit.specs.Walks.{lengthsRight, Exact, codesFrom, knownCodes, listsFrom, valuesFrom, aliveFitsFrom, sumsRight}
 use Rattle.sections_fit.proofs.Walks.{sum-split}
 
 -- ---- 2
@@ -109,8 +109,8 @@ alive-step true false false true g = refl
 alive-step true false false false true = refl
 alive-step true false false false false = refl
 
-alive-all : (mode : ℕ) (rs : List SegmentRecord) (s : Sections) → any bitPastRows (segmentsFrom rs s) || (eqb mode 0 && any hasAliveSet (segmentsFrom rs s)) ≡ not (aliveFrom mode rs (s .alive))
-unfolding aliveFrom fitsAlive afterFirst
+alive-all : (mode : ℕ) (rs : List SegmentRecord) (s : Sections) → any bitPastRows (segmentsFrom rs s) || (eqb mode 0 && any hasAliveSet (segmentsFrom rs s)) ≡ not (aliveFitsFrom mode rs (s .alive))
+unfolding aliveFitsFrom fitsAlive afterFirst
 alive-all mode [] s = go (eqb mode 0)
   where
     go : (b : Bool) → b && false ≡ false
@@ -119,7 +119,7 @@ alive-all mode [] s = go (eqb mode 0)
 alive-all mode (r ∷ rs) s =
     let q = any bitPastRows (segmentsFrom rs (afterFirst r s)) in
     let g = any hasAliveSet (segmentsFrom rs (afterFirst r s)) in
-    let e : not (q || (eqb mode 0 && g)) ≡ aliveFrom mode rs (drop (aliveWords r) (s .alive)) = ap not (alive-all mode rs (afterFirst r s)) ∙ not-not (aliveFrom mode rs (drop (aliveWords r) (s .alive))) in
+    let e : not (q || (eqb mode 0 && g)) ≡ aliveFitsFrom mode rs (drop (aliveWords r) (s .alive)) = ap not (alive-all mode rs (afterFirst r s)) ∙ not-not (aliveFitsFrom mode rs (drop (aliveWords r) (s .alive))) in
     rw (past-first r s, flag-first r s) (alive-step (eqb mode 0) (pastRows (r .rows) (take (aliveWords r) (s .alive))) q (eqb (r .flag) 1) g ∙ ap (λ (b : Bool). not ((not (eqb mode 0 && eqb (r .flag) 1) && not (pastRows (r .rows) (take (aliveWords r) (s .alive)))) && b)) e)
 
 -- ---- 7
@@ -215,7 +215,7 @@ pub input-values : (i : Input) → Exact (i .records) (i .sections) → valuesWr
 unfolding segmentsOf
 input-values i x = values-wrong (i .records) (i .sections) x
 
-pub input-alive : (i : Input) → aliveWrong i ≡ not (aliveFrom (i .mode) (i .records) (i .sections .alive))
+pub input-alive : (i : Input) → aliveWrong i ≡ not (aliveFitsFrom (i .mode) (i .records) (i .sections .alive))
 unfolding aliveWrong segmentsOf
 input-alive i = alive-all (i .mode) (i .records) (i .sections)
 

@@ -30,7 +30,7 @@ unfolding firstSeven codesWrong aliveWrong segmentsOf
 seven-same mode required rs s bs bs′ space space′ rest = refl
 
 -- every one of the seven checks has passed
-pub record Passed (i : Input) : Type 0 where
+pub record PassedSeven (i : Input) : Type 0 where
   pub many : tooManySegments (i .records) ≡ false
   pub lengths : lengthsWrong (i .records) (i .sections) ≡ false
   pub codes : codesWrong i ≡ false
@@ -53,7 +53,7 @@ module _ (i : Input) where
       (λ h. absurd (h refl))))))))
 
   -- the first seven pass where all that is asked of an answer of 0 passes
-  pub passed : (rest : ℕ) → firstSeven i rest ≡ 0 → Passed i × (rest ≡ 0)
+  pub passed : (rest : ℕ) → firstSeven i rest ≡ 0 → PassedSeven i × (rest ≡ 0)
   unfolding firstSeven
   passed rest e =
       let r7 = cond {A = ℕ} (sumsTooLarge (segmentsOf i)) 7 rest in
@@ -71,7 +71,7 @@ module _ (i : Input) where
       let p7 = cond-none (sumsTooLarge (segmentsOf i)) 6 rest (p6 .1) in
       (record { many = p1 .0; lengths = p2 .0; codes = p3 .0; lists = p4 .0; values = p5 .0; alive = p6 .0; sums = p7 .0 }, p7 .1)
 
-  pub seven-go : (rest : ℕ) → Passed i → firstSeven i rest ≡ rest
+  pub seven-go : (rest : ℕ) → PassedSeven i → firstSeven i rest ≡ rest
   unfolding firstSeven
   seven-go rest p = rw (p .many, p .lengths, p .codes, p .lists, p .values, p .alive, p .sums)
 
@@ -100,7 +100,7 @@ sums-low rows values bytes h =
     let q = both-true (leb values greatestSum) (leb bytes greatestSum) (p .1) in
     (leb-true rows greatestSum (p .0), leb-true values greatestSum (q .0), leb-true bytes greatestSum (q .1))
 
-pub ready : (i : Input) → Passed i → Ready i
+pub ready : (i : Input) → PassedSeven i → Ready i
 ready i p =
     let rows = total (λ (r : SegmentRecord). r .rows) (i .records) in
     let values = length (i .sections .values) in

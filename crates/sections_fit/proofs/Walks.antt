@@ -12,12 +12,12 @@ use Rattle.definitions.specs.Lists.{sum}
 use Rattle.definitions.specs.Segment.{SegmentRecord, aliveWords}
 use Rattle.definitions.specs.Answer.{total}
 use Rattle.segment.specs.declared.Record.{Record}
-use Rattle.segment.specs.Records.{structOf, plain, recordsOf}
+use Rattle.segment.specs.Records.{structOf, recordIn, recordsOf}
 use Rattle.segment.proofs.Walk.{part-rest, part-is, rest-is, records-end, records-step}
 use Rattle.segment_fit.specs.Fits.{fitsCodes, fitsLists, fitsValues, fitsAlive}
 use Rattle.segment_fit.proofs.Laws.{sum-step}
 use Rattle.sections_fit.specs.declared.Totals.{Totals}
-use Rattle.sections_fit.specs.Walks.{codesFrom, listsFrom, valuesFrom, aliveFrom, totalsOf, addTo}
+use Rattle.sections_fit.specs.Walks.{codesFrom, listsFrom, valuesFrom, aliveFitsFrom, totalsOf, addTo}
 
 -- ---- sums
 
@@ -97,8 +97,8 @@ module _ (records : List (List ℕ)) (s : ℕ) (h : length records ≤ s) where
   unfolding valuesFrom
   values-end values lengths bytes = rw (records-end records s h)
 
-  pub alive-end : (mode : ℕ) (alive : List ℕ) → true ≡ aliveFrom mode (recordsOf (drop s records)) alive
-  unfolding aliveFrom
+  pub alive-end : (mode : ℕ) (alive : List ℕ) → true ≡ aliveFitsFrom mode (recordsOf (drop s records)) alive
+  unfolding aliveFitsFrom
   alive-end mode alive = rw (records-end records s h)
 
   pub totals-end : (t : Totals) → t ≡ totalsFrom t (recordsOf (drop s records))
@@ -106,31 +106,31 @@ module _ (records : List (List ℕ)) (s : ℕ) (h : length records ≤ s) where
   totals-end t = rw (records-end records s h)
 
 module _ (records : List (List ℕ)) (s : ℕ) (h : s < length records) {r : Record} (e : r ≡ structOf (getD records s [])) where
-  pub codes-step : codesFrom (recordsOf (drop s records)) ≡ fitsCodes (plain r) && codesFrom (recordsOf (drop (s + 1) records))
+  pub codes-step : codesFrom (recordsOf (drop s records)) ≡ fitsCodes (recordIn r) && codesFrom (recordsOf (drop (s + 1) records))
   unfolding codesFrom
   codes-step = rw (records-step records s h e)
 
   pub lists-step : (ids offsets : List ℕ) (i i′ o o′ : ℕ) → i′ ≡ i + r .ids → o′ ≡ o + r .offsets
       → listsFrom (recordsOf (drop s records)) (drop i ids) (drop o offsets)
-      ≡ fitsLists (plain r) (take (i′ - i) (drop i ids)) (take (o′ - o) (drop o offsets)) && listsFrom (recordsOf (drop (s + 1) records)) (drop i′ ids) (drop o′ offsets)
+      ≡ fitsLists (recordIn r) (take (i′ - i) (drop i ids)) (take (o′ - o) (drop o offsets)) && listsFrom (recordsOf (drop (s + 1) records)) (drop i′ ids) (drop o′ offsets)
   unfolding listsFrom
   lists-step ids offsets i i′ o o′ p q =
       rw (part-is (r .ids) i i′ ids p, part-is (r .offsets) o o′ offsets q, rest-is (r .ids) i i′ ids p, rest-is (r .offsets) o o′ offsets q, records-step records s h e)
 
   pub values-step : (values lengths bytes : List ℕ) (v v′ t t′ b n : ℕ) → v′ ≡ v + r .values → t′ ≡ t + r .terms → n ≡ sum (take (t′ - t) (drop t lengths))
       → valuesFrom (recordsOf (drop s records)) (drop v values) (drop t lengths) (drop b bytes)
-      ≡ fitsValues (plain r) (take (v′ - v) (drop v values)) (take (t′ - t) (drop t lengths)) (take (length bytes - b) (drop b bytes))
+      ≡ fitsValues (recordIn r) (take (v′ - v) (drop v values)) (take (t′ - t) (drop t lengths)) (take (length bytes - b) (drop b bytes))
       && valuesFrom (recordsOf (drop (s + 1) records)) (drop v′ values) (drop t′ lengths) (drop (b + n) bytes)
   unfolding valuesFrom
   values-step values lengths bytes v v′ t t′ b n p q k =
       rw (rest-is n b (b + n) bytes refl, k, part-is (r .values) v v′ values p, part-is (r .terms) t t′ lengths q, rest-is (r .values) v v′ values p, rest-is (r .terms) t t′ lengths q, part-rest b bytes, records-step records s h e)
 
-  pub alive-step : (mode : ℕ) (alive : List ℕ) (a a′ n : ℕ) → n ≡ aliveWords (plain r) → a′ ≡ a + n
-      → aliveFrom mode (recordsOf (drop s records)) (drop a alive)
-      ≡ fitsAlive mode (plain r) (take (a′ - a) (drop a alive)) && aliveFrom mode (recordsOf (drop (s + 1) records)) (drop a′ alive)
-  unfolding aliveFrom
+  pub alive-step : (mode : ℕ) (alive : List ℕ) (a a′ n : ℕ) → n ≡ aliveWords (recordIn r) → a′ ≡ a + n
+      → aliveFitsFrom mode (recordsOf (drop s records)) (drop a alive)
+      ≡ fitsAlive mode (recordIn r) (take (a′ - a) (drop a alive)) && aliveFitsFrom mode (recordsOf (drop (s + 1) records)) (drop a′ alive)
+  unfolding aliveFitsFrom
   alive-step mode alive a a′ n k p = rw (part-is n a a′ alive p, rest-is n a a′ alive p, k, records-step records s h e)
 
-  pub totals-step : (t : Totals) → totalsFrom (addTo t (plain r)) (recordsOf (drop (s + 1) records)) ≡ totalsFrom t (recordsOf (drop s records))
+  pub totals-step : (t : Totals) → totalsFrom (addTo t (recordIn r)) (recordsOf (drop (s + 1) records)) ≡ totalsFrom t (recordsOf (drop s records))
   unfolding totalsFrom
   totals-step t = rw (records-step records s h e)

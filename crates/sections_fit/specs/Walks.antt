@@ -97,9 +97,9 @@ pub record HoldsValues (rs : List SegmentRecord) (vs ls bs : List ℕ) : Type 0 
 
 -- ---- 6
 
-unfoldable pub aliveFrom : ℕ → List SegmentRecord → List ℕ → Bool
-aliveFrom mode [] alive = true
-aliveFrom mode (r ∷ rs) alive = fitsAlive mode r (take (aliveWords r) alive) && aliveFrom mode rs (drop (aliveWords r) alive)
+unfoldable pub aliveFitsFrom : ℕ → List SegmentRecord → List ℕ → Bool
+aliveFitsFrom mode [] alive = true
+aliveFitsFrom mode (r ∷ rs) alive = fitsAlive mode r (take (aliveWords r) alive) && aliveFitsFrom mode rs (drop (aliveWords r) alive)
 
 -- ---- 7
 

@@ -8,9 +8,9 @@ ghost use lib.Dec.{eqb};
 ghost use Rattle.definitions.specs.Lists.{sum};
 ghost use Rattle.definitions.specs.Segment.{aliveWords};
 ghost use Rattle.definitions.specs.Answer.{total};
-ghost use Rattle.segment.specs.Records.{plain, recordsOf, sectionsIn};
+ghost use Rattle.segment.specs.Records.{recordIn, recordsOf, sectionsIn};
 ghost use Rattle.segment.specs.Lent.{lentInput};
-ghost use Rattle.sections_fit.specs.Walks.{totalsOf, addTo, Below, Grown, lengthsRight, codesFrom, knownCodes, HoldsLists, listsFrom, HoldsValues, valuesFrom, aliveFrom, sumsRight, firstSeven};
+ghost use Rattle.sections_fit.specs.Walks.{totalsOf, addTo, Below, Grown, lengthsRight, codesFrom, knownCodes, HoldsLists, listsFrom, HoldsValues, valuesFrom, aliveFitsFrom, sumsRight, firstSeven};
 
 // ---- sums
 
@@ -58,7 +58,7 @@ pub struct Totals {
 // The sums with one record more.
 fn plus(t: Totals, r: segment::Record) -> Totals
     requires { ⌜ Below t 1099511627776 ⌝ }
-    ensures { λ x. ⌜ x ≡ addTo t (plain r) ⌝ }
+    ensures { λ x. ⌜ x ≡ addTo t (recordIn r) ⌝ }
     ensures { λ x. ⌜ Grown t x ⌝ }
 {
     let rows = t.rows + segment::wide(r.rows);
@@ -212,7 +212,7 @@ fn all_values_fit(records: &[[u32; 8]], values: &[u64], lengths: &[u32], bytes: 
 
 fn all_alive_fit(mode: u32, records: &[[u32; 8]], alive: &[u64]) -> bool
     requires { ⌜ total aliveWords (recordsOf (now records)) ≤ length (now alive) ⌝ }
-    ensures { λ x. ⌜ x ≡ aliveFrom mode (recordsOf (now (records .entry))) (now (alive .entry)) ⌝ }
+    ensures { λ x. ⌜ x ≡ aliveFitsFrom mode (recordsOf (now (records .entry))) (now (alive .entry)) ⌝ }
 {
     let mut s: usize = 0;
     let mut a: usize = 0;

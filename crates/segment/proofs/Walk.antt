@@ -7,10 +7,10 @@ use native.Mathlib.Omega.{arith}
 use lib.ListN.{length, drop, take, getD, drop-of-length-le, length-drop, length-map, List·getD-map}
 use lib.Seq.{drop-cons, drop-drop, take-all, length-take-le}
 use borrow.Author.Tests.{eq-eqb, ne-eqb}
-use Rattle.definitions.specs.Segment.{SegmentRecord, aliveWords}
+use Rattle.definitions.specs.Segment.{SegmentRecord, aliveWords, recordFrom}
 use Rattle.definitions.specs.Answer.{total}
 use Rattle.segment.specs.declared.Record.{Record}
-use Rattle.segment.specs.Records.{structOf, plain, recordOf, recordsOf}
+use Rattle.segment.specs.Records.{structOf, recordIn, recordsOf}
 
 -- ---- parts of a section
 
@@ -29,19 +29,19 @@ rest-is n a e xs p = ap (λ (k : ℕ). drop k xs) p ∙ sym (drop-drop n a xs)
 -- ---- records
 
 pub records-long : (records : List (List ℕ)) → length (recordsOf records) ≡ length records
-records-long records = length-map records recordOf
+records-long records = length-map records recordFrom
 
-pub record-is : (records : List (List ℕ)) (k : ℕ) {r : Record} → r ≡ structOf (getD records k []) → getD (recordsOf records) k (recordOf []) ≡ plain r
-record-is records k e = List·getD-map recordOf records k [] ∙ ap plain (sym e)
+pub record-is : (records : List (List ℕ)) (k : ℕ) {r : Record} → r ≡ structOf (getD records k []) → getD (recordsOf records) k (recordFrom []) ≡ recordIn r
+record-is records k e = List·getD-map recordFrom records k [] ∙ ap recordIn (sym e)
 
 pub records-end : (records : List (List ℕ)) (s : ℕ) → length records ≤ s → recordsOf (drop s records) ≡ []
 records-end records s h = rw (drop-of-length-le records h)
 
 module _ (records : List (List ℕ)) (s : ℕ) (h : s < length records) {r : Record} (e : r ≡ structOf (getD records s [])) where
-  pub records-step : recordsOf (drop s records) ≡ plain r ∷ recordsOf (drop (s + 1) records)
+  pub records-step : recordsOf (drop s records) ≡ recordIn r ∷ recordsOf (drop (s + 1) records)
   records-step = rw (e, add-one s, drop-cons records s [] h)
 
-  pub total-step : (f : SegmentRecord → ℕ) → total f (recordsOf (drop s records)) ≡ f (plain r) + total f (recordsOf (drop (s + 1) records))
+  pub total-step : (f : SegmentRecord → ℕ) → total f (recordsOf (drop s records)) ≡ f (recordIn r) + total f (recordsOf (drop (s + 1) records))
   total-step f = ap (total f) records-step
 
 -- ---- alive words

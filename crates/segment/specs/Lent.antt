@@ -1,19 +1,14 @@
 -- Everything that a call is lent, in the words of the definitions.
 use Prim.Native.Nat.{ℕ}
 use mathlib.Core.List.{List, map}
-use lib.ListN.{getD}
-use Rattle.definitions.specs.Segment.{Address, Space, Input}
+use Rattle.definitions.specs.Segment.{Address, Space, Input, addressFrom}
 use Rattle.segment.specs.Records.{recordsOf, sectionsIn}
 
 abbrev pub address : ℕ → ℕ → Address
 address segment row = record { segment = segment; row = row }
 
--- the two numbers in their order
-abbrev pub addressOf : List ℕ → Address
-addressOf a = address (getD a 0 0) (getD a 1 0)
-
 abbrev pub addressesOf : List (List ℕ) → List Address
-addressesOf l = map addressOf l
+addressesOf l = map addressFrom l
 
 -- so many working bytes and no outputs: what the checks up to 9 read of the space
 abbrev pub workingOnly : ℕ → Space

@@ -4,7 +4,7 @@ ghost use mathlib.Core.List.{[]};
 ghost use Prim.Native.Nat.{_<_, _≤_};
 ghost use lib.ListN.{length, getD};
 ghost use Rattle.definitions.specs.Segment.{aliveWords};
-ghost use Rattle.segment.specs.Records.{structOf, plain};
+ghost use Rattle.segment.specs.Records.{structOf, recordIn};
 
 pub struct Record {
     pub typ: u32,
@@ -52,7 +52,7 @@ pub fn wide(x: u32) -> usize
 
 // How many alive words the segment has: one per 64 rows or part of it, where the flag is 1.
 pub fn alive_words(r: Record) -> usize
-    ensures { λ n. ⌜ n ≡ aliveWords (plain r) ⌝ }
+    ensures { λ n. ⌜ n ≡ aliveWords (recordIn r) ⌝ }
     ensures { λ n. ⌜ n ≤ 67108864 ⌝ }
 {
     let rows = r.rows;

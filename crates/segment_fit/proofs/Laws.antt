@@ -9,11 +9,11 @@ use lib.Dec.{eqb, ltb, leb}
 use lib.ListN.{length, drop, getD, drop-of-length-le}
 use lib.Seq.{drop-cons}
 use borrow.Author.Tests.{eq-eqb, ne-eqb, lt-ltb, le-ltb, ltb-true, ltb-false, le-leb, lt-leb, leb-true}
-use Rattle.definitions.specs.Lists.{all, any, last, upFrom}
+use Rattle.definitions.specs.Lists.{all, any, last, upFrom, allBelow}
 use Rattle.definitions.specs.Row.{bitAt}
 use Rattle.segment.proofs.Tests.{both-true}
 pub use Rattle.term_reader.proofs.Laws.{sum-step}
-use Rattle.segment_fit.specs.Fits.{risesFrom, rises, lastOf, allBelow, pastRows, fitsOffsets}
+use Rattle.segment_fit.specs.Fits.{risesFrom, rises, lastOf, pastRows, fitsOffsets}
 
 -- ---- rises
 

@@ -9,14 +9,14 @@ use lib.Dec.{eqb, ltb, leb, eqb·suc-zero, leb·suc-suc}
 use lib.ListN.{length, drop, take, getD}
 use lib.Seq.{length-take-le}
 use borrow.Author.Tests.{eqb-true}
-use Rattle.definitions.specs.Lists.{all, isEmpty, last, ascending, ascendingFrom, notFalling, notFallingFrom, termsAscending}
+use Rattle.definitions.specs.Lists.{all, isEmpty, last, ascending, ascendingFrom, notFalling, notFallingFrom, termsAscending, allBelow}
 use Rattle.definitions.specs.Segment.{SegmentRecord, Sections, byKind, cut, aliveWords, firstSegment}
 use Rattle.definitions.specs.Row.{hasAliveSet, noType}
 use Rattle.definitions.specs.Types.{isKnownType, hasTerms, BoolType}
 use Rattle.definitions.specs.Answer.{codesKnown, noColumnIsBare, idsFit, offsetsFit, emptyFits, fullFits, optionalFits, oldFits, newFits, listsFit, valuesFit, bitPastRows}
 use Rattle.segment.proofs.Tests.{empty-length}
 use Rattle.term_reader.specs.Read.{termsRise}
-use Rattle.segment_fit.specs.Fits.{risesFrom, rises, lastOf, allBelow, bareCounts, fitsCodes, fitsIds, fitsOffsets, fitsEmpty, fitsFull, fitsOptional, fitsOld, fitsNew, fitsLists, fitsWords, fitsTerms, fitsValues, pastRows}
+use Rattle.segment_fit.specs.Fits.{risesFrom, rises, lastOf, bareCounts, fitsCodes, fitsIds, fitsOffsets, fitsEmpty, fitsFull, fitsOptional, fitsOld, fitsNew, fitsLists, fitsWords, fitsTerms, fitsValues, pastRows}
 
 -- ---- lists
 

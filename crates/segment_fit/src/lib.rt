@@ -5,10 +5,10 @@ ghost use mathlib.Core.Bool.{_&&_};
 ghost use Prim.Native.Nat.{_<_, _≤_};
 ghost use lib.ListN.{length};
 ghost use lib.Dec.{eqb};
-ghost use Rattle.definitions.specs.Lists.{sum};
+ghost use Rattle.definitions.specs.Lists.{sum, allBelow};
 ghost use Rattle.definitions.specs.Types.{hasTerms};
-ghost use Rattle.segment.specs.Records.{plain};
-ghost use Rattle.segment_fit.specs.Fits.{rises, lastOf, allBelow, fitsCodes, bareCounts, fitsIds, fitsOffsets, fitsEmpty, fitsFull, fitsOptional, fitsOld, fitsNew, fitsLists, fitsWords, fitsTerms, fitsValues, pastRows, fitsAlive};
+ghost use Rattle.segment.specs.Records.{recordIn};
+ghost use Rattle.segment_fit.specs.Fits.{rises, lastOf, fitsCodes, bareCounts, fitsIds, fitsOffsets, fitsEmpty, fitsFull, fitsOptional, fitsOld, fitsNew, fitsLists, fitsWords, fitsTerms, fitsValues, pastRows, fitsAlive};
 
 // ---- scans
 
@@ -60,7 +60,7 @@ fn all_below(xs: &[u64], limit: u64) -> bool
 
 // Whether there is no kind and no length, as a segment without a column must have.
 fn bare_counts(r: segment::Record) -> bool
-    ensures { λ x. ⌜ x ≡ bareCounts (plain r) ⌝ }
+    ensures { λ x. ⌜ x ≡ bareCounts (recordIn r) ⌝ }
 {
     if r.kind != 0 {
         return false;
@@ -79,7 +79,7 @@ fn bare_counts(r: segment::Record) -> bool
 
 // Check 3 of one segment.
 pub fn codes_fit(r: segment::Record) -> bool
-    ensures { λ x. ⌜ x ≡ fitsCodes (plain r) ⌝ }
+    ensures { λ x. ⌜ x ≡ fitsCodes (recordIn r) ⌝ }
 {
     if !column_type::is_known(r.typ) {
         return false;
@@ -192,7 +192,7 @@ fn new_fits(rows: u32, values: u32, ids: &[u32], offsets: &[u32]) -> bool
 
 // Check 4 of one segment.
 pub fn lists_fit(r: segment::Record, ids: &[u32], offsets: &[u32]) -> bool
-    ensures { λ x. ⌜ x ≡ fitsLists (plain r) (now (ids .entry)) (now (offsets .entry)) ⌝ }
+    ensures { λ x. ⌜ x ≡ fitsLists (recordIn r) (now (ids .entry)) (now (offsets .entry)) ⌝ }
 {
     if r.kind == 0 {
         return empty_fits(r.values, ids, offsets);
@@ -244,7 +244,7 @@ fn terms_fit(t: u32, kind: u32, lengths: &[u32], bytes: &[u8]) -> bool
 // Check 5 of one segment.
 pub fn values_fit(r: segment::Record, values: &[u64], lengths: &[u32], bytes: &[u8]) -> bool
     requires { ⌜ sum (now lengths) ≤ length (now bytes) ⌝ }
-    ensures { λ x. ⌜ x ≡ fitsValues (plain r) (now (values .entry)) (now (lengths .entry)) (now (bytes .entry)) ⌝ }
+    ensures { λ x. ⌜ x ≡ fitsValues (recordIn r) (now (values .entry)) (now (lengths .entry)) (now (bytes .entry)) ⌝ }
 {
     if !words_fit(r.typ, lengths.len(), values) {
         return false;
@@ -282,7 +282,7 @@ fn has_stacked_set(mode: u32, flag: u32) -> bool
 // Check 6 of one segment: an alive set in a stacked join is wrong, and so is a bit past the rows.
 pub fn alive_fits(mode: u32, r: segment::Record, alive: &[u64]) -> bool
     requires { ⌜ length (now alive) ≤ 67108864 ⌝ }
-    ensures { λ x. ⌜ x ≡ fitsAlive mode (plain r) (now (alive .entry)) ⌝ }
+    ensures { λ x. ⌜ x ≡ fitsAlive mode (recordIn r) (now (alive .entry)) ⌝ }
 {
     if has_stacked_set(mode, r.flag) {
         return false;

@@ -12,12 +12,12 @@ use lib.ListN.{length, getD, take, drop, length-append, length-drop, length-map,
 use lib.Seq.{getD-append-add, length-take-le}
 use borrow.Author.Tests.{eq-eqb, ne-eqb}
 use Rattle.definitions.specs.Lists.{sum, all, isEmpty, termsAscending}
-use Rattle.definitions.specs.Segment.{Segment, SegmentRecord, Sections, aliveWords, firstSegment, afterFirst, segmentsFrom}
+use Rattle.definitions.specs.Segment.{Segment, SegmentRecord, Sections, aliveWords, firstSegment, afterFirst, segmentsFrom, recordFrom}
 use Rattle.definitions.specs.Row.{rowValues, hasAliveSet, isAlive, aliveRows}
 use Rattle.definitions.specs.Types.{hasTerms, BoolType}
 use Rattle.definitions.specs.Join.{absent, isUsed}
 use Rattle.definitions.specs.Answer.{total, listsFit, valuesFit}
-use Rattle.segment.specs.Records.{recordOf, recordsOf, sectionsIn}
+use Rattle.segment.specs.Records.{recordsOf, sectionsIn}
 use Rattle.segment.proofs.At.{sectionsAt}
 use Rattle.runs.specs.Put.{Below}
 use Rattle.column_index.proofs.Walk.{fits-sound}
@@ -79,10 +79,10 @@ module _ (records : List (List ℕ)) (ids offsets values lengths bytes alive : L
         ∙ same
         ∙ ap (λ (z : Segment). cond (hasAliveSet z) (isUsed z i) true) (sym (segment-is records (sectionsIn ids offsets values lengths bytes alive) s h))
       where
-        same : isKept (firstSegment (recordOf (getD records s [])) (sectionsAt s (recordsOf records) (sectionsIn ids offsets values [] [] alive))) i
-            ≡ cond (hasAliveSet (firstSegment (recordOf (getD records s [])) (sectionsAt s (recordsOf records) (sectionsIn ids offsets values lengths bytes alive))))
-            (isUsed (firstSegment (recordOf (getD records s [])) (sectionsAt s (recordsOf records) (sectionsIn ids offsets values lengths bytes alive))) i) true
-        same = kept-first (recordOf (getD records s [])) (recordsOf records) s i ids offsets values lengths bytes alive
+        same : isKept (firstSegment (recordFrom (getD records s [])) (sectionsAt s (recordsOf records) (sectionsIn ids offsets values [] [] alive))) i
+            ≡ cond (hasAliveSet (firstSegment (recordFrom (getD records s [])) (sectionsAt s (recordsOf records) (sectionsIn ids offsets values lengths bytes alive))))
+            (isUsed (firstSegment (recordFrom (getD records s [])) (sectionsAt s (recordsOf records) (sectionsIn ids offsets values lengths bytes alive))) i) true
+        same = kept-first (recordFrom (getD records s [])) (recordsOf records) s i ids offsets values lengths bytes alive
 
     -- the mark of a held segment's term tells whether the segment keeps it
     pub mark-of : (held : List ℕ) (i : ℕ) → (getD held s 0 ≡ 0 → ⊥) → i < countAt records s
@@ -194,22 +194,22 @@ columns-of records held ids offsets values lengths bytes alive f i o v w t lists
     x : Sections
     x = sectionsIn ids offsets values lengths bytes alive
 
-    bare-is : (s : ℕ) → s < length records → getD (columnsOf records ids offsets values alive) s absent ≡ firstSegment (recordOf (getD records s [])) (sectionsAt s (recordsOf records) (sectionsIn ids offsets values [] [] alive))
+    bare-is : (s : ℕ) → s < length records → getD (columnsOf records ids offsets values alive) s absent ≡ firstSegment (recordFrom (getD records s [])) (sectionsAt s (recordsOf records) (sectionsIn ids offsets values [] [] alive))
     bare-is s h = segment-is records (sectionsIn ids offsets values [] [] alive) s h
 
-    flag-is : (s : ℕ) → s < length records → getD (columnsOf records ids offsets values alive) s absent .flag ≡ 1 → recordOf (getD records s []) .flag ≡ 1
-    flag-is s h e = flag-first (recordOf (getD records s [])) (sectionsAt s (recordsOf records) (sectionsIn ids offsets values [] [] alive)) (sym (ap (λ (z : Segment). z .flag) (bare-is s h)) ∙ e)
+    flag-is : (s : ℕ) → s < length records → getD (columnsOf records ids offsets values alive) s absent .flag ≡ 1 → recordFrom (getD records s []) .flag ≡ 1
+    flag-is s h e = flag-first (recordFrom (getD records s [])) (sectionsAt s (recordsOf records) (sectionsIn ids offsets values [] [] alive)) (sym (ap (λ (z : Segment). z .flag) (bare-is s h)) ∙ e)
 
     inside : (s : ℕ) → s < length records → s < length (segmentsFrom (recordsOf records) x)
-    inside s h = subst (λ (n : ℕ). s < n) (sym (segments-length (recordsOf records) x ∙ length-map records recordOf)) h
+    inside s h = subst (λ (n : ℕ). s < n) (sym (segments-length (recordsOf records) x ∙ length-map records recordFrom)) h
 
-    at : (p : Segment → Bool) → T (all p (segmentsFrom (recordsOf records) x)) → (s : ℕ) → s < length records → T (p (firstSegment (recordOf (getD records s [])) (sectionsAt s (recordsOf records) x)))
+    at : (p : Segment → Bool) → T (all p (segmentsFrom (recordsOf records) x)) → (s : ℕ) → s < length records → T (p (firstSegment (recordFrom (getD records s [])) (sectionsAt s (recordsOf records) x)))
     at p h s l = subst (λ (z : Segment). T (p z)) (segment-is records x s l) (all-at p (segmentsFrom (recordsOf records) x) s absent h (inside s l))
 
-    usable : (s : ℕ) → s < length records → recordOf (getD records s []) .flag ≡ 1 → 0 < countAt records s
+    usable : (s : ℕ) → s < length records → recordFrom (getD records s []) .flag ≡ 1 → 0 < countAt records s
         → Marking (getD (columnsOf records ids offsets values alive) s absent .kind) (getD (columnsOf records ids offsets values alive) s absent .rows) (getD (columnsOf records ids offsets values alive) s absent .ids) (getD (columnsOf records ids offsets values alive) s absent .offsets) (getD (columnsOf records ids offsets values alive) s absent .values) (getD (columnsOf records ids offsets values alive) s absent .alive) (countAt records s)
     usable s h e pos =
-        marking-first (recordOf (getD records s [])) (recordsOf records) s ids offsets values lengths bytes alive (at listsFit lists s h) (at valuesFit ords s h)
-        (terms-first (recordOf (getD records s [])) (recordsOf records) s x (subst (λ (n : ℕ). n + countAt records s ≤ length lengths) (start-total (λ r. r .terms) records s (omega arith)) (omega (arith, t, start-mono (λ r. r .terms) records (suc s) (length records) h))))
-        (subst (λ (n : ℕ). n + aliveWords (recordOf (getD records s [])) ≤ length alive) (start-total aliveWords records s (omega arith)) (omega (arith, w, start-mono aliveWords records (suc s) (length records) h)))
+        marking-first (recordFrom (getD records s [])) (recordsOf records) s ids offsets values lengths bytes alive (at listsFit lists s h) (at valuesFit ords s h)
+        (terms-first (recordFrom (getD records s [])) (recordsOf records) s x (subst (λ (n : ℕ). n + countAt records s ≤ length lengths) (start-total (λ r. r .terms) records s (omega arith)) (omega (arith, t, start-mono (λ r. r .terms) records (suc s) (length records) h))))
+        (subst (λ (n : ℕ). n + aliveWords (recordFrom (getD records s [])) ≤ length alive) (start-total aliveWords records s (omega arith)) (omega (arith, w, start-mono aliveWords records (suc s) (length records) h)))
         e pos (getD (columnsOf records ids offsets values alive) s absent) (bare-is s h)

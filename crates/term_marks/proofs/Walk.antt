@@ -8,11 +8,11 @@ use native.Mathlib.Omega.{arith}
 use lib.ListN.{length, getD, take, drop, replicate, length-append, length-replicate}
 use lib.Seq.{take-nil, drop-nil, take-at, drop-at}
 use Rattle.definitions.specs.Lists.{sum}
-use Rattle.definitions.specs.Segment.{Segment, SegmentRecord, aliveWords, cut, firstSegment}
+use Rattle.definitions.specs.Segment.{Segment, SegmentRecord, aliveWords, cut, firstSegment, recordFrom}
 use Rattle.definitions.specs.Answer.{total}
 use Rattle.definitions.specs.Join.{absent}
 use Rattle.segment.specs.declared.Record.{Record}
-use Rattle.segment.specs.Records.{structOf, plain, recordOf, recordsOf, sectionsIn}
+use Rattle.segment.specs.Records.{structOf, recordIn, recordsOf, sectionsIn}
 use Rattle.segment.proofs.At.{sectionsAt}
 use Rattle.term_rows.specs.Runs.{joinTo, countAt, startAt, posAt}
 use Rattle.term_rows.proofs.Begin.{start-mono}
@@ -34,14 +34,14 @@ drop-zeros (suc n) (suc m) = drop-zeros n m ∙ ap (λ (k : ℕ). replicate k 0)
 
 -- ---- a segment's part of a section
 
-pub run-in : (f : SegmentRecord → ℕ) (records : List (List ℕ)) (s i n m : ℕ) → i ≡ startAt f records s → s < length records → n ≡ f (recordOf (getD records s []))
+pub run-in : (f : SegmentRecord → ℕ) (records : List (List ℕ)) (s i n m : ℕ) → i ≡ startAt f records s → s < length records → n ≡ f (recordFrom (getD records s []))
     → startAt f records (length records) ≤ m → i + n ≤ m
 run-in f records s i n m p h q k = omega (arith, start-mono f records (suc s) (length records) h)
 
-run-is : (f : SegmentRecord → ℕ) (records : List (List ℕ)) (s : ℕ) (l : List ℕ) (i i′ : ℕ) → s < length records → i ≡ startAt f records s → i′ ≡ i + f (recordOf (getD records s []))
-    → take (i′ - i) (drop i l) ≡ take (f (recordOf (getD records s []))) (drop (total f (take s (recordsOf records))) l)
+run-is : (f : SegmentRecord → ℕ) (records : List (List ℕ)) (s : ℕ) (l : List ℕ) (i i′ : ℕ) → s < length records → i ≡ startAt f records s → i′ ≡ i + f (recordFrom (getD records s []))
+    → take (i′ - i) (drop i l) ≡ take (f (recordFrom (getD records s []))) (drop (total f (take s (recordsOf records))) l)
 run-is f records s l i i′ h p q =
-    let n : i′ - i ≡ f (recordOf (getD records s [])) = omega arith in
+    let n : i′ - i ≡ f (recordFrom (getD records s [])) = omega arith in
     ap₂ (λ (a b : ℕ). take a (drop b l)) n (p ∙ start-total f records s (omega arith))
 
 no-terms : (n k m : ℕ) → [] ≡ cut (take n (drop k [])) (drop m [])
@@ -101,10 +101,10 @@ module _ (records : List (List ℕ)) (held ids offsets values alive : List ℕ) 
     pub going : Going marks s i o v w t
     pub less : s < length records
     pub r-is : r ≡ structOf (getD records s [])
-    pub i-end : i′ ≡ i + recordOf (getD records s []) .ids
-    pub o-end : o′ ≡ o + recordOf (getD records s []) .offsets
-    pub v-end : v′ ≡ v + recordOf (getD records s []) .values
-    pub w-end : w′ ≡ w + aliveWords (recordOf (getD records s []))
+    pub i-end : i′ ≡ i + recordFrom (getD records s []) .ids
+    pub o-end : o′ ≡ o + recordFrom (getD records s []) .offsets
+    pub v-end : v′ ≡ v + recordFrom (getD records s []) .values
+    pub w-end : w′ ≡ w + aliveWords (recordFrom (getD records s []))
     pub t-end : t′ ≡ t + countAt records s
 
 module _ {records : List (List ℕ)} {held ids offsets values alive marks : List ℕ} {s i o v w t : ℕ} {r : Record} {i′ o′ v′ w′ t′ : ℕ}
@@ -115,13 +115,13 @@ module _ {records : List (List ℕ)} {held ids offsets values alive marks : List
   abbrev left : ℕ
   left = posAt records (length records) - posAt records s
 
-  column-is : columnOf (plain r) (take (i′ - i) (drop i ids)) (take (o′ - o) (drop o offsets)) (take (v′ - v) (drop v values)) (take (w′ - w) (drop w alive))
+  column-is : columnOf (recordIn r) (take (i′ - i) (drop i ids)) (take (o′ - o) (drop o offsets)) (take (v′ - v) (drop v values)) (take (w′ - w) (drop w alive))
       ≡ getD (columnsOf records ids offsets values alive) s absent
   unfolding firstSegment sectionsAt
   column-is =
-      let q : SegmentRecord = recordOf (getD records s []) in
+      let q : SegmentRecord = recordFrom (getD records s []) in
       let rs : List SegmentRecord = take s (recordsOf records) in
-      ap (λ (z : Record). columnOf (plain z) (take (i′ - i) (drop i ids)) (take (o′ - o) (drop o offsets)) (take (v′ - v) (drop v values)) (take (w′ - w) (drop w alive))) (x .r-is)
+      ap (λ (z : Record). columnOf (recordIn z) (take (i′ - i) (drop i ids)) (take (o′ - o) (drop o offsets)) (take (v′ - v) (drop v values)) (take (w′ - w) (drop w alive))) (x .r-is)
       ∙ (λ j.
       record {
         type = q .type;
@@ -157,14 +157,14 @@ module _ {records : List (List ℕ)} {held ids offsets values alive marks : List
   pub turn-zeros : take (t′ - t) (drop t marks) ≡ replicate (length (take (t′ - t) (drop t marks))) 0
   turn-zeros = part-zeros ∙ ap (λ (n : ℕ). replicate n 0) (sym part-length)
 
-  pub turn-usable : Usable (getD held s 0) (columnOf (plain r) (take (i′ - i) (drop i ids)) (take (o′ - o) (drop o offsets)) (take (v′ - v) (drop v values)) (take (w′ - w) (drop w alive)))
+  pub turn-usable : Usable (getD held s 0) (columnOf (recordIn r) (take (i′ - i) (drop i ids)) (take (o′ - o) (drop o offsets)) (take (v′ - v) (drop v values)) (take (w′ - w) (drop w alive)))
       (length (take (t′ - t) (drop t marks)))
   turn-usable =
       subst (λ (z : Segment). Usable (getD held s 0) z (length (take (t′ - t) (drop t marks)))) (sym column-is)
       (subst (λ (n : ℕ). Usable (getD held s 0) (getD (columnsOf records ids offsets values alive) s absent) n) (sym part-length) (x .columns .usable s (x .less)))
 
   pub going-more : (ys : List ℕ)
-      → ys ≡ marksIn (getD held s 0) (columnOf (plain r) (take (i′ - i) (drop i ids)) (take (o′ - o) (drop o offsets)) (take (v′ - v) (drop v values)) (take (w′ - w) (drop w alive))) (length (take (t′ - t) (drop t marks)))
+      → ys ≡ marksIn (getD held s 0) (columnOf (recordIn r) (take (i′ - i) (drop i ids)) (take (o′ - o) (drop o offsets)) (take (v′ - v) (drop v values)) (take (w′ - w) (drop w alive))) (length (take (t′ - t) (drop t marks)))
       → Going records held ids offsets values alive (take t marks ++ (ys ++ drop (t′ - t) (drop t marks))) (s + 1) i′ o′ v′ w′ t′
   going-more ys e =
       let y : ys ≡ part records held ids offsets values alive s =
@@ -174,10 +174,10 @@ module _ {records : List (List ℕ)} {held ids offsets values alive marks : List
       let n : left - countAt records s ≡ posAt records (length records) - posAt records (suc s) = omega arith in
       record {
         most = omega (arith, x .less);
-        i-is = x .i-end ∙ ap (λ (z : ℕ). z + recordOf (getD records s []) .ids) (x .going .i-is) ∙ ap (startAt (λ z. z .ids) records) (sym (add-one s));
-        o-is = x .o-end ∙ ap (λ (z : ℕ). z + recordOf (getD records s []) .offsets) (x .going .o-is) ∙ ap (startAt (λ z. z .offsets) records) (sym (add-one s));
-        v-is = x .v-end ∙ ap (λ (z : ℕ). z + recordOf (getD records s []) .values) (x .going .v-is) ∙ ap (startAt (λ z. z .values) records) (sym (add-one s));
-        w-is = x .w-end ∙ ap (λ (z : ℕ). z + aliveWords (recordOf (getD records s []))) (x .going .w-is) ∙ ap (startAt aliveWords records) (sym (add-one s));
+        i-is = x .i-end ∙ ap (λ (z : ℕ). z + recordFrom (getD records s []) .ids) (x .going .i-is) ∙ ap (startAt (λ z. z .ids) records) (sym (add-one s));
+        o-is = x .o-end ∙ ap (λ (z : ℕ). z + recordFrom (getD records s []) .offsets) (x .going .o-is) ∙ ap (startAt (λ z. z .offsets) records) (sym (add-one s));
+        v-is = x .v-end ∙ ap (λ (z : ℕ). z + recordFrom (getD records s []) .values) (x .going .v-is) ∙ ap (startAt (λ z. z .values) records) (sym (add-one s));
+        w-is = x .w-end ∙ ap (λ (z : ℕ). z + aliveWords (recordFrom (getD records s []))) (x .going .w-is) ∙ ap (startAt aliveWords records) (sym (add-one s));
         t-is = x .t-end ∙ ap (λ (z : ℕ). z + countAt records s) (x .going .t-is) ∙ ap (posAt records) (sym (add-one s));
         marks-is =
             ap₂ (λ (p q : List ℕ). p ++ (q ++ drop (t′ - t) (drop t marks))) a y

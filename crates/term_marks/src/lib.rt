@@ -3,7 +3,7 @@ ghost use mathlib.Core.Path.{_≡_};
 ghost use Prim.Native.Nat.{_<_};
 ghost use lib.ListN.{length, replicate};
 ghost use Rattle.runs.specs.Put.{Below};
-ghost use Rattle.segment.specs.Records.{plain};
+ghost use Rattle.segment.specs.Records.{recordIn};
 ghost use Rattle.term_rows.specs.Runs.{posAt};
 ghost use Rattle.term_marks.specs.Marks.{columnOf, marksIn, marksOf, setAll, usedBy, usedFrom, Marking, Usable, Columns};
 use segment::Record;
@@ -87,8 +87,8 @@ fn mark_segment(
     marks: &mut [u8],
 )
     requires { ⌜ now marks ≡ replicate (length (now marks)) 0 ⌝ }
-    requires { ⌜ Usable held (columnOf (plain r) (now ids) (now offsets) (now values) (now alive)) (length (now marks)) ⌝ }
-    ensures { λ _. ⌜ now (marks .exit) ≡ marksIn held (columnOf (plain r) (now (ids .entry)) (now (offsets .entry)) (now (values .entry)) (now (alive .entry))) (length (now (marks .entry))) ⌝ }
+    requires { ⌜ Usable held (columnOf (recordIn r) (now ids) (now offsets) (now values) (now alive)) (length (now marks)) ⌝ }
+    ensures { λ _. ⌜ now (marks .exit) ≡ marksIn held (columnOf (recordIn r) (now (ids .entry)) (now (offsets .entry)) (now (values .entry)) (now (alive .entry))) (length (now (marks .entry))) ⌝ }
 {
     if held == 0 {
         return;

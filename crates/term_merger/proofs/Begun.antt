@@ -28,7 +28,7 @@ count-nil x = refl
 pub record Begun (bytes : List ℕ) (rows : List (List ℕ)) (h : Heap) (s : ℕ) : Type 0 where
   pub top : s ≤ 256
   pub len : h .len ≤ s
-  pub ordered : Ordered bytes rows (h .seg) (h .len)
+  pub inHeapOrder : Ordered bytes rows (h .seg) (h .len)
   pub low : (x : ℕ) → x < s → count x (held h) ≡ one (ltb 0 (leftOf rows x))
   pub high : (x : ℕ) → s ≤ x → count x (held h) ≡ 0
 
@@ -38,7 +38,7 @@ begun-start bytes rows h e =
     record {
       top = zero-le;
       len = omega arith;
-      ordered = λ j p l. absurd (omega arith);
+      inHeapOrder = λ j p l. absurd (omega arith);
       low = λ x l. absurd (omega arith);
       high = λ x l. ap (λ (n : ℕ). count x (take n (h .seg))) e ∙ count-nil x;
     }
@@ -49,7 +49,7 @@ module _ (bytes : List ℕ) (rows : List (List ℕ)) (h h′ : Heap) (s : ℕ) (
       record {
         top = omega arith;
         len = omega (arith, p .len, g .len);
-        ordered = p .ordered;
+        inHeapOrder = p .inHeapOrder;
         low = λ x l. low x l (same? x s);
         high = λ x l. let a : one (eqb x s) ≡ 0 = ap one (ne-eqb x s (λ e. omega arith)) in omega (arith, p .holds x, g .high x (omega arith));
       }
@@ -67,7 +67,7 @@ module _ (bytes : List ℕ) (rows : List (List ℕ)) (h h′ : Heap) (s : ℕ) (
   begun-pass : h′ ≡ h → leftOf rows s ≡ 0 → Begun bytes rows h′ (s + 1)
   begun-pass q k =
       subst (λ (z : Heap). Begun bytes rows z (s + 1)) (sym q)
-      (record { top = omega arith; len = omega (arith, g .len); ordered = g .ordered; low = λ x l. low x l (same? x s); high = λ x l. g .high x (omega arith) })
+      (record { top = omega arith; len = omega (arith, g .len); inHeapOrder = g .inHeapOrder; low = λ x l. low x l (same? x s); high = λ x l. g .high x (omega arith) })
     where
       low : (x : ℕ) → x < s + 1 → (x ≡ s) ⊎ (x ≡ s → ⊥) → count x (held h) ≡ one (ltb 0 (leftOf rows x))
       low x l (inl e) =
@@ -83,7 +83,7 @@ module _ (bytes : List ℕ) (rows : List (List ℕ)) (h h′ : Heap) (s : ℕ) (
       go (inr k) = begun-pass (b .done k) (omega arith)
 
 pub begun-end : (bytes : List ℕ) (rows : List (List ℕ)) (h : Heap) (s : ℕ) → Begun bytes rows h s → 256 ≤ s → length rows ≡ 256 → Started bytes rows h
-begun-end bytes rows h s g k e = record { len = omega (arith, g .len, g .top); ordered = g .ordered; holds = λ x. go x (le-lt x s) }
+begun-end bytes rows h s g k e = record { len = omega (arith, g .len, g .top); inHeapOrder = g .inHeapOrder; holds = λ x. go x (le-lt x s) }
   where
     go : (x : ℕ) → (x < s) ⊎ (s ≤ x) → count x (held h) ≡ one (ltb 0 (leftOf rows x))
     go x (inl l) = g .low x l

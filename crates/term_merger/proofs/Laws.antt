@@ -18,7 +18,7 @@ use borrow.Author.Tests.{lt-ltb, le-ltb}
 use Rattle.term_order.specs.declared.TermOrder.{TermOrder}
 use Rattle.term_order.specs.Order.{orderOf}
 use Rattle.term_order.proofs.Laws.{told-lt, told-eq, told-gt}
-use Rattle.term_merger.specs.Order.{cell, keyOf, tieOf, orderAt, comesBefore, Readable}
+use Rattle.term_merger.specs.Order.{cell, keyOf, tieOf, orderAt, comesBefore, TermsInside}
 use Rattle.term_merger.specs.Heap.{one, count, Ordered, Sinking, FirstChild, Risen, Pushed, Out}
 use Rattle.term_merger.specs.declared.Heap.{Heap}
 
@@ -270,8 +270,8 @@ module _ (bytes : List ℕ) (rows : List (List ℕ)) where
 
 -- ---- what the code's comparison says
 
-pub readable-at : (bytes : List ℕ) (rows : List (List ℕ)) (s : ℕ) → Readable bytes rows → s < 256 → (cell rows s 0 ≤ cell rows s 1) × (cell rows s 1 ≤ length bytes)
-unfolding Readable
+pub readable-at : (bytes : List ℕ) (rows : List (List ℕ)) (s : ℕ) → TermsInside bytes rows → s < 256 → (cell rows s 0 ≤ cell rows s 1) × (cell rows s 1 ≤ length bytes)
+unfolding TermsInside
 readable-at bytes rows s r h = r s h
 
 module _ (bytes : List ℕ) (rows : List (List ℕ)) (a b : ℕ) where
@@ -378,7 +378,7 @@ module _ (bytes : List ℕ) (rows : List (List ℕ)) where
       let n : r .len ≡ h .len + 1 = g .len ∙ e in
       record {
         len = n;
-        ordered = ordered-at bytes rows (r .seg) (h .len + 1) (r .len) (sym n) (g .ordered);
+        inHeapOrder = ordered-at bytes rows (r .seg) (h .len + 1) (r .len) (sym n) (g .inHeapOrder);
         holds = λ x.
             ap (λ (z : ℕ). count x (take z (r .seg))) n ∙ g .holds x ∙ ap (λ (z : List ℕ). count x (take (h .len + 1) z)) f
             ∙ count-put (h .seg) (h .len) s x (omega arith);
@@ -390,7 +390,7 @@ module _ (bytes : List ℕ) (rows : List (List ℕ)) where
       let q : r .len ≡ n = g .len ∙ e in
       record {
         len = omega arith;
-        ordered = ordered-at bytes rows (r .seg) n (r .len) (sym q) (g .ordered);
+        inHeapOrder = ordered-at bytes rows (r .seg) n (r .len) (sym q) (g .inHeapOrder);
         holds = λ x.
             ap (λ (y : ℕ). y + one (eqb x (getD (h .seg) 0 0))) (ap (λ (y : ℕ). count x (take y (r .seg))) q ∙ g .holds x ∙ ap (λ (y : List ℕ). count x (take n y)) f)
             ∙ count-drop (h .seg) n x (omega arith) ∙ ap (λ (y : ℕ). count x (take y (h .seg))) (sym z);

@@ -30,20 +30,25 @@ Ordered bytes rows seg n = (j : ℕ) → 0 < j → j < n → comesBefore bytes r
 
 pub record Pushed (bytes : List ℕ) (rows : List (List ℕ)) (h : Heap) (s : ℕ) (r : Heap) : Type 0 where
   pub len : r .len ≡ h .len + 1
-  pub ordered : Ordered bytes rows (r .seg) (r .len)
+  pub inHeapOrder : Ordered bytes rows (r .seg) (r .len)
   pub holds : (x : ℕ) → count x (held r) ≡ count x (held h) + one (eqb x s)
+
+-- a full heap stays as it is
+pub record PushedIfRoom (bytes : List ℕ) (rows : List (List ℕ)) (h : Heap) (s : ℕ) (r : Heap) : Type 0 where
+  pub room : h .len < 256 → Pushed bytes rows h s r
+  pub full : 256 ≤ h .len → r ≡ h
 
 -- the top is out, it was the least, and the rest is a heap
 pub record Out (bytes : List ℕ) (rows : List (List ℕ)) (h : Heap) (r : Heap) (top : ℕ) : Type 0 where
   pub len : r .len + 1 ≡ h .len
-  pub ordered : Ordered bytes rows (r .seg) (r .len)
+  pub inHeapOrder : Ordered bytes rows (r .seg) (r .len)
   pub holds : (x : ℕ) → count x (held r) + one (eqb x top) ≡ count x (held h)
   pub least : (j : ℕ) → j < h .len → comesBefore bytes rows (getD (h .seg) j 0) top ≡ false
 
 -- the first n are in order, and are the same numbers as before, each as often
 pub record Risen (bytes : List ℕ) (rows : List (List ℕ)) (h : Heap) (n : ℕ) (r : Heap) : Type 0 where
   pub len : r .len ≡ h .len
-  pub ordered : Ordered bytes rows (r .seg) n
+  pub inHeapOrder : Ordered bytes rows (r .seg) n
   pub holds : (x : ℕ) → count x (take n (r .seg)) ≡ count x (take n (h .seg))
 
 -- c is l or the place after it, and neither of the two comes before the one at c

@@ -19,5 +19,5 @@ pub record Back (bytes : List ℕ) (rows : List (List ℕ)) (h : Heap) (s : ℕ)
 -- the heap holds each segment with something left, once
 pub record Started (bytes : List ℕ) (rows : List (List ℕ)) (h : Heap) : Type 0 where
   pub len : h .len ≤ 256
-  pub ordered : Ordered bytes rows (h .seg) (h .len)
+  pub inHeapOrder : Ordered bytes rows (h .seg) (h .len)
   pub holds : (x : ℕ) → count x (held h) ≡ one (ltb 0 (leftOf rows x))

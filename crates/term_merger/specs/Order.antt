@@ -28,5 +28,5 @@ unfoldable pub comesBefore : List ℕ → List (List ℕ) → ℕ → ℕ → Bo
 comesBefore bytes rows a b = isBelow (orderAt bytes rows a b)
 
 -- every row's current term lies in the term bytes
-unfoldable pub Readable : List ℕ → List (List ℕ) → Type 0
-Readable bytes rows = (s : ℕ) → s < 256 → (cell rows s 0 ≤ cell rows s 1) × (cell rows s 1 ≤ length bytes)
+unfoldable pub TermsInside : List ℕ → List (List ℕ) → Type 0
+TermsInside bytes rows = (s : ℕ) → s < 256 → (cell rows s 0 ≤ cell rows s 1) × (cell rows s 1 ≤ length bytes)

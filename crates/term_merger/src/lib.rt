@@ -4,14 +4,14 @@ ghost use mathlib.Core.List.{[]};
 ghost use Prim.Native.Nat.{_+_, _-_, _*_, _<_, _≤_};
 ghost use lib.ListN.{length, getD};
 ghost use lib.Dec.{leb};
-ghost use Rattle.term_merger.specs.Order.{comesBefore, Readable};
-ghost use Rattle.term_merger.specs.Heap.{emptyHeap, held, Ordered, Pushed, Out, Risen, FirstChild, Sinking};
+ghost use Rattle.term_merger.specs.Order.{comesBefore, TermsInside};
+ghost use Rattle.term_merger.specs.Heap.{emptyHeap, held, Ordered, PushedIfRoom, Out, Risen, FirstChild, Sinking};
 ghost use Rattle.term_merger.specs.Live.{Back, Started};
 use term_order::TermOrder;
 
 // Segment numbers in an array, each not before the one above it.
 pub struct Heap {
-    pub seg: [u8; 256],
+    pub seg: [u8; Heap::CAP],
     pub len: usize,
 }
 
@@ -27,7 +27,7 @@ impl Heap {
         ensures { λ h. ⌜ h ≡ emptyHeap ⌝ }
     {
         Heap {
-            seg: [0u8; 256],
+            seg: [0u8; Heap::CAP],
             len: 0,
         }
     }
@@ -49,7 +49,7 @@ pub fn wide(b: u8) -> usize
 
 // Whether segment a leaves the heap before segment b: by term, then marked terms first, then by number.
 pub fn comes_before(bytes: &[u8], rows: &[[usize; 6]], a: u8, b: u8) -> bool
-    requires { ⌜ (256 ≤ length (now rows)) × Readable (now bytes) (now rows) ⌝ }
+    requires { ⌜ (256 ≤ length (now rows)) × TermsInside (now bytes) (now rows) ⌝ }
     ensures { λ r. ⌜ r ≡ comesBefore (now (bytes .entry)) (now (rows .entry)) a b ⌝ }
 {
     let p = wide(a);
@@ -75,7 +75,7 @@ pub fn comes_before(bytes: &[u8], rows: &[[usize; 6]], a: u8, b: u8) -> bool
 
 // The number at the last place goes up to its place.
 fn sift_up(heap: Heap, bytes: &[u8], rows: &[[usize; 6]], from: usize) -> Heap
-    requires { ⌜ (256 ≤ length (now rows)) × Readable (now bytes) (now rows) ⌝ }
+    requires { ⌜ (256 ≤ length (now rows)) × TermsInside (now bytes) (now rows) ⌝ }
     requires { ⌜ (from < 256) × Ordered (now bytes) (now rows) (heap .seg) from ⌝ }
     ensures { λ h. ⌜ Risen (now (bytes .entry)) (now (rows .entry)) heap (from + 1) h ⌝ }
 {
@@ -95,11 +95,15 @@ fn sift_up(heap: Heap, bytes: &[u8], rows: &[[usize; 6]], from: usize) -> Heap
     h
 }
 
+// One segment more; a full heap stays as it is.
 pub fn push(heap: Heap, bytes: &[u8], rows: &[[usize; 6]], s: u8) -> Heap
-    requires { ⌜ (256 ≤ length (now rows)) × Readable (now bytes) (now rows) ⌝ }
-    requires { ⌜ (heap .len < 256) × Ordered (now bytes) (now rows) (heap .seg) (heap .len) ⌝ }
-    ensures { λ h. ⌜ Pushed (now (bytes .entry)) (now (rows .entry)) heap s h ⌝ }
+    requires { ⌜ (256 ≤ length (now rows)) × TermsInside (now bytes) (now rows) ⌝ }
+    requires { ⌜ Ordered (now bytes) (now rows) (heap .seg) (heap .len) ⌝ }
+    ensures { λ h. ⌜ PushedIfRoom (now (bytes .entry)) (now (rows .entry)) heap s h ⌝ }
 {
+    if heap.is_full() {
+        return heap;
+    }
     let n = heap.len;
     let mut h = heap;
     h.seg[n] = s;
@@ -108,8 +112,14 @@ pub fn push(heap: Heap, bytes: &[u8], rows: &[[usize; 6]], s: u8) -> Heap
 }
 
 // The child of a place that comes first: l is the first child, and n is the number of places.
-fn first_child(seg: &[u8; 256], bytes: &[u8], rows: &[[usize; 6]], l: usize, n: usize) -> usize
-    requires { ⌜ (256 ≤ length (now rows)) × Readable (now bytes) (now rows) ⌝ }
+fn first_child(
+    seg: &[u8; Heap::CAP],
+    bytes: &[u8],
+    rows: &[[usize; 6]],
+    l: usize,
+    n: usize,
+) -> usize
+    requires { ⌜ (256 ≤ length (now rows)) × TermsInside (now bytes) (now rows) ⌝ }
     requires { ⌜ (l < n) × (n ≤ 256) ⌝ }
     ensures { λ c. ⌜ FirstChild (now (bytes .entry)) (now (rows .entry)) (now (seg .entry)) l n c ⌝ }
 {
@@ -127,7 +137,7 @@ fn first_child(seg: &[u8; 256], bytes: &[u8], rows: &[[usize; 6]], l: usize, n: 
 
 // The number at the first place goes down to its place among the first n.
 fn sift_down(heap: Heap, bytes: &[u8], rows: &[[usize; 6]], n: usize) -> Heap
-    requires { ⌜ (256 ≤ length (now rows)) × Readable (now bytes) (now rows) ⌝ }
+    requires { ⌜ (256 ≤ length (now rows)) × TermsInside (now bytes) (now rows) ⌝ }
     requires { ⌜ (n ≤ 256) × Sinking (now bytes) (now rows) (heap .seg) 0 n ⌝ }
     ensures { λ h. ⌜ Risen (now (bytes .entry)) (now (rows .entry)) heap n h ⌝ }
 {
@@ -148,7 +158,7 @@ fn sift_down(heap: Heap, bytes: &[u8], rows: &[[usize; 6]], n: usize) -> Heap
 }
 
 pub fn pop(heap: Heap, bytes: &[u8], rows: &[[usize; 6]]) -> Popped
-    requires { ⌜ (256 ≤ length (now rows)) × Readable (now bytes) (now rows) ⌝ }
+    requires { ⌜ (256 ≤ length (now rows)) × TermsInside (now bytes) (now rows) ⌝ }
     requires { ⌜ (0 < heap .len) × (heap .len ≤ 256) × Ordered (now bytes) (now rows) (heap .seg) (heap .len) ⌝ }
     ensures { λ p. ⌜ Out (now (bytes .entry)) (now (rows .entry)) heap (p .heap) (p .top) ⌝ }
 {
@@ -167,7 +177,7 @@ pub fn pop(heap: Heap, bytes: &[u8], rows: &[[usize; 6]]) -> Popped
 
 // A segment goes back into the heap if its row has something left.
 pub fn push_live(heap: Heap, bytes: &[u8], rows: &[[usize; 6]], s: u8) -> Heap
-    requires { ⌜ (256 ≤ length (now rows)) × Readable (now bytes) (now rows) ⌝ }
+    requires { ⌜ (256 ≤ length (now rows)) × TermsInside (now bytes) (now rows) ⌝ }
     requires { ⌜ (heap .len < 256) × Ordered (now bytes) (now rows) (heap .seg) (heap .len) ⌝ }
     ensures { λ h. ⌜ Back (now (bytes .entry)) (now (rows .entry)) heap s h ⌝ }
 {
@@ -181,12 +191,12 @@ pub fn push_live(heap: Heap, bytes: &[u8], rows: &[[usize; 6]], s: u8) -> Heap
 
 // A heap of all segments whose rows have something left.
 pub fn start_heap(bytes: &[u8], rows: &[[usize; 6]]) -> Heap
-    requires { ⌜ (length (now rows) ≡ 256) × Readable (now bytes) (now rows) ⌝ }
+    requires { ⌜ (length (now rows) ≡ 256) × TermsInside (now bytes) (now rows) ⌝ }
     ensures { λ h. ⌜ Started (now (bytes .entry)) (now (rows .entry)) h ⌝ }
 {
     let mut h = Heap::empty();
     let mut s: usize = 0;
-    while s < 256 {
+    while s < Heap::CAP {
         h = push_live(h, bytes, rows, s as u8);
         s += 1;
     }

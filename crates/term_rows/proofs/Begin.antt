@@ -12,8 +12,7 @@ use lib.ListN.{length, getD, set, take, drop, replicate, length-set, length-repl
 use lib.Seq.{drop-cons, getD-set-same, getD-set-other}
 use borrow.Author.Tests.{lt-ltb, le-ltb, eq-eqb, ne-eqb}
 use Rattle.definitions.specs.Lists.{sum}
-use Rattle.definitions.specs.Segment.{SegmentRecord}
-use Rattle.segment.specs.Records.{recordOf}
+use Rattle.definitions.specs.Segment.{SegmentRecord, recordFrom}
 use Rattle.term_rows.specs.Rows.{rowAt, lengthAt, termsIn, bytesIn, sumOver}
 use Rattle.term_rows.specs.Runs.{startAt, textAt, countAt, heldAt, posAt, fromAt, toAt, Runs, firstRow, Filled}
 use Rattle.term_rows.proofs.Rows.{le-lt, over-set}
@@ -65,9 +64,9 @@ start-mono size records s zero h = ap-le (let e : s ≡ 0 = omega arith in e)
     ap-le e = subst (λ (z : ℕ). startAt size records z ≤ 0) (sym e) zero-le
 start-mono size records s (suc t) h = go (le-lt s (suc t)) (λ (k : s ≤ t). start-mono size records s t k)
   where
-    go : (s < suc t) ⊎ (suc t ≤ s) → (s ≤ t → startAt size records s ≤ startAt size records t) → startAt size records s ≤ startAt size records t + size (recordOf (getD records t []))
+    go : (s < suc t) ⊎ (suc t ≤ s) → (s ≤ t → startAt size records s ≤ startAt size records t) → startAt size records s ≤ startAt size records t + size (recordFrom (getD records t []))
     go (inl k) f = omega (arith, f (le-of-suc-le-suc k))
-    go (inr k) f = subst (λ (z : ℕ). startAt size records z ≤ startAt size records t + size (recordOf (getD records t []))) (let e : suc t ≡ s = omega arith in e) (omega arith)
+    go (inr k) f = subst (λ (z : ℕ). startAt size records z ≤ startAt size records t + size (recordFrom (getD records t []))) (let e : suc t ≡ s = omega arith in e) (omega arith)
 
 pub pos-mono : (records : List (List ℕ)) (s t : ℕ) → s ≤ t → posAt records s ≤ posAt records t
 pos-mono records s t h = start-mono (λ r. r .terms) records s t h
@@ -82,17 +81,6 @@ from-mono records lengths s (suc t) h = go (le-lt s (suc t)) (λ (k : s ≤ t). 
     go : (s < suc t) ⊎ (suc t ≤ s) → (s ≤ t → fromAt records lengths s ≤ fromAt records lengths t) → fromAt records lengths s ≤ fromAt records lengths (suc t)
     go (inl k) f = omega (arith, f (le-of-suc-le-suc k))
     go (inr k) f = subst (λ (z : ℕ). fromAt records lengths z ≤ fromAt records lengths (suc t)) (let e : suc t ≡ s = omega arith in e) (omega arith)
-
-pub to-mono : (records : List (List ℕ)) (held : List ℕ) (s t : ℕ) → s ≤ t → toAt records held s ≤ toAt records held t
-to-mono records held s zero h = ap-le (let e : s ≡ 0 = omega arith in e)
-  where
-    ap-le : s ≡ 0 → toAt records held s ≤ 0
-    ap-le e = subst (λ (z : ℕ). toAt records held z ≤ 0) (sym e) zero-le
-to-mono records held s (suc t) h = go (le-lt s (suc t)) (λ (k : s ≤ t). to-mono records held s t k)
-  where
-    go : (s < suc t) ⊎ (suc t ≤ s) → (s ≤ t → toAt records held s ≤ toAt records held t) → toAt records held s ≤ toAt records held t + heldAt records held t
-    go (inl k) f = omega (arith, f (le-of-suc-le-suc k))
-    go (inr k) f = subst (λ (z : ℕ). toAt records held z ≤ toAt records held t + heldAt records held t) (let e : suc t ≡ s = omega arith in e) (omega arith)
 
 pub to-pos : (records : List (List ℕ)) (held : List ℕ) (s : ℕ) → toAt records held s ≤ posAt records s
 to-pos records held zero = zero-le

@@ -6,8 +6,7 @@ use mathlib.Core.Path.{_≡_}
 use lib.Dec.{eqb}
 use lib.ListN.{length, take, drop, getD, replicate}
 use Rattle.definitions.specs.Lists.{sum}
-use Rattle.definitions.specs.Segment.{SegmentRecord}
-use Rattle.segment.specs.Records.{recordOf}
+use Rattle.definitions.specs.Segment.{SegmentRecord, recordFrom}
 use Rattle.term_rows.specs.Rows.{rowAt, termsIn, bytesIn, sumOver}
 
 -- f 0, f 1, .., f (n - 1), one after another
@@ -17,7 +16,7 @@ joinTo f (suc n) = joinTo f n ++ f n
 
 -- how many terms a record announces
 abbrev pub countAt : List (List ℕ) → ℕ → ℕ
-countAt records s = recordOf (getD records s []) .terms
+countAt records s = recordFrom (getD records s []) .terms
 
 -- the same for a held segment, 0 for another
 abbrev pub heldAt : List (List ℕ) → List ℕ → ℕ → ℕ
@@ -26,7 +25,7 @@ heldAt records held s = cond (eqb (getD held s 0) 0) 0 (countAt records s)
 -- where a segment's run begins, by how long each segment's run is
 abbrev pub startAt : (SegmentRecord → ℕ) → List (List ℕ) → ℕ → ℕ
 startAt f records zero = 0
-startAt f records (suc s) = startAt f records s + f (recordOf (getD records s []))
+startAt f records (suc s) = startAt f records s + f (recordFrom (getD records s []))
 
 -- where a segment's terms begin among the term lengths
 abbrev pub posAt : List (List ℕ) → ℕ → ℕ

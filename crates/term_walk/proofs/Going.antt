@@ -3,25 +3,26 @@ use mathlib.Core.Path.{_≡_, refl, sym, ap, ap₂, _∙_, subst}
 use mathlib.Core.Logic.{_⊎_, inl, inr}
 use mathlib.Core.Bool.{Bool, true, false, false≢true}
 use mathlib.Core.List.{List, [], _∷_, _++_, map}
-use Prim.Native.Nat.{ℕ, zero, suc, _+_, _-_, _≤_, _<_, zero-le, suc-le-suc}
+use Prim.Native.Nat.{ℕ, _+_, _-_, _≤_, _<_, zero-le, suc-le-suc}
 use native.Mathlib.Omega.{arith}
 use lib.Dec.{eqb, ltb}
-use lib.ListN.{length, getD, set, take, drop, length-drop, length-set, length-append, length-map, List·getD-eq-default}
+use lib.ListN.{length, getD, set, take, drop, length-drop, length-set, length-append, length-map}
 use lib.Seq.{getD-set-same, getD-set-other, length-take-le}
-use borrow.Author.Tests.{lt-ltb, le-ltb, ltb-true, ltb-false, eq-eqb, ne-eqb}
+use borrow.Author.Tests.{lt-ltb, le-ltb, ltb-true, eq-eqb, ne-eqb}
 use Rattle.definitions.specs.Lists.{hasTerm, concat}
+use Rattle.definitions.specs.Join.{ordinalOf}
 use Rattle.definitions.specs.Outcome.{written}
 use Rattle.definitions.proofs.Terms.{Before}
 use Rattle.term_merger.specs.declared.Heap.{Heap}
-use Rattle.term_merger.specs.Order.{cell, keyOf, Readable}
+use Rattle.term_merger.specs.Order.{cell, keyOf, TermsInside}
 use Rattle.term_merger.specs.Heap.{count, one, held, Ordered, Out, Pushed}
 use Rattle.term_walk.specs.declared.Last.{Last}
 use Rattle.term_walk.specs.declared.Taken.{Taken}
-use Rattle.term_walk.specs.declared.Kept.{Kept}
 use Rattle.runs.specs.Put.{put}
 use Rattle.term_rows.specs.Rows.{rowAt, lengthAt, rowOf, sizeOf, dictOf, termAt, markAt, termsIn, bytesIn, sumOver}
-use Rattle.term_walk.specs.Walk.{Ready, termOf, lastOf, partOf, Again, Skipped, Added, Took, Merged}
+use Rattle.term_walk.specs.Walk.{Ready, termOf, lastOf, partOf, Again, Skipped, Added, Took}
 use Rattle.term_merger.specs.Live.{Back, Started}
+use Rattle.term_walk.proofs.Places.{some-row, over-le, place, apart}
 use Rattle.term_walk.proofs.Written.{written-one, written-more, written-length}
 use Rattle.term_rows.proofs.Rows.{le-lt, over-set, dict-length, row-2, row-3, row-4, row-5, row-readable, row-term, row-length, row-more, row-fits, left-bytes}
 use Rattle.term_walk.proofs.Merge.{bump, bump-there, bump-at, Merging, keep, add, unlike, strictly, Mapped, mapped-add, mapped-keep, LastIs, last-hit, last-miss, last-added, has-self, ordinal-none, ordinal-new}
@@ -29,26 +30,13 @@ use Rattle.term_merger.proofs.Laws.{same?}
 use Rattle.term_walk.proofs.Heaps.{out-least, asc-next, asc-count, map-length-snoc, concat-snoc}
 use Rattle.term_merger.proofs.Heaps.{one-pos, ordered-rows, top-held}
 
-count-nil : (x : ℕ) → count x [] ≡ 0
-unfolding count
-count-nil x = refl
-
-one-zero : (b : Bool) → one b ≡ 0 → b ≡ false
-one-zero true h = absurd (omega arith)
-one-zero false h = refl
-
-pub over-le : (f : List ℕ → ℕ) (rows : List (List ℕ)) (s : ℕ) → s < length rows → f (getD rows s []) ≤ sumOver f rows
-over-le f [] s h = absurd (omega arith)
-over-le f (x ∷ xs) zero h = omega arith
-over-le f (x ∷ xs) (suc s) h = let e = over-le f xs s (let k : s < length xs = omega arith in k) in omega arith
-
 pub record Going (lengths bytes marks : List ℕ) (all : Bool) (rows₀ : List (List ℕ)) (lens₀ outs₀ ords₀ : List ℕ)
     (rows : List (List ℕ)) (lens outs ords : List ℕ) (h : Heap) (l : Last) (P : ℕ → ℕ) (out : List (List ℕ)) : Type 0 where
   pub size : length rows ≡ 256
   pub row : (s : ℕ) → s < 256 → getD rows s [] ≡ rowOf lengths marks all rows₀ s (P s)
   pub most : (s : ℕ) → P s ≤ sizeOf rows₀ s
   pub len : h .len ≤ 256
-  pub ordered : Ordered bytes rows (h .seg) (h .len)
+  pub inHeapOrder : Ordered bytes rows (h .seg) (h .len)
   pub holds : (x : ℕ) → count x (held h) ≡ one (ltb (P x) (sizeOf rows₀ x))
   pub merging : Merging (termAt lengths bytes rows₀) (sizeOf rows₀) (markAt marks all rows₀) P out
   pub mapped : Mapped (termAt lengths bytes rows₀) (sizeOf rows₀) (markAt marks all rows₀) (λ s. cell rows₀ s 5) P out ords
@@ -94,20 +82,11 @@ module _ {lengths bytes marks : List ℕ} {all : Bool} {rows₀ : List (List ℕ
   abbrev M : ℕ → ℕ
   M x = cell rows₀ x 5
 
-  no-size : (x : ℕ) → 256 ≤ x → N x ≡ 0
-  no-size x k =
-      let e : getD rows₀ x [] ≡ [] = List·getD-eq-default rows₀ [] (omega (arith, y .size)) in
-      ap (λ (z : List ℕ). getD z 4 0 - getD z 3 0) e
-
   pub in-range : (x : ℕ) → P x < N x → x < 256
-  in-range x k = go (le-lt x 256)
-    where
-      go : (x < 256) ⊎ (256 ≤ x) → x < 256
-      go (inl a) = a
-      go (inr a) = absurd (omega (arith, no-size x a))
+  in-range x k = omega (arith, y .size, some-row rows₀ x (P x) k)
 
-  pub going-readable : Readable bytes rows
-  unfolding Readable
+  pub going-readable : TermsInside bytes rows
+  unfolding TermsInside
   going-readable x k =
       subst (λ (z : List ℕ). (getD z 0 0 ≤ getD z 1 0) × (getD z 1 0 ≤ length bytes)) (sym (g .row x k))
       (row-readable lengths bytes marks all rows₀ x (y .low x) (y .inside x) (y .fits x) (P x) (g .most x))
@@ -196,14 +175,14 @@ module _ {lengths bytes marks : List ℕ} {all : Bool} {rows₀ : List (List ℕ
         (row-fits lengths bytes marks all rows₀ s (y .low s) (y .inside s) (y .fits s) (P s) live)
 
     pub place-in : getD (getD rows s []) 5 0 < length ords
-    place-in = omega (arith, place-s, y .place s (P s) live, g .size-map)
+    place-in = omega (arith, place-s, place y s (P s) live, g .size-map)
 
     apart-s : (x i : ℕ) → i < P x → M x + i ≡ M s + P s → ⊥
     apart-s x i k e = go (same? x s)
       where
         go : (x ≡ s) ⊎ (x ≡ s → ⊥) → ⊥
         go (inl f) = omega (arith, ap M f, ap P f)
-        go (inr d) = y .apart x s i (P s) d (omega (arith, g .most x)) live e
+        go (inr d) = apart y x s i (P s) d (omega (arith, g .most x)) live e
 
     inside-map : M s + P s < length ords
     inside-map = omega (arith, place-s, place-in)
@@ -212,43 +191,34 @@ module _ {lengths bytes marks : List ℕ} {all : Bool} {rows₀ : List (List ℕ
       abbrev Here : List (List ℕ) → Type 0
       Here o′ = Stepped lengths bytes marks all rows₀ lens₀ outs₀ ords l P s t lens′ outs′ o′
 
+      -- nothing is written
+      step-same : t .last ≡ l → lens′ ≡ lens → outs′ ≡ outs → (K s (P s) ≡ 0 → hasTerm (D s (P s)) out ≡ true) → t .ordinal ≡ ordinalOf out (D s (P s)) → t .ordinal ≤ length (concat out) → Here out
+      step-same e f o m v k =
+          record {
+            merging = keep D N K P out s (g .merging) live next least m;
+            mapped = mapped-keep D N K M P out ords s (t .ordinal) inside-map apart-s v (g .mapped);
+            last = subst (λ (z : Last). LastIs out (z .terms) (lastOf bytes z)) (sym e) (g .last);
+            last-low = subst (λ (z : Last). z .from ≤ z .till) (sym e) (g .last-low);
+            last-in = subst (λ (z : Last). z .till ≤ length bytes) (sym e) (g .last-in);
+            used = ap (λ (z : Last). z .bytes) e ∙ g .used;
+            lens-is = f ∙ g .lens-is;
+            outs-is = o ∙ g .outs-is;
+            terms = omega (arith, ap (λ (z : Last). z .terms) e);
+            texts = omega (arith, ap (λ (z : Last). z .bytes) e);
+            small = k;
+          }
+
       step-again : Again bytes (getD rows s []) l lens outs t lens′ outs′ → Here out
       step-again a =
-          let e : D s (P s) ≡ lastOf bytes l = sym term-s ∙ a .same in
-          let hit = last-hit out (l .terms) (lastOf bytes l) (D s (P s)) (g .last) (a .some) e in
-          record {
-            merging = keep D N K P out s (g .merging) live next least (λ k. hit .0);
-            mapped = mapped-keep D N K M P out ords s (t .ordinal) inside-map apart-s (omega (arith, hit .1, a .ordinal)) (g .mapped);
-            last = subst (λ (z : Last). LastIs out (z .terms) (lastOf bytes z)) (sym (a .last)) (g .last);
-            last-low = subst (λ (z : Last). z .from ≤ z .till) (sym (a .last)) (g .last-low);
-            last-in = subst (λ (z : Last). z .till ≤ length bytes) (sym (a .last)) (g .last-in);
-            used = ap (λ (z : Last). z .bytes) (a .last) ∙ g .used;
-            lens-is = a .lengths ∙ g .lens-is;
-            outs-is = a .texts ∙ g .outs-is;
-            terms = omega (arith, ap (λ (z : Last). z .terms) (a .last));
-            texts = omega (arith, ap (λ (z : Last). z .bytes) (a .last));
-            small = omega (arith, a .ordinal, g .last .size, asc-count out (g .merging .asc));
-          }
+          let hit = last-hit out (l .terms) (lastOf bytes l) (D s (P s)) (g .last) (a .some) (sym term-s ∙ a .same) in
+          step-same (a .last) (a .lengths) (a .texts) (λ k. hit .0) (omega (arith, hit .1, a .ordinal)) (omega (arith, a .ordinal, g .last .size, asc-count out (g .merging .asc)))
 
       missed : (0 < l .terms → termOf bytes (getD rows s []) ≡ lastOf bytes l → ⊥) → hasTerm (D s (P s)) out ≡ false
       missed d = last-miss out (l .terms) (lastOf bytes l) (D s (P s)) (g .last) (λ u k. g .merging .below u k s live) (λ p e. d p (term-s ∙ e))
 
       step-skip : Skipped bytes (getD rows s []) l lens outs t lens′ outs′ → Here out
       step-skip a =
-          let new : hasTerm (D s (P s)) out ≡ false = missed (a .other) in
-          record {
-            merging = keep D N K P out s (g .merging) live next least (λ k. absurd (a .unmarked (rank-s ∙ k)));
-            mapped = mapped-keep D N K M P out ords s (t .ordinal) inside-map apart-s (a .ordinal ∙ sym (ordinal-none (D s (P s)) out new)) (g .mapped);
-            last = subst (λ (z : Last). LastIs out (z .terms) (lastOf bytes z)) (sym (a .last)) (g .last);
-            last-low = subst (λ (z : Last). z .from ≤ z .till) (sym (a .last)) (g .last-low);
-            last-in = subst (λ (z : Last). z .till ≤ length bytes) (sym (a .last)) (g .last-in);
-            used = ap (λ (z : Last). z .bytes) (a .last) ∙ g .used;
-            lens-is = a .lengths ∙ g .lens-is;
-            outs-is = a .texts ∙ g .outs-is;
-            terms = omega (arith, ap (λ (z : Last). z .terms) (a .last));
-            texts = omega (arith, ap (λ (z : Last). z .bytes) (a .last));
-            small = omega (arith, a .ordinal);
-          }
+          step-same (a .last) (a .lengths) (a .texts) (λ k. absurd (a .unmarked (rank-s ∙ k))) (a .ordinal ∙ sym (ordinal-none (D s (P s)) out (missed (a .other)))) (omega (arith, a .ordinal))
 
       step-add : Added bytes (getD rows s []) lengths l lens outs t lens′ outs′ → Here (out ++ (D s (P s) ∷ []))
       step-add a =
@@ -314,8 +284,8 @@ module _ {lengths bytes marks : List ℕ} {all : Bool} {rows₀ : List (List ℕ
           go (inl e) = omega (arith, bump-at P s x e, ap N e, live)
           go (inr d) = omega (arith, bump-there P s x d, g .most x)
 
-      pub readable-new : Readable bytes (set rows s nr)
-      unfolding Readable
+      pub readable-new : TermsInside bytes (set rows s nr)
+      unfolding TermsInside
       readable-new x k =
           subst (λ (z : List ℕ). (getD z 0 0 ≤ getD z 1 0) × (getD z 1 0 ≤ length bytes)) (sym (rows-new x k))
           (row-readable lengths bytes marks all rows₀ x (y .low x) (y .inside x) (y .fits x) (bump P s x) (most-new x))
@@ -327,7 +297,7 @@ module _ {lengths bytes marks : List ℕ} {all : Bool} {rows₀ : List (List ℕ
           omega (arith, o .holds s, g .holds s)
 
       pub ordered-new : length (r .seg) ≡ 256 → Ordered bytes (set rows s nr) (r .seg) (r .len)
-      ordered-new q = ordered-rows bytes rows s nr (r .seg) (r .len) (omega (arith, o .len, g .len)) gone (o .ordered)
+      ordered-new q = ordered-rows bytes rows s nr (r .seg) (r .len) (omega (arith, o .len, g .len)) gone (o .inHeapOrder)
 
       pub len-new : r .len < 256
       len-new = omega (arith, o .len, g .len)
@@ -347,14 +317,14 @@ module _ {lengths bytes marks : List ℕ} {all : Bool} {rows₀ : List (List ℕ
 
       record Heaped (h′ : Heap) : Type 0 where
         len : h′ .len ≤ 256
-        ordered : Ordered bytes (set rows s nr) (h′ .seg) (h′ .len)
+        inHeapOrder : Ordered bytes (set rows s nr) (h′ .seg) (h′ .len)
         holds : (x : ℕ) → count x (held h′) ≡ one (ltb (bump P s x) (N x))
 
       heaped : (h′ : Heap) → length (r .seg) ≡ 256 → Back bytes (set rows s nr) r s h′ → Heaped h′
       heaped h′ q bk = go (le-lt (P s + 1) (N s))
         where
           more : Pushed bytes (set rows s nr) r s h′ → P s + 1 < N s → Heaped h′
-          more p k = record { len = omega (arith, p .len, o .len, g .len); ordered = p .ordered; holds = λ x. at x (same? x s) }
+          more p k = record { len = omega (arith, p .len, o .len, g .len); inHeapOrder = p .inHeapOrder; holds = λ x. at x (same? x s) }
             where
               at : (x : ℕ) → (x ≡ s) ⊎ (x ≡ s → ⊥) → count x (held h′) ≡ one (ltb (bump P s x) (N x))
               at x (inl e) =
@@ -367,7 +337,7 @@ module _ {lengths bytes marks : List ℕ} {all : Bool} {rows₀ : List (List ℕ
                   omega (arith, p .holds x, elsewhere x d)
 
           same : h′ ≡ r → N s ≤ P s + 1 → Heaped h′
-          same e k = subst Heaped (sym e) (record { len = omega (arith, o .len, g .len); ordered = ordered-new q; holds = λ x. at x (same? x s) })
+          same e k = subst Heaped (sym e) (record { len = omega (arith, o .len, g .len); inHeapOrder = ordered-new q; holds = λ x. at x (same? x s) })
             where
               at : (x : ℕ) → (x ≡ s) ⊎ (x ≡ s → ⊥) → count x (held r) ≡ one (ltb (bump P s x) (N x))
               at x (inl f) =
@@ -410,7 +380,7 @@ module _ {lengths bytes marks : List ℕ} {all : Bool} {rows₀ : List (List ℕ
               row = rows-new;
               most = most-new;
               len = hp .len;
-              ordered = hp .ordered;
+              inHeapOrder = hp .inHeapOrder;
               holds = hp .holds;
               merging = st .merging;
               mapped = subst (λ (z : ℕ). Mapped D N K M (bump P s) o′ (set ords z (t .ordinal))) (sym e) (st .mapped);
@@ -428,31 +398,6 @@ module _ {lengths bytes marks : List ℕ} {all : Bool} {rows₀ : List (List ℕ
               space = sp;
             }
 
-  -- ---- the end
-
-  pub going-end : h .len ≤ 0 → (w : Kept) → w .terms ≡ l .terms → w .bytes ≡ l .bytes → Merged lengths bytes marks all rows₀ lens₀ outs₀ ords₀ w rows lens outs ords out
-  going-end z w e f =
-      record {
-        asc = g .merging .asc;
-        sound = g .merging .sound;
-        complete = λ x i k m. g .merging .complete x i (omega (arith, over x)) m;
-        terms = e ∙ g .last .size;
-        used = f ∙ g .used;
-        lengths-out = g .lens-is;
-        texts-out = g .outs-is;
-        mapped = λ x i k. g .mapped x i (omega (arith, over x));
-        others = g .others;
-        size = g .size-map;
-        rows-out = λ s k. g .row s k ∙ ap (rowOf lengths marks all rows₀ s) (let q : P s ≡ sizeOf rows₀ s = omega (arith, over s, g .most s) in q);
-        rows-size = g .size;
-      }
-    where
-      none : (x : ℕ) (n : ℕ) → n ≤ 0 → (seg : List ℕ) → count x (take n seg) ≡ 0
-      none x n k seg = ap (λ (m : ℕ). count x (take m seg)) (let e : n ≡ 0 = omega arith in e) ∙ count-nil x
-
-      over : (x : ℕ) → N x ≤ P x
-      over x = ltb-false (P x) (N x) (one-zero (ltb (P x) (N x)) (sym (g .holds x) ∙ none x (h .len) z (h .seg)))
-
 pub going-start : (lengths bytes marks : List ℕ) (all : Bool) (rows : List (List ℕ)) (lens outs ords : List ℕ) (h : Heap) (l : Last) → Ready lengths bytes marks all rows lens outs ords → Started bytes rows h
     → l .terms ≡ 0 → l .bytes ≡ 0 → l .from ≡ 0 → l .till ≡ 0 → Going lengths bytes marks all rows lens outs ords rows lens outs ords h l (λ x. 0) []
 going-start lengths bytes marks all rows lens outs ords h l y st a b c d =
@@ -461,7 +406,7 @@ going-start lengths bytes marks all rows lens outs ords h l y st a b c d =
       row = y .row;
       most = λ x. zero-le;
       len = st .len;
-      ordered = st .ordered;
+      inHeapOrder = st .inHeapOrder;
       holds = st .holds;
       merging =
           record {

@@ -55,9 +55,9 @@ or-right : (a b : Bool) → b ≡ true → a || b ≡ true
 or-right true b e = refl
 or-right false b e = e
 
-or-cases : (a b : Bool) → a || b ≡ true → (a ≡ true) ⊎ (b ≡ true)
-or-cases true b e = inl refl
-or-cases false b e = inr e
+or-false : (a : Bool) → a || false ≡ a
+or-false true = refl
+or-false false = refl
 
 pub has-tail : (u y : List ℕ) (ys : List (List ℕ)) → hasTerm u ys ≡ true → hasTerm u (y ∷ ys) ≡ true
 has-tail u y ys e = or-right (isSame (compareBytes u y)) (hasTerm u ys) e
@@ -70,21 +70,27 @@ has-left u (y ∷ ys) m h = go (isSame (compareBytes u y)) h (λ (k : hasTerm u 
     go true h f = refl
     go false h f = f h
 
-pub has-snoc : (u t : List ℕ) (l : List (List ℕ)) → hasTerm u (l ++ (t ∷ [])) ≡ true → (hasTerm u l ≡ true) ⊎ (u ≡ t)
-has-snoc u t [] h = go (isSame (compareBytes u t)) refl h
+pub has-right : (u : List ℕ) (l m : List (List ℕ)) → hasTerm u m ≡ true → hasTerm u (l ++ m) ≡ true
+has-right u [] m h = h
+has-right u (y ∷ ys) m h = has-tail u y (ys ++ m) (has-right u ys m h)
+
+pub has-cases : (u : List ℕ) (l m : List (List ℕ)) → hasTerm u (l ++ m) ≡ true → (hasTerm u l ≡ true) ⊎ (hasTerm u m ≡ true)
+has-cases u [] m h = inr h
+has-cases u (y ∷ ys) m h = go (isSame (compareBytes u y)) h (λ (k : hasTerm u (ys ++ m) ≡ true). has-cases u ys m k)
   where
-    go : (a : Bool) → isSame (compareBytes u t) ≡ a → a || false ≡ true → (_≡_ {A = Bool} false true) ⊎ (u ≡ t)
-    go true e h = inr (same-eq u t e)
-    go false e h = inl h
-has-snoc u t (y ∷ ys) h = go (isSame (compareBytes u y)) h (λ (k : hasTerm u (ys ++ (t ∷ [])) ≡ true). has-snoc u t ys k)
-  where
-    go : (a : Bool) → a || hasTerm u (ys ++ (t ∷ [])) ≡ true → (hasTerm u (ys ++ (t ∷ [])) ≡ true → (hasTerm u ys ≡ true) ⊎ (u ≡ t)) → (a || hasTerm u ys ≡ true) ⊎ (u ≡ t)
+    go : (a : Bool) → a || hasTerm u (ys ++ m) ≡ true → (hasTerm u (ys ++ m) ≡ true → (hasTerm u ys ≡ true) ⊎ (hasTerm u m ≡ true)) → (a || hasTerm u ys ≡ true) ⊎ (hasTerm u m ≡ true)
     go true h f = inl refl
     go false h f = f h
 
+pub has-snoc : (u t : List ℕ) (l : List (List ℕ)) → hasTerm u (l ++ (t ∷ [])) ≡ true → (hasTerm u l ≡ true) ⊎ (u ≡ t)
+has-snoc u t l h = go (has-cases u l (t ∷ []) h)
+  where
+    go : (hasTerm u l ≡ true) ⊎ (isSame (compareBytes u t) || false ≡ true) → (hasTerm u l ≡ true) ⊎ (u ≡ t)
+    go (inl k) = inl k
+    go (inr k) = inr (same-eq u t (sym (or-false (isSame (compareBytes u t))) ∙ k))
+
 pub has-self : (t : List ℕ) (l : List (List ℕ)) → hasTerm t (l ++ (t ∷ [])) ≡ true
-has-self t [] = self-present t []
-has-self t (y ∷ ys) = has-tail t y (ys ++ (t ∷ [])) (has-self t ys)
+has-self t l = has-right t l (t ∷ []) (self-present t [])
 
 pub has-pos : (t : List ℕ) (l : List (List ℕ)) → hasTerm t l ≡ true → 0 < length l
 has-pos t [] h = absurd (false≢true h)

@@ -1,18 +1,18 @@
 -- What the parts of the walk leave. Assumes nothing.
-use Prim.Native.Nat.{ℕ, _+_, _-_, _≤_, _<_}
-use mathlib.Core.Bool.{Bool, true, false}
-use mathlib.Core.List.{List, [], map}
+use Prim.Native.Nat.{ℕ, suc, _+_, _-_, _≤_, _<_}
+use mathlib.Core.Bool.{Bool, false, cond}
+use mathlib.Core.List.{List, [], _∷_, map}
 use mathlib.Core.Logic.{_⊎_}
 use mathlib.Core.Path.{_≡_}
-use lib.Dec.{T}
+use lib.Dec.{eqb, T}
 use lib.ListN.{length, take, drop, getD, set}
 use Rattle.term_walk.specs.declared.Last.{Last}
 use Rattle.term_walk.specs.declared.Taken.{Taken}
-use Rattle.term_walk.specs.declared.Kept.{Kept}
 use Rattle.term_merger.specs.Order.{cell}
 use Rattle.runs.specs.Put.{put}
-use Rattle.term_rows.specs.Rows.{sizeOf, lensOf, dictOf, rowOf, termAt, markAt, termsIn, bytesIn, sumOver}
-use Rattle.definitions.specs.Lists.{sum, hasTerm, termsAscending, concat}
+use Rattle.term_rows.specs.Rows.{rankAt, sizeOf, lensOf, dictOf, rowOf, termsIn, bytesIn, sumOver}
+use Rattle.term_rows.specs.Runs.{joinTo}
+use Rattle.definitions.specs.Lists.{sum, upTo, sortTerms, termsAscending, concat}
 use Rattle.definitions.specs.Join.{ordinalOf}
 use Rattle.definitions.specs.Outcome.{written}
 
@@ -59,8 +59,10 @@ abbrev pub Took : List ℕ → List ℕ → List ℕ → Last → List ℕ → L
 Took bytes row given l lens outs t lens′ outs′ =
     Again bytes row l lens outs t lens′ outs′ ⊎ (Skipped bytes row l lens outs t lens′ outs′ ⊎ Added bytes row given l lens outs t lens′ outs′)
 
--- the first rows of up to 256 segments: their terms lie in the runs, ascend, and have room in the outputs
-pub record Ready (lengths bytes marks : List ℕ) (all : Bool) (rows : List (List ℕ)) (lens outs map : List ℕ) : Type 0 where
+-- ---- what the walk needs
+
+-- the first rows of up to 256 segments: their terms lie in the runs, ascend, follow one another in the map, and have room in the outputs
+pub record Ready (lengths bytes marks : List ℕ) (all : Bool) (rows : List (List ℕ)) (lens outs ords : List ℕ) : Type 0 where
   pub size : length rows ≡ 256
   pub row : (s : ℕ) → s < 256 → getD rows s [] ≡ rowOf lengths marks all rows s 0
   pub low : (s : ℕ) → cell rows s 3 ≤ cell rows s 4
@@ -68,23 +70,43 @@ pub record Ready (lengths bytes marks : List ℕ) (all : Bool) (rows : List (Lis
   pub marked : (s : ℕ) → all ≡ false → cell rows s 4 ≤ length marks
   pub fits : (s : ℕ) → cell rows s 0 + sum (lensOf lengths rows s) ≤ length bytes
   pub asc : (s : ℕ) → T (termsAscending (dictOf lengths bytes rows s))
-  pub apart : (x y i j : ℕ) → (x ≡ y → ⊥) → i < sizeOf rows x → j < sizeOf rows y → cell rows x 5 + i ≡ cell rows y 5 + j → ⊥
-  pub place : (s i : ℕ) → i < sizeOf rows s → cell rows s 5 + i < length map
+  pub starts : (s : ℕ) → 0 < sizeOf rows s → cell rows s 5 ≡ sumOver termsIn (take s rows)
+  pub places : sumOver termsIn rows ≤ length ords
   pub terms : sumOver termsIn rows ≤ length lens
   pub texts : sumOver (bytesIn lengths) rows ≤ length outs
   pub small : sumOver (bytesIn lengths) rows < 4294967296
 
--- out is the ascending list of the marked terms, each once; it is written, each old term's place in out is in the map, and each row is past its segment's last term
-pub record Merged (lengths bytes marks : List ℕ) (all : Bool) (rows : List (List ℕ)) (lens outs ords : List ℕ) (r : Kept) (rows′ : List (List ℕ)) (lens′ outs′ ords′ : List ℕ) (out : List (List ℕ)) : Type 0 where
-  pub asc : T (termsAscending out)
-  pub sound : (u : List ℕ) → hasTerm u out ≡ true → (s : ℕ) × (i : ℕ) × (i < sizeOf rows s) × (termAt lengths bytes rows s i ≡ u) × (markAt marks all rows s i ≡ 0)
-  pub complete : (s i : ℕ) → i < sizeOf rows s → markAt marks all rows s i ≡ 0 → hasTerm (termAt lengths bytes rows s i) out ≡ true
-  pub terms : r .terms ≡ length out
-  pub used : r .bytes ≡ length (concat out)
-  pub lengths-out : lens′ ≡ written (map length out) lens
-  pub texts-out : outs′ ≡ written (concat out) outs
-  pub mapped : (s i : ℕ) → i < sizeOf rows s → getD ords′ (cell rows s 5 + i) 0 ≡ ordinalOf out (termAt lengths bytes rows s i)
-  pub others : (j : ℕ) → ((s i : ℕ) → i < sizeOf rows s → j ≡ cell rows s 5 + i → ⊥) → getD ords′ j 0 ≡ getD ords j 0
-  pub size : length ords′ ≡ length ords
-  pub rows-out : (s : ℕ) → s < 256 → getD rows′ s [] ≡ rowOf lengths marks all rows s (sizeOf rows s)
-  pub rows-size : length rows′ ≡ 256
+-- ---- what it leaves
+
+-- the terms that are marked; the first one's mark stands at pos
+abbrev pub markedFrom : List ℕ → Bool → ℕ → List (List ℕ) → List (List ℕ)
+markedFrom marks all pos [] = []
+markedFrom marks all pos (t ∷ ts) = cond (eqb (rankAt marks all pos) 0) (t ∷ markedFrom marks all (suc pos) ts) (markedFrom marks all (suc pos) ts)
+
+-- the marked terms of n dictionaries, ascending, each once; the marks of dictionary s begin at pos s
+abbrev pub termsTo : List ℕ → Bool → (ℕ → ℕ) → (ℕ → List (List ℕ)) → ℕ → List (List ℕ)
+termsTo marks all pos dict n = sortTerms (joinTo (λ s. markedFrom marks all (pos s) (dict s)) n)
+
+-- the map of n dictionaries: each old ordinal's new one, by its term's place among terms
+abbrev pub mapTo : List (List ℕ) → (ℕ → List (List ℕ)) → ℕ → List ℕ
+mapTo terms dict n = joinTo (λ s. map (ordinalOf terms) (dict s)) n
+
+-- the marked terms of all segments
+unfoldable pub walkedTerms : List ℕ → List ℕ → List ℕ → Bool → List (List ℕ) → List (List ℕ)
+walkedTerms lengths bytes marks all rows = termsTo marks all (λ s. cell rows s 3) (dictOf lengths bytes rows) (length rows)
+
+-- and their map
+unfoldable pub walkedMap : List ℕ → List ℕ → List ℕ → Bool → List (List ℕ) → List ℕ
+walkedMap lengths bytes marks all rows = mapTo (walkedTerms lengths bytes marks all rows) (dictOf lengths bytes rows) (length rows)
+
+-- each row past its segment's last term
+unfoldable pub walkedRows : List ℕ → List ℕ → Bool → List (List ℕ) → List (List ℕ)
+walkedRows lengths marks all rows = map (λ s. rowOf lengths marks all rows s (sizeOf rows s)) (upTo (length rows))
+
+-- the dictionary dict and the map new are written; n and m count the terms and their bytes
+pub record Merged (dict : List (List ℕ)) (new lens outs ords : List ℕ) (n m : ℕ) (lens′ outs′ ords′ : List ℕ) : Type 0 where
+  pub terms : n ≡ length dict
+  pub used : m ≡ length (concat dict)
+  pub lengths-out : lens′ ≡ written (map length dict) lens
+  pub texts-out : outs′ ≡ written (concat dict) outs
+  pub map-out : ords′ ≡ written new ords

@@ -1,12 +1,11 @@
 // The walk over the held segments' dictionaries: the least of the current terms is taken again and again
 // (columnar/merge/term_merger.rs, `TermMerger::advance`; merge_dict_column.rs, `merge_dict_and_compute_term_ord_mapping`, `is_term_present`).
 ghost use mathlib.Core.Path.{_≡_};
-ghost use mathlib.Core.List.{List};
-ghost use Prim.Native.Nat.{ℕ, _+_, _-_, _<_, _≤_};
+ghost use Prim.Native.Nat.{_+_, _-_, _<_, _≤_};
 ghost use lib.ListN.{length, getD};
 ghost use Rattle.definitions.specs.Lists.{compareBytes, isSame};
 ghost use Rattle.term_merger.specs.Live.{Started};
-ghost use Rattle.term_walk.specs.Walk.{Took, Ready, Merged};
+ghost use Rattle.term_walk.specs.Walk.{Took, Ready, Merged, walkedTerms, walkedMap, walkedRows};
 use term_merger::Heap;
 use term_order::TermOrder;
 
@@ -89,7 +88,7 @@ fn take_term(
     }
 }
 
-// The walk: the least term of all segments is taken again and again, and its segment goes on to its next one. At exit each row is past its segment's last term.
+// The walk: the least current term is taken again and again, and its segment goes on. It leaves the marked terms, each old one's place among them, and each row past its segment's last term.
 pub fn merge_terms(
     heap: Heap,
     rows: &mut [[usize; 6]],
@@ -103,7 +102,8 @@ pub fn merge_terms(
 ) -> Kept
     requires { ⌜ Ready (now lengths) (now bytes) (now marks) all (now rows) (now «out_lengths») (now «out_bytes») (now map) ⌝ }
     requires { ⌜ Started (now bytes) (now rows) heap ⌝ }
-    ensures { λ r. ⌜ ((out : List (List ℕ)) × Merged (now (lengths .entry)) (now (bytes .entry)) (now (marks .entry)) all (now (rows .entry)) (now («out_lengths» .entry)) (now («out_bytes» .entry)) (now (map .entry)) r (now (rows .exit)) (now («out_lengths» .exit)) (now («out_bytes» .exit)) (now (map .exit)) out) ⌝ }
+    ensures { λ r. ⌜ Merged (walkedTerms (now (lengths .entry)) (now (bytes .entry)) (now (marks .entry)) all (now (rows .entry))) (walkedMap (now (lengths .entry)) (now (bytes .entry)) (now (marks .entry)) all (now (rows .entry))) (now («out_lengths» .entry)) (now («out_bytes» .entry)) (now (map .entry)) (r .terms) (r .bytes) (now («out_lengths» .exit)) (now («out_bytes» .exit)) (now (map .exit)) ⌝ }
+    ensures { λ r. ⌜ now (rows .exit) ≡ walkedRows (now (lengths .entry)) (now (marks .entry)) all (now (rows .entry)) ⌝ }
 {
     let mut h = heap;
     let mut last = Last {

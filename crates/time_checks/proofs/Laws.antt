@@ -14,10 +14,10 @@ use Rattle.definitions.specs.Segment.{SegmentRecord, aliveWords}
 use Rattle.definitions.specs.Row.{bitAt}
 use Rattle.definitions.specs.TimeOrder.{timeOf}
 use Rattle.segment.specs.declared.Record.{Record}
-use Rattle.segment.specs.Records.{structOf, plain, recordsOf}
+use Rattle.segment.specs.Records.{structOf, recordIn, recordsOf}
 use Rattle.segment.proofs.Walk.{part-is, rest-is, records-end, records-step}
 use Rattle.column_index.specs.Lookup.{aliveCount}
-use Rattle.time_checks.specs.Times.{singlesFrom, singles, timesRise, fitsTimes, timesFrom, aliveIn, aliveFrom}
+use Rattle.time_checks.specs.Times.{singlesFrom, singles, timesRise, fitsTimes, timesFrom, aliveIn, aliveCountFrom}
 
 -- ---- times
 
@@ -95,22 +95,22 @@ module _ (records : List (List ℕ)) (s : ℕ) (h : length records ≤ s) where
   unfolding timesFrom
   times-end offsets values = rw (records-end records s h)
 
-  pub alive-end : (alive : List ℕ) → aliveFrom (recordsOf (drop s records)) alive ≡ 0
-  unfolding aliveFrom
+  pub alive-end : (alive : List ℕ) → aliveCountFrom (recordsOf (drop s records)) alive ≡ 0
+  unfolding aliveCountFrom
   alive-end alive = rw (records-end records s h)
 
 module _ (records : List (List ℕ)) (s : ℕ) (h : s < length records) {r : Record} (e : r ≡ structOf (getD records s [])) where
   pub times-step : (offsets values : List ℕ) (o o′ v v′ : ℕ) → o′ ≡ o + r .offsets → v′ ≡ v + r .values
       → timesFrom (recordsOf (drop s records)) (drop o offsets) (drop v values)
-      ≡ fitsTimes (plain r) (take (o′ - o) (drop o offsets)) (take (v′ - v) (drop v values)) && timesFrom (recordsOf (drop (s + 1) records)) (drop o′ offsets) (drop v′ values)
+      ≡ fitsTimes (recordIn r) (take (o′ - o) (drop o offsets)) (take (v′ - v) (drop v values)) && timesFrom (recordsOf (drop (s + 1) records)) (drop o′ offsets) (drop v′ values)
   unfolding timesFrom
   times-step offsets values o o′ v v′ p q =
       rw (part-is (r .offsets) o o′ offsets p, part-is (r .values) v v′ values q, rest-is (r .offsets) o o′ offsets p, rest-is (r .values) v v′ values q, records-step records s h e)
 
-  pub alive-step : (alive : List ℕ) (a a′ n : ℕ) → n ≡ aliveWords (plain r) → a′ ≡ a + n
-      → aliveFrom (recordsOf (drop s records)) (drop a alive)
-      ≡ aliveIn (plain r) (take (a′ - a) (drop a alive)) + aliveFrom (recordsOf (drop (s + 1) records)) (drop a′ alive)
-  unfolding aliveFrom
+  pub alive-step : (alive : List ℕ) (a a′ n : ℕ) → n ≡ aliveWords (recordIn r) → a′ ≡ a + n
+      → aliveCountFrom (recordsOf (drop s records)) (drop a alive)
+      ≡ aliveIn (recordIn r) (take (a′ - a) (drop a alive)) + aliveCountFrom (recordsOf (drop (s + 1) records)) (drop a′ alive)
+  unfolding aliveCountFrom
   alive-step alive a a′ n k p = rw (part-is n a a′ alive p, rest-is n a a′ alive p, k, records-step records s h e)
 
 -- ---- one segment

@@ -15,17 +15,17 @@ use Rattle.definitions.specs.Segment.{Segment, SegmentRecord, Sections, Input, 
 use Rattle.definitions.specs.Row.{bitAt, isAlive, aliveRows, rowValues, isPresent, noType}
 use Rattle.definitions.specs.Types.{isKnownType, DateTime}
 use Rattle.definitions.specs.Answer.{total, codesWrong, aliveWrong, listsFit, listsWrong, bitPastRows, aliveAddresses}
-use Rattle.definitions.specs.TimeOrder.{TimeInput, timeOf, timeSegments, timesWrong, timeAnswer}
+use Rattle.definitions.specs.TimeOrder.{TimeInput, timeOf, timesWrong, timeAnswer}
 use Rattle.definitions.proofs.Fit.{mem-upTo}
 use Rattle.definitions.proofs.Group.{any-false}
 use Rattle.definitions.proofs.TimeOrder.{filter-count, alive-total}
 use Rattle.segment.specs.Lent.{workingOnly}
 use Rattle.sections_fit.specs.Walks.{Exact, firstSeven}
-use Rattle.sections_fit.proofs.Seven.{Passed, Ready, passed, ready, seven-stop, seven-go}
+use Rattle.sections_fit.proofs.Seven.{PassedSeven, Ready, passed, ready, seven-stop, seven-go}
 use Rattle.segment.proofs.Tests.{hit, miss}
 use Rattle.column_index.specs.Lookup.{aliveCount}
 use Rattle.column_index.proofs.Ones.{count-same, count-split}
-use Rattle.time_checks.specs.Times.{singles, timesRise, fitsTimes, timesFrom, aliveIn, aliveFrom}
+use Rattle.time_checks.specs.Times.{singles, timesRise, fitsTimes, timesFrom, aliveIn, aliveCountFrom}
 use Rattle.time_checks.proofs.Several.{several}
 
 -- ---- 1 to 7
@@ -36,14 +36,14 @@ asOrdered i = record { mode = 1; required = noType; records = i .records; sectio
 
 -- what the checks after the seventh answer
 unfoldable pub laterAnswer : TimeInput → ℕ
-laterAnswer i = cond (ltb (i .space) (length (aliveAddresses (timeSegments i)))) 11 (cond (timesWrong (timeSegments i)) 12 0)
+laterAnswer i = cond (ltb (i .space) (length (aliveAddresses (segmentsFrom (i .records) (i .sections))))) 11 (cond (timesWrong (segmentsFrom (i .records) (i .sections))) 12 0)
 
 or-none : (b : Bool) → b || false ≡ b
 or-none true = refl
 or-none false = refl
 
 pub time-seven : (i : TimeInput) → timeAnswer i ≡ firstSeven (asOrdered i) (laterAnswer i)
-unfolding timeAnswer firstSeven laterAnswer codesWrong aliveWrong segmentsOf timeSegments isKnownType
+unfolding timeAnswer firstSeven laterAnswer codesWrong aliveWrong segmentsOf isKnownType
 time-seven i = rw (or-none (any bitPastRows (segmentsFrom (i .records) (i .sections))))
 
 -- ---- 12
@@ -116,8 +116,8 @@ or-false true b e = absurd (true≢false e)
 or-false false b e = (refl, e)
 
 alive-sum : (rs : List SegmentRecord) (s : Sections) → total aliveWords rs ≤ length (s .alive) → any bitPastRows (segmentsFrom rs s) ≡ false
-    → sum (map (λ x. length (aliveRows x)) (segmentsFrom rs s)) ≡ aliveFrom rs (s .alive)
-unfolding aliveFrom aliveIn firstSegment afterFirst aliveWords
+    → sum (map (λ x. length (aliveRows x)) (segmentsFrom rs s)) ≡ aliveCountFrom rs (s .alive)
+unfolding aliveCountFrom aliveIn firstSegment afterFirst aliveWords
 alive-sum [] s h e = refl
 alive-sum (r ∷ rs) s h e =
     let t = or-false (bitPastRows (firstSegment r s)) (any bitPastRows (segmentsFrom rs (afterFirst r s))) e in
@@ -126,30 +126,28 @@ alive-sum (r ∷ rs) s h e =
     (alive-sum rs (afterFirst r s) (rw (length-drop (aliveWords r) (s .alive)) (omega arith)) (t .1))
 
 pub alive-number : (rs : List SegmentRecord) (s : Sections) → total aliveWords rs ≤ length (s .alive) → any bitPastRows (segmentsFrom rs s) ≡ false
-    → aliveFrom rs (s .alive) ≡ length (aliveAddresses (segmentsFrom rs s))
+    → aliveCountFrom rs (s .alive) ≡ length (aliveAddresses (segmentsFrom rs s))
 alive-number rs s h e = sym (alive-total (segmentsFrom rs s) ∙ alive-sum rs s h e)
 
 -- ---- what the first seven leave
 
-pub record Checked (i : TimeInput) : Type 0 where
-  pub lists : T (all listsFit (timeSegments i))
-  pub bits : any bitPastRows (timeSegments i) ≡ false
+pub record TimesChecked (i : TimeInput) : Type 0 where
+  pub lists : T (all listsFit (segmentsFrom (i .records) (i .sections)))
+  pub bits : any bitPastRows (segmentsFrom (i .records) (i .sections)) ≡ false
 
-pub checked : (i : TimeInput) → Passed (asOrdered i) → Checked i
-unfolding timeSegments segmentsOf listsWrong aliveWrong
+pub checked : (i : TimeInput) → PassedSeven (asOrdered i) → TimesChecked i
+unfolding segmentsOf listsWrong aliveWrong
 checked i p =
     record {
       lists = subst T (sym (not-false (all listsFit (segmentsFrom (i .records) (i .sections))) (p .lists))) tt;
       bits = or-false (any bitPastRows (segmentsFrom (i .records) (i .sections))) false (p .alive) .0;
     }
 
-module _ (i : TimeInput) (p : Passed (asOrdered i)) (x : Exact (i .records) (i .sections)) where
-  pub number-is : aliveFrom (i .records) (i .sections .alive) ≡ length (aliveAddresses (timeSegments i))
-  unfolding timeSegments
+module _ (i : TimeInput) (p : PassedSeven (asOrdered i)) (x : Exact (i .records) (i .sections)) where
+  pub number-is : aliveCountFrom (i .records) (i .sections .alive) ≡ length (aliveAddresses (segmentsFrom (i .records) (i .sections)))
   number-is = alive-number (i .records) (i .sections) (omega (arith, x .alive)) (checked i p .bits)
 
-  pub times-is : timesWrong (timeSegments i) ≡ not (timesFrom (i .records) (i .sections .offsets) (i .sections .values))
-  unfolding timeSegments
+  pub times-is : timesWrong (segmentsFrom (i .records) (i .sections)) ≡ not (timesFrom (i .records) (i .sections .offsets) (i .sections .values))
   times-is = times-all (i .records) (i .sections) (checked i p .lists)
 
 -- ---- the answers, one after another
@@ -159,7 +157,7 @@ module _ (i : TimeInput) where
   stopped d = seven-stop (asOrdered i) (laterAnswer i) d ∙ sym (time-seven i)
 
   module _ (e : firstSeven (asOrdered i) 0 ≡ 0) where
-    pub first-passed : Passed (asOrdered i)
+    pub first-passed : PassedSeven (asOrdered i)
     first-passed = passed (asOrdered i) 0 e .0
 
     pub first-ready : Ready (asOrdered i)
@@ -168,19 +166,19 @@ module _ (i : TimeInput) where
     later : timeAnswer i ≡ laterAnswer i
     later = time-seven i ∙ seven-go (asOrdered i) (laterAnswer i) first-passed
 
-    module _ {n : ℕ} (m : n ≡ aliveFrom (i .records) (i .sections .alive)) where
-      alive-is-n : length (aliveAddresses (timeSegments i)) ≡ n
+    module _ {n : ℕ} (m : n ≡ aliveCountFrom (i .records) (i .sections .alive)) where
+      alive-is-n : length (aliveAddresses (segmentsFrom (i .records) (i .sections))) ≡ n
       alive-is-n = sym (m ∙ number-is i first-passed (first-ready .exact))
 
       pub too-short : i .space < n → 11 ≡ timeAnswer i
       unfolding laterAnswer
-      too-short h = hit 11 _ (lt-ltb (i .space) (length (aliveAddresses (timeSegments i))) (rw alive-is-n h)) ∙ sym later
+      too-short h = hit 11 _ (lt-ltb (i .space) (length (aliveAddresses (segmentsFrom (i .records) (i .sections)))) (rw alive-is-n h)) ∙ sym later
 
       module _ (h : n ≤ i .space) {b : Bool} (t : b ≡ timesFrom (i .records) (i .sections .offsets) (i .sections .values)) where
-        fits : ltb (i .space) (length (aliveAddresses (timeSegments i))) ≡ false
-        fits = le-ltb (i .space) (length (aliveAddresses (timeSegments i))) (rw alive-is-n h)
+        fits : ltb (i .space) (length (aliveAddresses (segmentsFrom (i .records) (i .sections)))) ≡ false
+        fits = le-ltb (i .space) (length (aliveAddresses (segmentsFrom (i .records) (i .sections)))) (rw alive-is-n h)
 
-        wrong : timesWrong (timeSegments i) ≡ not b
+        wrong : timesWrong (segmentsFrom (i .records) (i .sections)) ≡ not b
         wrong = times-is i first-passed (first-ready .exact) ∙ ap not (sym t)
 
         pub unfit-times : not b ≡ true → 12 ≡ timeAnswer i

@@ -46,7 +46,7 @@ pub record HoldsTimes (rs : List SegmentRecord) (os vs : List ℕ) : Type 0 wher
 unfoldable pub aliveIn : SegmentRecord → List ℕ → ℕ
 aliveIn r alive = cond (eqb (r .flag) 1) (aliveCount alive) (r .rows)
 
-unfoldable pub aliveFrom : List SegmentRecord → List ℕ → ℕ
+unfoldable pub aliveCountFrom : List SegmentRecord → List ℕ → ℕ
 unfolding aliveIn
-aliveFrom [] alive = 0
-aliveFrom (r ∷ rs) alive = aliveIn r (take (aliveWords r) alive) + aliveFrom rs (drop (aliveWords r) alive)
+aliveCountFrom [] alive = 0
+aliveCountFrom (r ∷ rs) alive = aliveIn r (take (aliveWords r) alive) + aliveCountFrom rs (drop (aliveWords r) alive)

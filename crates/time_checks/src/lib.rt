@@ -6,8 +6,8 @@ ghost use lib.ListN.{length};
 ghost use Rattle.definitions.specs.Segment.{aliveWords};
 ghost use Rattle.definitions.specs.Answer.{total};
 ghost use Rattle.definitions.specs.TimeOrder.{timeOf, timeAnswer};
-ghost use Rattle.segment.specs.Records.{plain, recordsOf};
-ghost use Rattle.time_checks.specs.Times.{singles, timesRise, fitsTimes, timesFrom, HoldsTimes, aliveIn, aliveFrom};
+ghost use Rattle.segment.specs.Records.{recordIn, recordsOf};
+ghost use Rattle.time_checks.specs.Times.{singles, timesRise, fitsTimes, timesFrom, HoldsTimes, aliveIn, aliveCountFrom};
 ghost use Rattle.time_checks.specs.Lent.{lentTimes};
 
 // ---- 12
@@ -55,7 +55,7 @@ fn single_values(offsets: &[u32]) -> bool
 
 // Whether a segment has no column, or one of times that don't fall, at most one in a row; withdrawn rows count.
 fn times_fit(r: segment::Record, offsets: &[u32], values: &[u64]) -> bool
-    ensures { λ x. ⌜ x ≡ fitsTimes (plain r) (now (offsets .entry)) (now (values .entry)) ⌝ }
+    ensures { λ x. ⌜ x ≡ fitsTimes (recordIn r) (now (offsets .entry)) (now (values .entry)) ⌝ }
 {
     let t = r.typ;
     if t != 255 && t != 7 {
@@ -93,7 +93,7 @@ fn all_times_fit(records: &[[u32; 8]], offsets: &[u32], values: &[u64]) -> bool
 // How many rows of a segment are alive: all without an alive set.
 fn alive_in(r: segment::Record, alive: &[u64]) -> usize
     requires { ⌜ length (now alive) ≤ 67108864 ⌝ }
-    ensures { λ n. ⌜ n ≡ aliveIn (plain r) (now (alive .entry)) ⌝ }
+    ensures { λ n. ⌜ n ≡ aliveIn (recordIn r) (now (alive .entry)) ⌝ }
     ensures { λ n. ⌜ n ≤ 4294967296 ⌝ }
 {
     let rows = r.rows;
@@ -106,7 +106,7 @@ fn alive_in(r: segment::Record, alive: &[u64]) -> usize
 fn all_alive(records: &[[u32; 8]], alive: &[u64]) -> usize
     requires { ⌜ length (now records) ≤ 256 ⌝ }
     requires { ⌜ total aliveWords (recordsOf (now records)) ≤ length (now alive) ⌝ }
-    ensures { λ n. ⌜ n ≡ aliveFrom (recordsOf (now (records .entry))) (now (alive .entry)) ⌝ }
+    ensures { λ n. ⌜ n ≡ aliveCountFrom (recordsOf (now (records .entry))) (now (alive .entry)) ⌝ }
 {
     let mut n: usize = 0;
     let mut s: usize = 0;

@@ -13,7 +13,7 @@ use Rattle.term_merger.proofs.Laws.{same?}
 use Rattle.term_merger.proofs.Begun.{le-lt}
 use Rattle.time_rows.specs.Rows.{keyRow, rowAt, nextRow, firstFrom, Left}
 use Rattle.time_rows.proofs.Laws.{rank-zero}
-use Rattle.time_merge.specs.Order.{placed, segmentsAt, Ready, Begins}
+use Rattle.time_merge.specs.Order.{placed, placedSegments, Ready, Begins}
 use Rattle.time_merge.proofs.Keyed.{segment-there, segment-none}
 
 -- the first s rows are filled
@@ -62,9 +62,9 @@ module _ {places sets : List (List ℕ)} {ids offsets values alive : List ℕ} (
                 pick (inl k) = k
                 pick (inr k) = absurd (d (let q : x ≡ s = omega arith in q))
 
-    pub filled-end : length places ≤ s → s ≤ length places → Begins (segmentsAt places sets ids offsets values alive) rows
+    pub filled-end : length places ≤ s → s ≤ length places → Begins (placedSegments places sets ids offsets values alive) rows
     filled-end h l = record { size = g .size; row = λ x k. go x k (le-lt x (length places)) }
       where
-        go : (x : ℕ) → x < 256 → (x < length places) ⊎ (length places ≤ x) → getD rows x [] ≡ firstFrom (getD (segmentsAt places sets ids offsets values alive) x absent) 0
+        go : (x : ℕ) → x < 256 → (x < length places) ⊎ (length places ≤ x) → getD rows x [] ≡ firstFrom (getD (placedSegments places sets ids offsets values alive) x absent) 0
         go x k (inl m) = g .row x (omega arith) ∙ ap (λ (s : Segment). firstFrom s 0) (sym (segment-there y x m))
         go x k (inr m) = g .blank x (omega arith) k ∙ absent-row ∙ ap (λ (s : Segment). firstFrom s 0) (sym (segment-none y x m))

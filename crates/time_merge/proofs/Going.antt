@@ -17,14 +17,14 @@ use Rattle.definitions.specs.Outcome.{written}
 use Rattle.column_index.specs.Lookup.{rankIn}
 use Rattle.places.specs.Place.{rowsAt, idsAt}
 use Rattle.term_merger.specs.declared.Heap.{Heap}
-use Rattle.term_merger.specs.Order.{cell, Readable}
+use Rattle.term_merger.specs.Order.{cell, TermsInside}
 use Rattle.term_merger.specs.Heap.{count, one, held, Ordered, Pushed, Out}
 use Rattle.term_merger.specs.Live.{leftOf, Back, Started}
 use Rattle.term_merger.proofs.Laws.{same?}
 use Rattle.term_merger.proofs.Heaps.{one-pos, ordered-rows, out-le, top-held}
 use Rattle.term_merger.proofs.Begun.{le-lt, count-nil}
 use Rattle.time_rows.specs.Rows.{rowAt, firstFrom, segmentIn, Left}
-use Rattle.time_merge.specs.Order.{pairOf, placed, segmentsAt, ordered, Ready, Rising, Begins, Ends}
+use Rattle.time_merge.specs.Order.{pairOf, placed, placedSegments, timeWritten, Ready, Rising, Begins, Ends}
 use Rattle.time_merge.proofs.Standing.{at, bump, bump-here, bump-there, seg, next, Standing, standing-start, standing-end, standing-next, one-left}
 use Rattle.time_merge.proofs.Keyed.{keyAt, row-left, row-3, row-4, row-5, row-readable, rows-order, segment-there, segment-none, rows-there, there, key-is, keys-grow}
 
@@ -60,7 +60,7 @@ pub record Going (ss : List Segment) (first : List ℕ) (out₀ rows out : List 
   pub size : length rows ≡ 256
   pub row : (x : ℕ) → x < 256 → getD rows x [] ≡ rowAt (getD ss x absent) (P x)
   pub len : h .len ≤ 256
-  pub ordered : Ordered first rows (h .seg) (h .len)
+  pub inHeapOrder : Ordered first rows (h .seg) (h .len)
   pub holds : (x : ℕ) → count x (held h) ≡ one (ltb (P x) (getD ss x absent .rows))
   pub standing : Standing ss P done
   pub number : k ≡ length done
@@ -69,7 +69,7 @@ pub record Going (ss : List Segment) (first : List ℕ) (out₀ rows out : List 
 
 module _ {places sets : List (List ℕ)} {ids offsets values alive : List ℕ} (y : Ready places sets ids offsets values alive) where
   abbrev ss : List Segment
-  ss = segmentsAt places sets ids offsets values alive
+  ss = placedSegments places sets ids offsets values alive
 
   far : (x : ℕ) → 256 ≤ x → getD ss x absent .rows ≡ 0
   far x h = ap (λ (s : Segment). s .rows) (segment-none y x (omega (arith, y .few)))
@@ -84,7 +84,7 @@ module _ {places sets : List (List ℕ)} {ids offsets values alive : List ℕ} (
         size = b .size;
         row = b .row;
         len = st .len;
-        ordered = st .ordered;
+        inHeapOrder = st .inHeapOrder;
         holds = λ x. st .holds x ∙ ap one (live x (le-lt x 256));
         standing = standing-start ss;
         number = refl;
@@ -104,12 +104,12 @@ module _ {places sets : List (List ℕ)} {ids offsets values alive : List ℕ} (
           ap (λ (r : List ℕ). ltb 0 (getD r 4 0 - getD r 3 0)) e ∙ sym (le-ltb (next ss x 0) (getD ss x absent .rows) (omega (arith, far x l)))
 
   module _ {out₀ : List (List ℕ)} (z : Rising places sets ids offsets values alive out₀) {rows out : List (List ℕ)} {h : Heap} {k : ℕ} {P : ℕ → ℕ} {done : List Address} (g : Going ss (0 ∷ []) out₀ rows out h k P done) where
-    pub going-readable : Readable (0 ∷ []) rows
-    unfolding Readable
+    pub going-readable : TermsInside (0 ∷ []) rows
+    unfolding TermsInside
     going-readable x l = subst (λ (r : List ℕ). (getD r 0 0 ≤ getD r 1 0) × (getD r 1 0 ≤ 1)) (sym (g .row x l)) (row-readable (getD ss x absent) (P x))
 
-    pub going-end : h .len ≤ 0 → (k ≡ length (timeOrder ss)) × ((out ≡ Rattle.time_merge.specs.Order.ordered ss out₀) × Ends ss rows)
-    unfolding Rattle.time_merge.specs.Order.ordered
+    pub going-end : h .len ≤ 0 → (k ≡ length (timeOrder ss)) × ((out ≡ timeWritten ss out₀) × Ends ss rows)
+    unfolding timeWritten
     going-end e =
         let d = standing-end ss P done (g .standing) over in (
           g .number ∙ ap length d,
@@ -204,15 +204,15 @@ module _ {places sets : List (List ℕ)} {ids offsets values alive : List ℕ} (
                 ∙ ap₂ (λ (n m : ℕ). rowAt (getD ss n absent) m) (sym q) (sym (bump-here P s (next ss s (P s + 1)) x q))
             go (inr d) = getD-set-other rows s x new [] d ∙ g .row x l ∙ ap (rowAt (getD ss x absent)) (sym (bump-there P s (next ss s (P s + 1)) x d))
 
-        pub readable-new : Readable (0 ∷ []) (set rows s new)
-        unfolding Readable
+        pub readable-new : TermsInside (0 ∷ []) (set rows s new)
+        unfolding TermsInside
         readable-new x l = subst (λ (r : List ℕ). (getD r 0 0 ≤ getD r 1 0) × (getD r 1 0 ≤ 1)) (sym (rows-new x l)) (row-readable (getD ss x absent) (P′ x))
 
         pub len-new : r .len < 256
         len-new = omega (arith, o .len, g .len)
 
         pub ordered-new : length (r .seg) ≡ 256 → Ordered (0 ∷ []) (set rows s new) (r .seg) (r .len)
-        ordered-new q = ordered-rows (0 ∷ []) rows s new (r .seg) (r .len) (omega (arith, len-new)) gone (o .ordered)
+        ordered-new q = ordered-rows (0 ∷ []) rows s new (r .seg) (r .len) (omega (arith, len-new)) gone (o .inHeapOrder)
 
         standing-new : Standing ss P′ (done ++ (at s (P s) ∷ []))
         standing-new = standing-next ss P done s (g .standing) live (keys-grow y z) least
@@ -234,7 +234,7 @@ module _ {places sets : List (List ℕ)} {ids offsets values alive : List ℕ} (
 
         record Heaped (h′ : Heap) : Type 0 where
           len : h′ .len ≤ 256
-          ordered : Ordered (0 ∷ []) (set rows s new) (h′ .seg) (h′ .len)
+          inHeapOrder : Ordered (0 ∷ []) (set rows s new) (h′ .seg) (h′ .len)
           holds : (x : ℕ) → count x (held h′) ≡ one (ltb (P′ x) (getD ss x absent .rows))
 
         heaped : (h′ : Heap) → length (r .seg) ≡ 256 → Back (0 ∷ []) (set rows s new) r s h′ → Heaped h′
@@ -244,7 +244,7 @@ module _ {places sets : List (List ℕ)} {ids offsets values alive : List ℕ} (
             at-s x e t f = ap one (ap₂ ltb (bump-here P s (next ss s (P s + 1)) x e) (ap (λ (n : ℕ). getD ss n absent .rows) e) ∙ f)
 
             more : Pushed (0 ∷ []) (set rows s new) r s h′ → next ss s (P s + 1) < getD ss s absent .rows → Heaped h′
-            more p l = record { len = omega (arith, p .len, len-new); ordered = p .ordered; holds = λ x. by x (same? x s) }
+            more p l = record { len = omega (arith, p .len, len-new); inHeapOrder = p .inHeapOrder; holds = λ x. by x (same? x s) }
               where
                 by : (x : ℕ) → (x ≡ s) ⊎ (x ≡ s → ⊥) → count x (held h′) ≡ one (ltb (P′ x) (getD ss x absent .rows))
                 by x (inl e) =
@@ -257,7 +257,7 @@ module _ {places sets : List (List ℕ)} {ids offsets values alive : List ℕ} (
                     omega (arith, p .holds x, elsewhere x d)
 
             same : h′ ≡ r → getD ss s absent .rows ≤ next ss s (P s + 1) → Heaped h′
-            same e l = subst Heaped (sym e) (record { len = omega (arith, len-new); ordered = ordered-new q; holds = λ x. by x (same? x s) })
+            same e l = subst Heaped (sym e) (record { len = omega (arith, len-new); inHeapOrder = ordered-new q; holds = λ x. by x (same? x s) })
               where
                 by : (x : ℕ) → (x ≡ s) ⊎ (x ≡ s → ⊥) → count x (held r) ≡ one (ltb (P′ x) (getD ss x absent .rows))
                 by x (inl f) =
@@ -278,7 +278,7 @@ module _ {places sets : List (List ℕ)} {ids offsets values alive : List ℕ} (
               size = length-set rows s new ∙ g .size;
               row = rows-new;
               len = hp .len;
-              ordered = hp .ordered;
+              inHeapOrder = hp .inHeapOrder;
               holds = hp .holds;
               standing = standing-new;
               number = ap (λ (n : ℕ). n + 1) (g .number) ∙ sym (length-append done (at s (P s) ∷ []));

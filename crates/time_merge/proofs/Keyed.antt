@@ -25,7 +25,7 @@ use Rattle.term_merger.proofs.Begun.{le-lt}
 use Rattle.time_rows.specs.Rows.{lastKey, valuesUntil, keyRow, rowAt, segmentIn}
 use Rattle.time_rows.proofs.Parts.{run-length, until-cursor}
 use Rattle.time_rows.proofs.Keys.{key-cursor, key-grows}
-use Rattle.time_merge.specs.Order.{placed, segmentsAt, Ready, Rising}
+use Rattle.time_merge.specs.Order.{placed, placedSegments, Ready, Rising}
 use Rattle.time_merge.proofs.Standing.{at}
 
 -- ---- the six numbers
@@ -162,26 +162,26 @@ record Keyed (s : Segment) : Type 0 where
   rising : T (notFalling (map timeOf (s .values)))
 
 module _ {places sets : List (List ℕ)} {ids offsets values alive : List ℕ} (y : Ready places sets ids offsets values alive) where
-  pub segment-there : (x : ℕ) → x < length places → getD (segmentsAt places sets ids offsets values alive) x absent ≡ placed places sets ids offsets values alive x
-  unfolding segmentsAt
+  pub segment-there : (x : ℕ) → x < length places → getD (placedSegments places sets ids offsets values alive) x absent ≡ placed places sets ids offsets values alive x
+  unfolding placedSegments
   segment-there x h = table-at (placed places sets ids offsets values alive) absent (length places) x h
 
-  pub segment-none : (x : ℕ) → length places ≤ x → getD (segmentsAt places sets ids offsets values alive) x absent ≡ absent
-  unfolding segmentsAt
+  pub segment-none : (x : ℕ) → length places ≤ x → getD (placedSegments places sets ids offsets values alive) x absent ≡ absent
+  unfolding placedSegments
   segment-none x h =
       let l : length (table (placed places sets ids offsets values alive) (length places)) ≤ x = omega (arith, table-length (placed places sets ids offsets values alive) (length places)) in
       List·getD-eq-default (table (placed places sets ids offsets values alive) (length places)) absent l
 
-  pub rows-there : (x : ℕ) → x < length places → getD (segmentsAt places sets ids offsets values alive) x absent .rows ≡ rowsAt (getD places x [])
+  pub rows-there : (x : ℕ) → x < length places → getD (placedSegments places sets ids offsets values alive) x absent .rows ≡ rowsAt (getD places x [])
   unfolding segmentIn
   rows-there x h = ap (λ (s : Segment). s .rows) (segment-there x h)
 
-  pub there : (x : ℕ) → 0 < getD (segmentsAt places sets ids offsets values alive) x absent .rows → x < length places
+  pub there : (x : ℕ) → 0 < getD (placedSegments places sets ids offsets values alive) x absent .rows → x < length places
   there x h = go (le-lt x (length places))
     where
       go : (x < length places) ⊎ (length places ≤ x) → x < length places
       go (inl k) = k
-      go (inr k) = absurd (let e : getD (segmentsAt places sets ids offsets values alive) x absent .rows ≡ 0 = ap (λ (s : Segment). s .rows) (segment-none x k) in omega arith)
+      go (inr k) = absurd (let e : getD (placedSegments places sets ids offsets values alive) x absent .rows ≡ 0 = ap (λ (s : Segment). s .rows) (segment-none x k) in omega arith)
 
   module _ {out : List (List ℕ)} (z : Rising places sets ids offsets values alive out) where
     keyed-place : (x : ℕ) → x < length places → Keyed (placed places sets ids offsets values alive x)
@@ -195,22 +195,22 @@ module _ {places sets : List (List ℕ)} {ids offsets values alive : List ℕ} (
           rising = z .rising x h;
         }
 
-    keyed : (x : ℕ) → x < length places → Keyed (getD (segmentsAt places sets ids offsets values alive) x absent)
+    keyed : (x : ℕ) → x < length places → Keyed (getD (placedSegments places sets ids offsets values alive) x absent)
     keyed x h = subst Keyed (sym (segment-there x h)) (keyed-place x h)
 
     -- the key in the row of six numbers is the definitions'
-    pub key-is : (x n : ℕ) → n < getD (segmentsAt places sets ids offsets values alive) x absent .rows
-        → keyAt (getD (segmentsAt places sets ids offsets values alive) x absent) n ≡ keyOf (segmentsAt places sets ids offsets values alive) (at x n)
+    pub key-is : (x n : ℕ) → n < getD (placedSegments places sets ids offsets values alive) x absent .rows
+        → keyAt (getD (placedSegments places sets ids offsets values alive) x absent) n ≡ keyOf (placedSegments places sets ids offsets values alive) (at x n)
     unfolding keyOf
     key-is x n h =
-        let s = getD (segmentsAt places sets ids offsets values alive) x absent in
+        let s = getD (placedSegments places sets ids offsets values alive) x absent in
         let k = keyed x (there x (omega arith)) in
         ap (lastKey (s .values)) (until-cursor (s .kind) (s .ids) (s .offsets) n) ∙ sym (key-cursor s (k .sound) (k .single) (suc n) h)
 
-    pub keys-grow : (x n m : ℕ) → n ≤ m → m < getD (segmentsAt places sets ids offsets values alive) x absent .rows
-        → keyOf (segmentsAt places sets ids offsets values alive) (at x n) ≤ keyOf (segmentsAt places sets ids offsets values alive) (at x m)
+    pub keys-grow : (x n m : ℕ) → n ≤ m → m < getD (placedSegments places sets ids offsets values alive) x absent .rows
+        → keyOf (placedSegments places sets ids offsets values alive) (at x n) ≤ keyOf (placedSegments places sets ids offsets values alive) (at x m)
     unfolding keyOf
     keys-grow x n m h l =
-        let s = getD (segmentsAt places sets ids offsets values alive) x absent in
+        let s = getD (placedSegments places sets ids offsets values alive) x absent in
         let k = keyed x (there x (omega arith)) in
         key-grows s (k .sound) (k .single) (k .rising) (suc n) (suc m) (suc-le-suc h) l

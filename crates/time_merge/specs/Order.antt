@@ -30,12 +30,12 @@ abbrev pub placed : List (List ℕ) → List (List ℕ) → List ℕ → List �
 placed places sets ids offsets values alive x = segmentIn (getD places x []) (getD sets x []) ids offsets values alive
 
 -- all segments that have a place
-unfoldable pub segmentsAt : List (List ℕ) → List (List ℕ) → List ℕ → List ℕ → List ℕ → List ℕ → List Segment
-segmentsAt places sets ids offsets values alive = table (placed places sets ids offsets values alive) (length places)
+unfoldable pub placedSegments : List (List ℕ) → List (List ℕ) → List ℕ → List ℕ → List ℕ → List ℕ → List Segment
+placedSegments places sets ids offsets values alive = table (placed places sets ids offsets values alive) (length places)
 
 -- the addresses of the time order from the start of the output
-unfoldable pub ordered : List Segment → List (List ℕ) → List (List ℕ)
-ordered ss out = written (map pairOf (timeOrder ss)) out
+unfoldable pub timeWritten : List Segment → List (List ℕ) → List (List ℕ)
+timeWritten ss out = written (map pairOf (timeOrder ss)) out
 
 -- what the checks 1 to 7 say
 pub record Ready (places sets : List (List ℕ)) (ids offsets values alive : List ℕ) : Type 0 where
@@ -47,7 +47,7 @@ pub record Ready (places sets : List (List ℕ)) (ids offsets values alive : Lis
 pub record Rising (places sets : List (List ℕ)) (ids offsets values alive : List ℕ) (out : List (List ℕ)) : Type 0 where
   pub single : (x r : ℕ) → x < length places → r < rowsAt (getD places x []) → length (rowValues (placed places sets ids offsets values alive x) r) ≤ 1
   pub rising : (x : ℕ) → x < length places → T (notFalling (map timeOf (placed places sets ids offsets values alive x .values)))
-  pub room : length (timeOrder (segmentsAt places sets ids offsets values alive)) ≤ length out
+  pub room : length (timeOrder (placedSegments places sets ids offsets values alive)) ≤ length out
 
 -- each segment's first row of six numbers; places without a segment have none left
 pub record Begins (ss : List Segment) (rows : List (List ℕ)) : Type 0 where

@@ -6,7 +6,7 @@ ghost use mathlib.Core.List.{[], _∷_};
 ghost use lib.ListN.{length, replicate};
 ghost use Rattle.definitions.specs.TimeOrder.{timeOrder};
 ghost use Rattle.term_merger.specs.Live.{Started};
-ghost use Rattle.time_merge.specs.Order.{segmentsAt, ordered, Ready, Rising, Begins, Ends};
+ghost use Rattle.time_merge.specs.Order.{placedSegments, timeWritten, Ready, Rising, Begins, Ends};
 use term_merger::Heap;
 
 // The first row of each segment.
@@ -21,7 +21,7 @@ pub fn fill_rows(
 )
     requires { ⌜ Ready (now places) (now sets) (now ids) (now offsets) (now values) (now alive) ⌝ }
     requires { ⌜ now rows ≡ replicate 256 (replicate 6 0) ⌝ }
-    ensures { λ _. ⌜ Begins (segmentsAt (now (places .entry)) (now (sets .entry)) (now (ids .entry)) (now (offsets .entry)) (now (values .entry)) (now (alive .entry))) (now (rows .exit)) ⌝ }
+    ensures { λ _. ⌜ Begins (placedSegments (now (places .entry)) (now (sets .entry)) (now (ids .entry)) (now (offsets .entry)) (now (values .entry)) (now (alive .entry))) (now (rows .exit)) ⌝ }
 {
     let mut s: usize = 0;
     while s < places.len() {
@@ -47,11 +47,11 @@ pub fn merge(
     requires { ⌜ Ready (now places) (now sets) (now ids) (now offsets) (now values) (now alive) ⌝ }
     requires { ⌜ Rising (now places) (now sets) (now ids) (now offsets) (now values) (now alive) (now out) ⌝ }
     requires { ⌜ now first ≡ 0 ∷ [] ⌝ }
-    requires { ⌜ Begins (segmentsAt (now places) (now sets) (now ids) (now offsets) (now values) (now alive)) (now rows) ⌝ }
+    requires { ⌜ Begins (placedSegments (now places) (now sets) (now ids) (now offsets) (now values) (now alive)) (now rows) ⌝ }
     requires { ⌜ Started (now first) (now rows) heap ⌝ }
-    ensures { λ r. ⌜ r ≡ length (timeOrder (segmentsAt (now (places .entry)) (now (sets .entry)) (now (ids .entry)) (now (offsets .entry)) (now (values .entry)) (now (alive .entry)))) ⌝ }
-    ensures { λ r. ⌜ now (out .exit) ≡ ordered (segmentsAt (now (places .entry)) (now (sets .entry)) (now (ids .entry)) (now (offsets .entry)) (now (values .entry)) (now (alive .entry))) (now (out .entry)) ⌝ }
-    ensures { λ r. ⌜ Ends (segmentsAt (now (places .entry)) (now (sets .entry)) (now (ids .entry)) (now (offsets .entry)) (now (values .entry)) (now (alive .entry))) (now (rows .exit)) ⌝ }
+    ensures { λ r. ⌜ r ≡ length (timeOrder (placedSegments (now (places .entry)) (now (sets .entry)) (now (ids .entry)) (now (offsets .entry)) (now (values .entry)) (now (alive .entry)))) ⌝ }
+    ensures { λ r. ⌜ now (out .exit) ≡ timeWritten (placedSegments (now (places .entry)) (now (sets .entry)) (now (ids .entry)) (now (offsets .entry)) (now (values .entry)) (now (alive .entry))) (now (out .entry)) ⌝ }
+    ensures { λ r. ⌜ Ends (placedSegments (now (places .entry)) (now (sets .entry)) (now (ids .entry)) (now (offsets .entry)) (now (values .entry)) (now (alive .entry))) (now (rows .exit)) ⌝ }
 {
     let mut h = heap;
     let mut k: usize = 0;

@@ -10,19 +10,19 @@ use lib.Seq.{ext-getD}
 use lib.Dec.{T, eqb, ltb}
 use borrow.Author.Tests.{ltb-false, eq-eqb}
 use Rattle.definitions.specs.Lists.{all, any, sum, upTo, notFalling}
-use Rattle.definitions.specs.Segment.{Segment, SegmentRecord, wordsFor, aliveWords, segmentsFrom}
+use Rattle.definitions.specs.Segment.{Segment, SegmentRecord, wordsFor, aliveWords, segmentsFrom, recordFrom}
 use Rattle.definitions.specs.Row.{rowValues, isPresent}
 use Rattle.definitions.specs.Types.{DateTime}
 use Rattle.definitions.specs.Join.{absent}
 use Rattle.definitions.specs.Answer.{listsFit, aliveAddresses}
-use Rattle.definitions.specs.TimeOrder.{TimeInput, timeOf, timeOrder, timesWrong, timeSegments, timeAnswer}
+use Rattle.definitions.specs.TimeOrder.{TimeInput, timeOf, timeOrder, timesWrong, timeAnswer}
 use Rattle.definitions.proofs.Cell.{mem-at}
 use Rattle.definitions.proofs.Fit.{mem-upTo}
 use Rattle.definitions.proofs.Group.{all-mem, any-false}
 use Rattle.definitions.proofs.TimeOrder.{order-length}
-use Rattle.segment.specs.Records.{recordsOf, recordOf, sectionsIn}
+use Rattle.segment.specs.Records.{recordsOf, sectionsIn}
 use Rattle.sections_fit.proofs.Own.{rows-all}
-use Rattle.sections_fit.proofs.Seven.{Passed, passed, Ready, ready, cond-none}
+use Rattle.sections_fit.proofs.Seven.{PassedSeven, passed, Ready, ready, cond-none}
 use Rattle.places.specs.Place.{rowsAt}
 use Rattle.places.specs.Places.{table, recordAt, rawAt, aliveAt}
 use Rattle.places.proofs.Bridge.{Stands, sound-stands}
@@ -32,7 +32,7 @@ use Rattle.time_checks.specs.Lent.{lentTimes}
 use Rattle.time_checks.proofs.Own.{asOrdered, laterAnswer, time-seven, checked}
 use Rattle.time_rows.specs.Rows.{segmentIn, Timed}
 use Rattle.time_merge.specs.Order as merged
-use Rattle.time_merge.specs.Order.{placed, segmentsAt, Rising, placesOf, setsOf}
+use Rattle.time_merge.specs.Order.{placed, placedSegments, Rising, placesOf, setsOf}
 use Rattle.time_order.proofs.Bare.{bare, bare-values, order-same}
 
 or-both : (a b : Bool) → a || b ≡ false → (a ≡ false) × (b ≡ false)
@@ -65,27 +65,26 @@ module _ (records : List (List ℕ)) (ids offsets values lengths bytes alive : L
   here k = placed (placesOf records) (setsOf records) ids offsets values alive k
 
   module _ (zero-answer : timeAnswer (lentTimes records ids offsets values lengths bytes alive space) ≡ 0) where
-    seven : Passed (asOrdered input) × (laterAnswer input ≡ 0)
+    seven : PassedSeven (asOrdered input) × (laterAnswer input ≡ 0)
     seven = passed (asOrdered input) (laterAnswer input) (sym (time-seven input) ∙ zero-answer)
 
     first : Ready (asOrdered input)
     first = ready (asOrdered input) (seven .0)
 
     later : (ltb space (length (aliveAddresses ss)) ≡ false) × (timesWrong ss ≡ false)
-    unfolding laterAnswer timeSegments
+    unfolding laterAnswer
     later =
         let p = cond-none (ltb space (length (aliveAddresses ss))) 10 (cond (timesWrong ss) 12 0) (seven .1) in
         (p .0, cond-none (timesWrong ss) 11 0 (p .1) .0)
 
     lists : T (all listsFit ss)
-    unfolding timeSegments
     lists = checked input (seven .0) .lists
 
     held : Held records ids offsets values alive
     held = record { ids = omega (arith, first .exact .ids); offsets = omega (arith, first .exact .offsets); values = omega (arith, first .exact .values); words = omega (arith, first .exact .alive) }
 
     few : length records ≤ 256
-    few = omega (arith, first .few, length-map records recordOf)
+    few = omega (arith, first .few, length-map records recordFrom)
 
     -- segment k
     module _ (k : ℕ) (h : k < length records) where
@@ -183,8 +182,8 @@ module _ (records : List (List ℕ)) (ids offsets values lengths bytes alive : L
     many : length (placesOf records) ≡ length records
     many = table-length (rawAt records) (length records)
 
-    bare-all : segmentsAt (placesOf records) (setsOf records) ids offsets values alive ≡ map bare ss
-    unfolding segmentsAt
+    bare-all : placedSegments (placesOf records) (setsOf records) ids offsets values alive ≡ map bare ss
+    unfolding placedSegments
     bare-all =
         ext-getD absent (table here (length (placesOf records))) (map bare ss)
         (table-length here (length (placesOf records)) ∙ many ∙ sym (length-map ss bare ∙ segments-many records ids offsets values lengths bytes alive))
@@ -193,8 +192,7 @@ module _ (records : List (List ℕ)) (ids offsets values lengths bytes alive : L
         let r : k < length records = omega (arith, many) in
         table-at here absent (length (placesOf records)) k q ∙ bare-here k r ∙ sym (map-at ss k (k-there k r)))
 
-    pub order-is : timeOrder (segmentsAt (placesOf records) (setsOf records) ids offsets values alive) ≡ timeOrder (timeSegments (lentTimes records ids offsets values lengths bytes alive space))
-    unfolding timeSegments
+    pub order-is : timeOrder (placedSegments (placesOf records) (setsOf records) ids offsets values alive) ≡ timeOrder ss
     order-is = ap timeOrder bare-all ∙ order-same ss
 
     pub merge-ready : merged.Ready (placesOf records) (setsOf records) ids offsets values alive
@@ -206,7 +204,6 @@ module _ (records : List (List ℕ)) (ids offsets values lengths bytes alive : L
         }
 
     pub merge-rising : (out : List (List ℕ)) → space ≡ length out → Rising (placesOf records) (setsOf records) ids offsets values alive out
-    unfolding timeSegments
     merge-rising out e =
         record {
           single = λ k r h l. single k (omega (arith, many)) r l;

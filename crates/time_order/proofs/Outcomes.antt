@@ -6,11 +6,11 @@ use mathlib.Core.Bool.{true, false}
 use lib.ListN.{length, drop, length-map}
 use lib.Dec.{eqb}
 use borrow.Author.Tests.{eq-eqb, ne-eqb}
-use Rattle.definitions.specs.Segment.{Segment, Address}
+use Rattle.definitions.specs.Segment.{Segment, Address, segmentsFrom, addressFrom}
 use Rattle.definitions.specs.Outcome.{written}
-use Rattle.definitions.specs.TimeOrder.{TimeInput, ordered, timeOrder, timeSegments, timeAnswer, timeOutcome}
+use Rattle.definitions.specs.TimeOrder.{TimeInput, sorted, timeOrder, timeAnswer, timeOutcome}
 use Rattle.definitions.proofs.Entry.{map-append}
-use Rattle.segment.specs.Lent.{addressOf, addressesOf}
+use Rattle.segment.specs.Lent.{addressesOf}
 use Rattle.time_order.specs.declared.TimeAnswer.{TimeAnswer}
 use Rattle.time_merge.specs.Order as merged
 use Rattle.time_merge.specs.Order.{pairOf}
@@ -28,8 +28,8 @@ pairs-back (a ∷ bs) = ap (λ (z : List Address). a ∷ z) (pairs-back bs)
 -- the pairs that are written are the addresses
 written-back : (l : List Address) (out : List (List ℕ)) → addressesOf (written (map pairOf l) out) ≡ written l (addressesOf out)
 written-back l out =
-    map-append addressOf (map pairOf l) (drop (length (map pairOf l)) out)
-    ∙ ap₂ (λ (a b : List Address). a ++ b) (pairs-back l) (drop-map addressOf (length (map pairOf l)) out ∙ ap (λ (n : ℕ). drop n (addressesOf out)) (length-map l pairOf))
+    map-append addressFrom (map pairOf l) (drop (length (map pairOf l)) out)
+    ∙ ap₂ (λ (a b : List Address). a ++ b) (pairs-back l) (drop-map addressFrom (length (map pairOf l)) out ∙ ap (λ (n : ℕ). drop n (addressesOf out)) (length-map l pairOf))
 
 module _ (i : TimeInput) (out : List (List ℕ)) where
   module _ {k : ℕ} (e : k ≡ timeAnswer i) (d : k ≡ 0 → ⊥) where
@@ -44,17 +44,17 @@ module _ (i : TimeInput) (out : List (List ℕ)) where
     unfolding outputOf
     refused-output = rw no
 
-  module _ (e : timeAnswer i ≡ 0) (ss : List Segment) (same : timeOrder ss ≡ timeOrder (timeSegments i)) where
+  module _ (e : timeAnswer i ≡ 0) (ss : List Segment) (same : timeOrder ss ≡ timeOrder (segmentsFrom (i .records) (i .sections))) where
     yes′ : eqb (timeAnswer i) 0 ≡ true
     yes′ = eq-eqb (timeAnswer i) 0 e
 
-    pub ordered-output : {out′ : List (List ℕ)} → out′ ≡ merged.ordered ss out → out′ ≡ outputOf i out
-    unfolding outputOf merged.ordered
+    pub ordered-output : {out′ : List (List ℕ)} → out′ ≡ merged.timeWritten ss out → out′ ≡ outputOf i out
+    unfolding outputOf merged.timeWritten
     ordered-output o = rw yes′ (o ∙ ap (λ (l : List Address). written (map pairOf l) out) same)
 
-    pub ordered-outcome : {n : ℕ} {out′ : List (List ℕ)} → n ≡ length (timeOrder ss) → out′ ≡ merged.ordered ss out → outcomeOf (TimeAnswer.Ordered n) out′ ≡ timeOutcome i (addressesOf out)
-    unfolding timeOutcome merged.ordered
+    pub ordered-outcome : {n : ℕ} {out′ : List (List ℕ)} → n ≡ length (timeOrder ss) → out′ ≡ merged.timeWritten ss out → outcomeOf (TimeAnswer.Sorted n) out′ ≡ timeOutcome i (addressesOf out)
+    unfolding timeOutcome merged.timeWritten
     ordered-outcome {n} {out′} m o =
-        let a : n ≡ length (timeOrder (timeSegments i)) = m ∙ ap length same in
-        let b : addressesOf out′ ≡ written (timeOrder (timeSegments i)) (addressesOf out) = ap addressesOf (o ∙ ap (λ (l : List Address). written (map pairOf l) out) same) ∙ written-back (timeOrder (timeSegments i)) out in
-        rw yes′ (λ j. record { answer = ordered (a j); addresses = b j })
+        let a : n ≡ length (timeOrder (segmentsFrom (i .records) (i .sections))) = m ∙ ap length same in
+        let b : addressesOf out′ ≡ written (timeOrder (segmentsFrom (i .records) (i .sections))) (addressesOf out) = ap addressesOf (o ∙ ap (λ (l : List Address). written (map pairOf l) out) same) ∙ written-back (timeOrder (segmentsFrom (i .records) (i .sections))) out in
+        rw yes′ (λ j. record { answer = sorted (a j); addresses = b j })

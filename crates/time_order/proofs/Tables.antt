@@ -10,7 +10,7 @@ use Rattle.definitions.specs.Join.{absent}
 use Rattle.runs.specs.Put.{put}
 use Rattle.places.specs.Places.{table, rawAt}
 use Rattle.places.proofs.Fill.{table-length}
-use Rattle.term_merger.specs.Order.{Readable}
+use Rattle.term_merger.specs.Order.{TermsInside}
 use Rattle.time_rows.specs.Rows.{nextRow, firstFrom}
 use Rattle.time_merge.specs.Order.{placesOf, Ready, Begins}
 use Rattle.time_merge.proofs.Keyed.{row-readable}
@@ -22,8 +22,8 @@ take-table {A} f n l old e = ap (λ (x : List A). take n x) e ∙ take-at (table
 pub few-records : (records : List (List ℕ)) {sets : List (List ℕ)} {ids offsets values alive : List ℕ} → Ready (placesOf records) sets ids offsets values alive → length records ≤ 256
 few-records records y = omega (arith, y .few, table-length (rawAt records) (length records))
 
-pub begins-readable : {ss : List Segment} {rows : List (List ℕ)} → Begins ss rows → Readable (0 ∷ []) rows
-unfolding Readable firstFrom
+pub begins-readable : {ss : List Segment} {rows : List (List ℕ)} → Begins ss rows → TermsInside (0 ∷ []) rows
+unfolding TermsInside firstFrom
 begins-readable {ss} b x l =
     let s = getD ss x absent in
     subst (λ (r : List ℕ). (getD r 0 0 ≤ getD r 1 0) × (getD r 1 0 ≤ 1)) (sym (b .row x l)) (row-readable s (nextRow (s .flag) (s .alive) (s .rows) 0))

@@ -4,11 +4,11 @@ ghost use lib.ListN.{length};
 ghost use Rattle.definitions.specs.TimeOrder.{timeOrder, timeOutcome};
 ghost use Rattle.segment.specs.Lent.{addressesOf};
 ghost use Rattle.time_checks.specs.Lent.{lentTimes};
-ghost use Rattle.time_merge.specs.Order.{segmentsAt, placesOf, setsOf, ordered, Ready, Rising};
+ghost use Rattle.time_merge.specs.Order.{placedSegments, placesOf, setsOf, timeWritten, Ready, Rising};
 ghost use Rattle.time_order.specs.Outcome.{outcomeOf, outputOf};
 
 pub enum TimeAnswer {
-    Ordered(usize),
+    Sorted(usize),
     Refused(u32),
 }
 
@@ -23,15 +23,15 @@ fn order_rows(
 ) -> usize
     requires { ⌜ Ready (placesOf (now records)) (setsOf (now records)) (now ids) (now offsets) (now values) (now alive) ⌝ }
     requires { ⌜ Rising (placesOf (now records)) (setsOf (now records)) (now ids) (now offsets) (now values) (now alive) (now out) ⌝ }
-    ensures { λ r. ⌜ r ≡ length (timeOrder (segmentsAt (placesOf (now (records .entry))) (setsOf (now (records .entry))) (now (ids .entry)) (now (offsets .entry)) (now (values .entry)) (now (alive .entry)))) ⌝ }
-    ensures { λ r. ⌜ now (out .exit) ≡ ordered (segmentsAt (placesOf (now (records .entry))) (setsOf (now (records .entry))) (now (ids .entry)) (now (offsets .entry)) (now (values .entry)) (now (alive .entry))) (now (out .entry)) ⌝ }
+    ensures { λ r. ⌜ r ≡ length (timeOrder (placedSegments (placesOf (now (records .entry))) (setsOf (now (records .entry))) (now (ids .entry)) (now (offsets .entry)) (now (values .entry)) (now (alive .entry)))) ⌝ }
+    ensures { λ r. ⌜ now (out .exit) ≡ timeWritten (placedSegments (placesOf (now (records .entry))) (setsOf (now (records .entry))) (now (ids .entry)) (now (offsets .entry)) (now (values .entry)) (now (alive .entry))) (now (out .entry)) ⌝ }
 {
     let n = records.len();
     let mut places = [[0usize; 8]; 256];
     places::fill_places(records, &mut places);
     let mut sets = [[0usize; 3]; 256];
     places::fill_alives(records, &mut sets);
-    let mut rows = [[0usize; 6]; 256];
+    let mut rows = [[0usize; 6]; term_merger::Heap::CAP];
     time_merge::fill_rows(
         &places[..n],
         &sets[..n],
@@ -85,5 +85,5 @@ pub fn time_order(
         return TimeAnswer::Refused(k);
     }
     let n = order_rows(records, ids, offsets, values, alive, out);
-    TimeAnswer::Ordered(n)
+    TimeAnswer::Sorted(n)
 }

@@ -205,7 +205,7 @@ fn show_pairs(out: &[[u32; 2]]) {
 
 fn show_answer(answer: TimeAnswer) {
     match answer {
-        TimeAnswer::Ordered(n) => {
+        TimeAnswer::Sorted(n) => {
             io::write_all(1, b"0 ");
             io::print_hex(1, n as u64, 1);
         }

@@ -7,9 +7,10 @@ use native.Mathlib.Omega.{arith}
 use borrow.Author.Tests.{eqb-true, leb-true, not-false}
 use lib.Dec.{eqb, leb}
 use lib.ListN.{length, getD, take}
-use Rattle.definitions.specs.Wire.{wordSections, sectionAt, endsFrom, allBelow, widthsFit, wordsFit, wordsOf, wholeWords, bytesFit, recordGroups, addressGroups, lentFrom}
+use Rattle.definitions.specs.Wire.{wordSections, sectionAt, endsFrom, widthsFit, wordsFit, wordsOf, wholeWords, bytesFit, recordGroups, addressGroups, lentFrom, programBuffers}
+use Rattle.definitions.specs.Lists.{allBelow}
+use Rattle.definitions.specs.Outcome.{lentOf}
 use Rattle.wire.specs.Bounds.{Narrow, Fitted, boundsOf}
-use Rattle.wire.specs.Lent.{programLent}
 use Rattle.runs.specs.Put.{put}
 use Rattle.wire.proofs.Sections.{part-of, part-short, bounded, grouped-length}
 use Rattle.runs.proofs.Laws.{front-lent}
@@ -116,9 +117,9 @@ module _ {words bounds : List ℕ} (f : Fitted words bounds) where
 pub lent-is : (ss : List (List ℕ)) {mode required : ℕ} {records : List (List ℕ)} {ids offsets values lengths bytes alive : List ℕ} {addresses : List (List ℕ)}
     → mode ≡ getD (sectionAt ss 0) 0 0 → required ≡ getD (sectionAt ss 0) 1 0 → records ≡ recordGroups ss → ids ≡ sectionAt ss 2 → offsets ≡ sectionAt ss 3
     → values ≡ sectionAt ss 4 → lengths ≡ sectionAt ss 5 → bytes ≡ sectionAt ss 6 → alive ≡ sectionAt ss 7 → addresses ≡ addressGroups ss
-    → programLent mode required records ids offsets values lengths bytes alive addresses ≡ lentFrom ss
+    → lentOf mode required records ids offsets values lengths bytes alive addresses programBuffers ≡ lentFrom ss
 unfolding lentFrom
-lent-is ss m q r d o v l b a x = λ i. programLent (m i) (q i) (r i) (d i) (o i) (v i) (l i) (b i) (a i) (x i)
+lent-is ss m q r d o v l b a x = λ i. lentOf (m i) (q i) (r i) (d i) (o i) (v i) (l i) (b i) (a i) (x i) programBuffers
 
 -- the program's state once an input was found to fit: v are the words lent, b their bounds
 pub record Ready (l v b : List ℕ) : Type 0 where

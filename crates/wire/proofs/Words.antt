@@ -10,9 +10,9 @@ use borrow.Author.Tests.{ltb-true}
 use lib.Dec.{ltb}
 use lib.ListN.{length, drop, take, getD}
 use lib.Seq.{drop-cons, drop-drop}
-use Rattle.definitions.specs.Wire.{littleEndian, wordsIn, wordsOf, allBelow}
+use Rattle.definitions.specs.Wire.{littleEndian, wordsIn, wordsOf}
+use Rattle.definitions.specs.Lists.{allBelow}
 use Rattle.runs.specs.Put.{Below}
-use Rattle.numerical.specs.Seen.{allBelow as Seen·allBelow}
 
 -- ---- words
 
@@ -54,11 +54,6 @@ unfolding wordsOf
 words-at l i h = words-in-at (length l / 8) l i h
 
 -- ---- widths
-
--- as the scan says it
-pub below-same : (bound : ℕ) (ws : List ℕ) → Seen·allBelow bound ws ≡ allBelow bound ws
-unfolding allBelow Seen·allBelow
-below-same bound ws = refl
 
 pub and-true : (a b : Bool) → a && b ≡ true → (a ≡ true) × (b ≡ true)
 and-true true b h = (refl, h)

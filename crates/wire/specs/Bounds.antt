@@ -5,7 +5,8 @@ use mathlib.Core.Bool.{true, _&&_, cond}
 use mathlib.Core.List.{List, _∷_}
 use lib.Dec.{ltb, leb}
 use lib.ListN.{getD, length}
-use Rattle.definitions.specs.Wire.{wordSections, endsFrom, sectionAt, allBelow, wordsFit}
+use Rattle.definitions.specs.Wire.{wordSections, endsFrom, sectionAt, wordsFit}
+use Rattle.definitions.specs.Lists.{allBelow}
 
 -- the end of the section whose count is word number at, with size words to an element; 0 if it is cut
 unfoldable pub sectionEnd : ℕ → ℕ → List ℕ → ℕ

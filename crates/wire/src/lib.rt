@@ -3,7 +3,8 @@ ghost use mathlib.Core.Path.{_≡_};
 ghost use mathlib.Core.Bool.{cond, true};
 ghost use Prim.Native.Nat.{_<_, _≤_, _+_, _/_};
 ghost use lib.ListN.{length, drop, take, getD};
-ghost use Rattle.definitions.specs.Wire.{littleEndian, wordsOf, allBelow, wordSections, sectionAt, grouped, widthsFit, wordsFit, bytesFit, wholeWords, recordGroups, addressGroups};
+ghost use Rattle.definitions.specs.Wire.{littleEndian, wordsOf, wordSections, sectionAt, grouped, widthsFit, wordsFit, bytesFit, wholeWords, recordGroups, addressGroups};
+ghost use Rattle.definitions.specs.Lists.{allBelow};
 ghost use Rattle.runs.specs.Put.{put, Below};
 ghost use Rattle.wire.specs.Bounds.{sectionEnd, boundsOf, Bounded, Narrow};
 

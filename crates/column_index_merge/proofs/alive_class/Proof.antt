@@ -3,13 +3,13 @@ use Prim.Native.Nat.{_-_, _≤_, max}
 use native.Mathlib.Omega.{arith}
 use borrow.Author.Needs.{needs}
 use Rattle.places.proofs.Cells.{sound-within}
-use Rattle.column_index_merge.specs.Class.{aliveFrom}
+use Rattle.column_index_merge.specs.Class.{aliveClassFrom}
 use Rattle.column_index_merge.proofs.Class.{alive-start, alive-more, alive-end, alive-top}
 use Rattle.column_index_merge.proofs.alive_class.Statement.{statement}
 use Rattle.column_index_merge.proofs.alive_class.Tie as tie
 
 abbrev Inv-loop : tie.InvT-loop
-Inv-loop ids offsets words place kind rows top best₀ r₀ best r = (r ≤ rows) × (max best (aliveFrom place ids offsets words r (rows - r)) ≡ aliveFrom place ids offsets words 0 rows)
+Inv-loop ids offsets words place kind rows top best₀ r₀ best r = (r ≤ rows) × (max best (aliveClassFrom place ids offsets words r (rows - r)) ≡ aliveClassFrom place ids offsets words 0 rows)
 
 abbrev μ-loop : tie.MeasureT-loop
 μ-loop ids offsets words place kind rows top best₀ r₀ best r = rows - r

@@ -1,5 +1,6 @@
 use borrow.Author.Needs.{needs}
-use Rattle.merge_dict_column.proofs.Ends.{ready, readable, dictionary}
+use Rattle.merge_dict_column.proofs.Ends.{ready, readable, terms-same, map-same}
+use Rattle.term_walk.proofs.Ends.{merged-same}
 use Rattle.merge_dict_column.proofs.merge_dict.Statement.{statement}
 use Rattle.merge_dict_column.proofs.merge_dict.Tie as tie
 
@@ -41,7 +42,11 @@ same-length-3 c = search needs
 
 -- src/lib.rt:229:1
 returns : tie.Need-returns
-returns c = dictionary (c .before .before .before .before .before .before .before .before .before .before .before .before .before .before .before .before .before .before .before .before .before .before .before .before .pre .0) (c .before .before .before .before .before .before .before .before .before .before .before .before .before .before .before .before .before .before .before .before .before .before .before .before .pre .1) (c .before .before .before .before .before .before .before .before .before .before .before .before .before .before .before .fill-rows .ensures) _ _ _ _ _ _ (c .before .before .before .before .before .before .before .merge-terms .ensures .1)
+returns c =
+    let u = c .before .before .before .before .before .before .before .before .before .before .before .before .before .before .before .before .before .before .before .before .before .before .before .before .pre .0 in
+    let x = c .before .before .before .before .before .before .before .before .before .before .before .before .before .before .before .before .before .before .before .before .before .before .before .before .pre .1 in
+    let f = c .before .before .before .before .before .before .before .before .before .before .before .before .before .before .before .fill-rows .ensures in
+    merged-same (terms-same u x f) (map-same u x f) (c .before .before .before .before .before .before .before .merge-terms .ensures .0)
 
 pub merge-dict-spec : {M : Type 1} → statement M
 merge-dict-spec =

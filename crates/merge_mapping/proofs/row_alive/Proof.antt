@@ -7,7 +7,7 @@ use borrow.Author.Tests.{eq-eqb}
 use Rattle.segment.proofs.Walk.{words-some}
 use Rattle.merge_mapping.proofs.Laws.{alive-each}
 use Rattle.merge_mapping.specs.Mapping.{rowAlive}
-use Rattle.segment.specs.Records.{plain}
+use Rattle.segment.specs.Records.{recordIn}
 use Rattle.definitions.specs.Row.{bitAt}
 use Rattle.definitions.specs.Segment.{SegmentRecord}
 use Rattle.merge_mapping.proofs.row_alive.Statement.{statement}
@@ -21,7 +21,7 @@ returns : tie.Need-returns
 returns c = alive-each _ _ _ (c .if1 .taken)
 
 is-alive-requires : tie.Need-is-alive-requires
-is-alive-requires c κs = omega (arith, words-some (plain (c .before .before .before .args .r)) (c .if1 .left), c .before .before .before .pre)
+is-alive-requires c κs = omega (arith, words-some (recordIn (c .before .before .before .args .r)) (c .if1 .left), c .before .before .before .pre)
 
 returns-2 : tie.Need-returns-2
 returns-2 c = alive-bit _ _ _ (c .before .if1 .left) (c .is-alive .ensures)

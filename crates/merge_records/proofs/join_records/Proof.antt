@@ -37,11 +37,11 @@ use denote.Triple.Entry.{Args, Vals, alive, onEntry}
 use denote.Triple.Spec.{Meets, tripleOf}
 use denote.Triple.Table.{entered, cited}
 use denote.Triple.Walked.{says, Stays, walkOf, Walks, ends-at, walked, walk-meets}
-use Rattle.definitions.specs.Outcome.{Outcome, joinOutcome}
+use Rattle.definitions.specs.Outcome.{Outcome, joinOutcome, lentOf}
 use Rattle.segment.specs.declared.Record.{Record}
 use Rattle.segment.proofs.Record as T
 use Rattle.merge.specs.declared.Answer.{Answer}
-use Rattle.merge.specs.Whole.{outcomeOf, lentOf, buffersOf}
+use Rattle.merge.specs.Whole.{outcomeOf, buffersOf}
 use Rattle.merge.proofs.Answer as S
 use Rattle.merge.proofs.Answer.Laws as S′
 use Rattle.records.specs.Rows.{rowsOf, countOf, laidTo}

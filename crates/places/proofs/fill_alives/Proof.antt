@@ -5,7 +5,7 @@ use lib.ListN.{length, length-set}
 use borrow.Author.Needs.{needs}
 use Rattle.segment.specs.declared.Record.{Record}
 use Rattle.runs.proofs.Laws.{putting, putting-none}
-use Rattle.segment.specs.Records.{plain}
+use Rattle.segment.specs.Records.{recordIn}
 use Rattle.definitions.specs.Segment.{aliveWords}
 use Rattle.places.specs.Places.{table, aliveAt, wordsBefore}
 use Rattle.places.proofs.Fill.{table-more, table-all, starts-none, words-next, alive-now}
@@ -50,7 +50,7 @@ loop-again c =
     let the-args = c .before .before .before .before .before .args in
     let the-loop = c .before .before .before .before .loop in
     let the-record-at = c .before .before .record-at in
-    (search needs, words-next (the-args .records .now) (the-loop .s) _ _ (the-loop .inv .1) (c .alive-words .ensures .0 ∙ ap (λ (x : Record). aliveWords (plain x)) (the-record-at .ensures)), rw (the-loop .inv .2) (table-more (aliveAt (the-args .records .now)) _ _ _ _ (c .before .before .before .before .before .pre .1) (c .before .before .before .loop-test .taken) (alive-now (the-args .records .now) (the-loop .s) _ (the-loop .inv .1) (c .before .wide .ensures .0 ∙ ap (λ (x : Record). x .flag) (the-record-at .ensures)) (c .alive-words .ensures .0 ∙ ap (λ (x : Record). aliveWords (plain x)) (the-record-at .ensures)))), simp length-set (search needs), omega (arith, c .alive-words .ensures .1, the-loop .inv .4))
+    (search needs, words-next (the-args .records .now) (the-loop .s) _ _ (the-loop .inv .1) (c .alive-words .ensures .0 ∙ ap (λ (x : Record). aliveWords (recordIn x)) (the-record-at .ensures)), rw (the-loop .inv .2) (table-more (aliveAt (the-args .records .now)) _ _ _ _ (c .before .before .before .before .before .pre .1) (c .before .before .before .loop-test .taken) (alive-now (the-args .records .now) (the-loop .s) _ (the-loop .inv .1) (c .before .wide .ensures .0 ∙ ap (λ (x : Record). x .flag) (the-record-at .ensures)) (c .alive-words .ensures .0 ∙ ap (λ (x : Record). aliveWords (recordIn x)) (the-record-at .ensures)))), simp length-set (search needs), omega (arith, c .alive-words .ensures .1, the-loop .inv .4))
 
 same-length : tie.Need-same-length Inv-loop μ-loop
 same-length c = search needs

@@ -41,7 +41,7 @@ use denote.Triple.Table.{entered, cited}
 use denote.Triple.Walked.{says, needs, Stays, stay-none-slice, stay-none, walkOf, Walks, ends-at, walked, goes-none-slice, goes-none, walk-meets}
 use denote.Exit.{yes}
 use Rattle.records.specs.Rows.{none}
-use Rattle.segment.specs.Records.{plain as recordIn}
+use Rattle.segment.specs.Records.{recordIn}
 use Rattle.segment_fit.specs.Fits.{fitsCodes}
 use Rattle.segment.specs.declared.Record.{Record}
 use Rattle.segment.proofs.Record as T

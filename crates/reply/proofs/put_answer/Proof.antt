@@ -7,7 +7,7 @@ use borrow.Author.Needs.{needs}
 use Rattle.definitions.specs.Outcome.{Answer}
 use Rattle.definitions.specs.Listing.{answerText}
 use Rattle.runs.specs.Put.{put}
-use Rattle.listing.specs.Shown.{outputs, ReadableBy}
+use Rattle.listing.specs.Shown.{outputs, AnnouncedBy}
 use Rattle.listing.proofs.Outcome as outcome
 use Rattle.merge.specs.Whole.{answerOf}
 use Rattle.merge.specs.declared.Answer as code
@@ -22,7 +22,7 @@ put-column-requires c κs =
     let the-args = c .before .before .before .before .before .before .before .before .before .before .before .args in
     let the-pre = c .before .before .before .before .before .before .before .before .before .before .before .pre in
     let b = (outputs (the-args .ids .now) (the-args .offsets .now) (the-args .values .now) (the-args .lengths .now) (the-args .bytes .now) (the-args .map .now)) in
-    (subst (λ (x : code.Answer). ReadableBy (answerOf x) b) (c .before .before .a .given .1) (the-pre .0), the-pre .1)
+    (subst (λ (x : code.Answer). AnnouncedBy (answerOf x) b) (c .before .before .a .given .1) (the-pre .0), the-pre .1)
 
 enum-known-a-2 : tie.Need-enum-known-a-2
 enum-known-a-2 c = search needs

@@ -7,7 +7,7 @@ use borrow.Author.Tests.{not-true, not-false}
 use Rattle.segment.proofs.Tests.{fell, went}
 use Rattle.segment.proofs.Walk.{total-step}
 use Rattle.sections_fit.proofs.Walks.{alive-step, alive-end}
-use Rattle.sections_fit.specs.Walks.{aliveFrom}
+use Rattle.sections_fit.specs.Walks.{aliveFitsFrom}
 use Rattle.segment.specs.Records.{recordsOf}
 use Rattle.definitions.specs.Segment.{aliveWords}
 use Rattle.definitions.specs.Answer.{total}
@@ -15,7 +15,7 @@ use Rattle.sections_fit.proofs.all_alive_fit.Statement.{statement}
 use Rattle.sections_fit.proofs.all_alive_fit.Tie as tie
 
 abbrev Inv-loop : tie.InvT-loop
-Inv-loop mode records alive s₀ a₀ s a = (s ≤ length records) × (a + total aliveWords (recordsOf (drop s records)) ≤ length alive) × (aliveFrom mode (recordsOf (drop s records)) (drop a alive) ≡ aliveFrom mode (recordsOf records) alive)
+Inv-loop mode records alive s₀ a₀ s a = (s ≤ length records) × (a + total aliveWords (recordsOf (drop s records)) ≤ length alive) × (aliveFitsFrom mode (recordsOf (drop s records)) (drop a alive) ≡ aliveFitsFrom mode (recordsOf records) alive)
 
 abbrev μ-loop : tie.MeasureT-loop
 μ-loop mode records alive s₀ a₀ s a = length records - s

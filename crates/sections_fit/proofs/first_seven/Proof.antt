@@ -10,19 +10,20 @@ use Rattle.segment.proofs.Tests.{hit, miss}
 use Rattle.sections_fit.proofs.Own.{lengths-wrong, exact, input-codes, input-lists, input-values, input-alive, input-sums}
 use Rattle.sections_fit.specs.declared.Totals.{Totals}
 use Rattle.sections_fit.specs.Walks.{firstSeven, sumsRight}
-use Rattle.segment.specs.Records.{recordsOf, recordOf}
+use Rattle.segment.specs.Records.{recordsOf}
 use Rattle.segment.specs.Lent.{lentInput}
 use Rattle.definitions.specs.Answer.{tooManySegments}
+use Rattle.definitions.specs.Segment.{recordFrom}
 use Rattle.sections_fit.proofs.first_seven.Statement.{statement}
 use Rattle.sections_fit.proofs.first_seven.Tie as tie
 
 many : (records : List (List ℕ)) → 256 < length records → tooManySegments (recordsOf records) ≡ true
 unfolding tooManySegments
-many records h = lt-ltb 256 (length (recordsOf records)) (rw (length-map records recordOf) h)
+many records h = lt-ltb 256 (length (recordsOf records)) (rw (length-map records recordFrom) h)
 
 few : (records : List (List ℕ)) → length records ≤ 256 → tooManySegments (recordsOf records) ≡ false
 unfolding tooManySegments
-few records h = le-ltb 256 (length (recordsOf records)) (rw (length-map records recordOf) h)
+few records h = le-ltb 256 (length (recordsOf records)) (rw (length-map records recordFrom) h)
 
 rows-of : {a b : ℕ} (v w : ℕ) → a ≡ b → sumsRight b v w ≡ sumsRight a v w
 rows-of v w e = rw e

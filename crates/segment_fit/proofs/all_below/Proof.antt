@@ -4,9 +4,9 @@ use native.Mathlib.Omega.{arith}
 use lib.ListN.{length, drop}
 use borrow.Author.Needs.{needs}
 use Rattle.segment_fit.proofs.Laws.{below-high, below-next, below-end}
-use Rattle.segment_fit.specs.Fits.{allBelow}
 use Rattle.segment_fit.proofs.all_below.Statement.{statement}
 use Rattle.segment_fit.proofs.all_below.Tie as tie
+use Rattle.definitions.specs.Lists.{allBelow}
 
 abbrev Inv-loop : tie.InvT-loop
 Inv-loop xs limit i₀ i = (i ≤ length xs) × (allBelow limit (drop i xs) ≡ allBelow limit xs)

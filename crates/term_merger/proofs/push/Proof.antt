@@ -1,30 +1,45 @@
-use mathlib.Core.Path.{_≡_, refl}
-use Prim.Native.Nat.{_+_}
+use mathlib.Core.Path.{_≡_, refl, sym, _∙_}
+use Prim.Native.Nat.{_+_, _<_, _≤_}
+use native.Mathlib.Omega.{arith}
+use borrow.Author.Tests.{leb-true, leb-false}
 use lib.ListN.{length, set}
 use Rattle.term_merger.proofs.Laws.{ordered-set, pushed}
 use borrow.Author.Needs.{needs}
 use Rattle.term_merger.proofs.push.Statement.{statement}
 use Rattle.term_merger.proofs.push.Tie as tie
 
--- src/lib.rt:143:5
-element-write-h : tie.Need-element-write-h
-element-write-h c = search needs
+is-full-requires : tie.Need-is-full-requires
+is-full-requires c κs = search needs
 
--- src/lib.rt:144:13
-add-h : tie.Need-add-h
-add-h c = search needs
-
--- src/lib.rt:145:5
-sift-up-requires : tie.Need-sift-up-requires
-sift-up-requires c κs = (c .before .pre .0, (c .before .pre .1 .0, ordered-set _ _ _ _ _ (c .before .pre .1 .1)))
-
--- src/lib.rt:136:1
+-- full
 returns : tie.Need-returns
 returns c =
-    let s = c .before .before in
+    let full : 256 ≤ c .before .before .before .args .heap .len = leb-true 256 (c .before .before .before .args .heap .len) (sym (c .before .is-full .ensures) ∙ c .if1 .taken) in
+    record { room = λ l. absurd (omega arith); full = λ l. refl }
+
+element-write-h : tie.Need-element-write-h
+element-write-h c = leb-false 256 (c .before .before .before .args .heap .len) (sym (c .before .is-full .ensures) ∙ c .if1 .left)
+
+add-h : tie.Need-add-h
+add-h c =
+    let room : c .before .before .before .args .heap .len < 256 = leb-false 256 (c .before .before .before .args .heap .len) (sym (c .before .is-full .ensures) ∙ c .if1 .left) in
+    search needs
+
+sift-up-requires : tie.Need-sift-up-requires
+sift-up-requires c κs =
+    let room : c .before .before .before .args .heap .len < 256 = leb-false 256 (c .before .before .before .args .heap .len) (sym (c .before .is-full .ensures) ∙ c .if1 .left) in
+    (c .before .before .before .pre .0, (room, ordered-set _ _ _ _ _ (c .before .before .before .pre .1)))
+
+returns-2 : tie.Need-returns-2
+returns-2 c =
+    let s = c .before .before .before .before in
     let h = s .args .heap in
     let l : length (h .seg) ≡ 256 = search needs in
-    pushed _ _ h (record { seg = set (h .seg) (h .len) (s .args .s); len = h .len + 1 }) (c .sift-up .result) (s .args .s) l (s .pre .1 .0) refl refl (c .sift-up .ensures)
+    let room : h .len < 256 = leb-false 256 (h .len) (sym (c .before .before .is-full .ensures) ∙ c .before .if1 .left) in
+    record {
+      room = λ _. pushed _ _ h (record { seg = set (h .seg) (h .len) (s .args .s); len = h .len + 1 }) (c .sift-up .result) (s .args .s) l room refl refl (c .sift-up .ensures);
+      full = λ f. absurd (omega arith);
+    }
 
 pub push-spec : {M : Type 1} → statement M
-push-spec = tie.close (tie.spec element-write-h add-h sift-up-requires returns)
+push-spec = tie.close (tie.spec is-full-requires returns element-write-h add-h sift-up-requires returns-2)

@@ -35,7 +35,7 @@ returns : tie.Need-returns
 returns c =
     let s = c .before .before .before .before .before in
     let l : cell (s .args .rows .now) (s .args .s) 3 < cell (s .args .rows .now) (s .args .s) 4 = subst (λ (x : ℕ). cell (s .args .rows .now) x 3 < cell (s .args .rows .now) x 4) (c .before .before .before .wide .ensures .0) (c .before .if1 .taken) in
-    record { live = λ h. c .push .ensures; done = λ h. absurd (omega arith) }
+    record { live = λ h. c .push .ensures .room (s .pre .1 .0); done = λ h. absurd (omega arith) }
 
 -- src/lib.rt:115:1
 returns-2 : tie.Need-returns-2

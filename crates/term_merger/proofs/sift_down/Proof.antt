@@ -62,7 +62,7 @@ returns c =
     let k : AtMost (s .args .bytes .now) (s .args .rows .now) (getD seg (l .loop .i) 0) (getD seg (f .result) 0) = sym (c .before .comes-before .ensures) ∙ not-true _ (c .if1 .taken) in
     record {
       len = l .loop .inv .0;
-      ordered = down-end (s .args .bytes .now) (s .args .rows .now) seg (l .loop .i) (s .args .n) (l .loop .inv .4)
+      inHeapOrder = down-end (s .args .bytes .now) (s .args .rows .now) seg (l .loop .i) (s .args .n) (l .loop .inv .4)
           (λ j p q e. at-most-trans (s .args .bytes .now) (s .args .rows .now) _ _ _ k (f .ensures .least j (omega arith) (omega arith) q));
       holds = l .loop .inv .3;
     }
@@ -107,7 +107,7 @@ returns-2 c =
     let s = c .before .before .before in
     record {
       len = l .loop .inv .0;
-      ordered = down-end (s .args .bytes .now) (s .args .rows .now) (l .loop .h .seg) (l .loop .i) (s .args .n) (l .loop .inv .4) (λ j p q e. absurd (omega (arith, c .loop-test .left)));
+      inHeapOrder = down-end (s .args .bytes .now) (s .args .rows .now) (l .loop .h .seg) (l .loop .i) (s .args .n) (l .loop .inv .4) (λ j p q e. absurd (omega (arith, c .loop-test .left)));
       holds = l .loop .inv .3;
     }
 

@@ -43,7 +43,7 @@ returns c =
     let s = c .before .before .before .before .before .before .before in
     record {
       len = l .loop .inv .0;
-      ordered = up-end (s .args .bytes .now) (s .args .rows .now) (l .loop .h .seg) (l .loop .i) (s .args .from + 1) (l .loop .inv .4) (λ p. sym (c .before .comes-before .ensures) ∙ not-true _ (c .if1 .taken));
+      inHeapOrder = up-end (s .args .bytes .now) (s .args .rows .now) (l .loop .h .seg) (l .loop .i) (s .args .from + 1) (l .loop .inv .4) (λ p. sym (c .before .comes-before .ensures) ∙ not-true _ (c .if1 .taken));
       holds = l .loop .inv .3;
     }
 
@@ -85,7 +85,7 @@ returns-2 c =
     let s = c .before .before .before in
     record {
       len = l .loop .inv .0;
-      ordered = up-end (s .args .bytes .now) (s .args .rows .now) (l .loop .h .seg) (l .loop .i) (s .args .from + 1) (l .loop .inv .4) (λ p. absurd (omega (arith, c .loop-test .left)));
+      inHeapOrder = up-end (s .args .bytes .now) (s .args .rows .now) (l .loop .h .seg) (l .loop .i) (s .args .from + 1) (l .loop .inv .4) (λ p. absurd (omega (arith, c .loop-test .left)));
       holds = l .loop .inv .3;
     }
 

@@ -27,7 +27,7 @@ cast-push-live c = omega (arith, c .loop-test .taken)
 
 -- src/lib.rt:221:9
 push-live-requires : tie.Need-push-live-requires Inv-loop μ-loop
-push-live-requires c κs = ((omega (arith, c .before .before .before .before .pre .0), c .before .before .before .before .pre .1), (omega (arith, c .loop-test .taken, c .before .loop .inv .len), c .before .loop .inv .ordered))
+push-live-requires c κs = ((omega (arith, c .before .before .before .before .pre .0), c .before .before .before .before .pre .1), (omega (arith, c .loop-test .taken, c .before .loop .inv .len), c .before .loop .inv .inHeapOrder))
 
 -- src/lib.rt:222:9
 add-s : tie.Need-add-s Inv-loop μ-loop

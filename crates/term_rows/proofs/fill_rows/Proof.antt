@@ -6,8 +6,8 @@ use lib.ListN.{length, drop, getD, take}
 use borrow.Author.Needs.{needs}
 use native.Mathlib.Nat.{add-sub-cancel-left}
 use Rattle.definitions.specs.Lists.{sum}
+use Rattle.definitions.specs.Segment.{recordFrom}
 use Rattle.segment.specs.declared.Record.{Record}
-use Rattle.segment.specs.Records.{recordOf}
 use Rattle.term_rows.proofs.Begin.{Filling, Turn, filling-start, filling-more, filling-end, k-le, s-few, end-in, end-at, end-marks, text-in, row-in, to-in}
 use Rattle.term_rows.proofs.fill_rows.Statement.{statement}
 use Rattle.term_rows.proofs.fill_rows.Tie as tie
@@ -18,7 +18,7 @@ Inv-loop records held lengths marks all rows₀ s₀ pos₀ from₀ to₀ rows s
 abbrev μ-loop : tie.MeasureT-loop
 μ-loop records held lengths marks all rows₀ s₀ pos₀ from₀ to₀ rows s pos from to = length records - s
 
-n-at : (c : tie.After-wide Inv-loop μ-loop) → c .wide .result ≡ recordOf (getD (c .before .before .before .before .before .before .before .args .records .now) (c .before .before .before .loop .s) []) .terms
+n-at : (c : tie.After-wide Inv-loop μ-loop) → c .wide .result ≡ recordFrom (getD (c .before .before .before .before .before .before .before .args .records .now) (c .before .before .before .loop .s) []) .terms
 n-at c = c .wide .ensures .0 ∙ ap (λ (r : Record). r .terms) (c .before .record-at .ensures)
 
 turn : (c : tie.After-if-held Inv-loop μ-loop) →

@@ -7,7 +7,8 @@ use borrow.Author.Needs.{needs}
 use Rattle.term_merger.specs.Heap.{Out}
 use Rattle.term_rows.specs.Rows.{rowAt, termsIn, sumOver}
 use Rattle.term_merger.specs.Live.{Back}
-use Rattle.term_walk.proofs.Going.{Going, going-start, going-end, going-readable, going-more, row-in, terms-room, texts-room, place-in, end-s, fits-s, stepped, small-ordinal, readable-new, len-new, ordered-new, fewer}
+use Rattle.term_walk.proofs.Going.{Going, going-start, going-readable, going-more, row-in, terms-room, texts-room, place-in, end-s, fits-s, stepped, small-ordinal, readable-new, len-new, ordered-new, fewer}
+use Rattle.term_walk.proofs.Ends.{walked, rows-passed}
 use Rattle.term_walk.proofs.merge_terms.Statement.{statement}
 use Rattle.term_walk.proofs.merge_terms.Tie as tie
 
@@ -35,7 +36,7 @@ pop-requires : tie.Need-pop-requires Inv-loop μ-loop
 pop-requires c κs =
     let y = c .before .before .before .before .before .before .before .before .before .before .pre .0 in
     let g = c .before .before .before .loop .inv .2 in
-    ((omega (arith, g .size), going-readable y g), (c .before .if1 .taken, g .len, g .ordered))
+    ((omega (arith, g .size), going-readable y g), (c .before .if1 .taken, g .len, g .inHeapOrder))
 
 -- src/lib.rt:150:13
 wide-requires : tie.Need-wide-requires Inv-loop μ-loop
@@ -185,7 +186,10 @@ same-length-4 c = c .before .before .loop .inv .2 .size-map
 
 -- src/lib.rt:130:1
 returns : tie.Need-returns Inv-loop μ-loop
-returns c = (c .before .before .loop .inv .1, going-end (c .before .before .before .before .before .before .before .before .before .pre .0) (c .before .before .loop .inv .2) (c .if1 .left) _ refl refl)
+returns c =
+    let y = c .before .before .before .before .before .before .before .before .before .pre .0 in
+    let g = c .before .before .loop .inv .2 in
+    (walked y g (c .if1 .left) _ _ refl refl, rows-passed y g (c .if1 .left))
 
 pub merge-terms-spec : {M : Type 1} → statement M
 merge-terms-spec =

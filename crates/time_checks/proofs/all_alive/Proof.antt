@@ -9,12 +9,12 @@ use Rattle.definitions.specs.Segment.{aliveWords}
 use Rattle.definitions.specs.Answer.{total}
 use Rattle.segment.proofs.Walk.{total-step}
 use Rattle.time_checks.proofs.Laws.{alive-step, alive-end}
-use Rattle.time_checks.specs.Times.{aliveFrom}
+use Rattle.time_checks.specs.Times.{aliveCountFrom}
 use Rattle.time_checks.proofs.all_alive.Statement.{statement}
 use Rattle.time_checks.proofs.all_alive.Tie as tie
 
 abbrev Inv-loop : tie.InvT-loop
-Inv-loop records alive n₀ s₀ a₀ n s a = (s ≤ length records) × (a + total aliveWords (recordsOf (drop s records)) ≤ length alive) × (n + aliveFrom (recordsOf (drop s records)) (drop a alive) ≡ aliveFrom (recordsOf records) alive) × (n ≤ s * 4294967296)
+Inv-loop records alive n₀ s₀ a₀ n s a = (s ≤ length records) × (a + total aliveWords (recordsOf (drop s records)) ≤ length alive) × (n + aliveCountFrom (recordsOf (drop s records)) (drop a alive) ≡ aliveCountFrom (recordsOf records) alive) × (n ≤ s * 4294967296)
 
 abbrev μ-loop : tie.MeasureT-loop
 μ-loop records alive n₀ s₀ a₀ n s a = length records - s

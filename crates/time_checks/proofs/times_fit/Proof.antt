@@ -5,13 +5,13 @@ use lib.Dec.{eqb}
 use borrow.Author.Needs.{needs}
 use borrow.Author.Tests.{not-true, not-false}
 use mathlib.Core.Logic.{⊎-elim}
-use Rattle.segment.specs.Records.{plain}
+use Rattle.segment.specs.Records.{recordIn}
 use Rattle.time_checks.proofs.Laws.{type-none, type-time, times-type, times-several, times-are}
 use Rattle.time_checks.proofs.times_fit.Statement.{statement}
 use Rattle.time_checks.proofs.times_fit.Tie as tie
 
 typed : (c : tie.Joined1) → eqb (c .before .before .before .args .r .typ) 255 || eqb (c .before .before .before .args .r .typ) 7 ≡ true
-typed c = let r = plain (c .before .before .before .args .r) in ⊎-elim (λ w. type-time r [] [] (not-false _ (w .1 .left))) (λ w. type-none r [] [] (w .left)) (c .if1 .came)
+typed c = let r = recordIn (c .before .before .before .args .r) in ⊎-elim (λ w. type-time r [] [] (not-false _ (w .1 .left))) (λ w. type-none r [] [] (w .left)) (c .if1 .came)
 
 returns : tie.Need-returns
 returns c = times-type _ _ _ (c .before .if1 .taken) (not-true _ (c .if2 .taken))
@@ -20,13 +20,13 @@ single-values-requires : tie.Need-single-values-requires
 single-values-requires c κs = search needs
 
 returns-2 : tie.Need-returns-2
-returns-2 c = times-several (plain (c .before .before .before .before .before .args .r)) _ _ (typed (c .before .before)) (sym (c .before .single-values .ensures) ∙ not-true _ (c .if3 .taken))
+returns-2 c = times-several (recordIn (c .before .before .before .before .before .args .r)) _ _ (typed (c .before .before)) (sym (c .before .single-values .ensures) ∙ not-true _ (c .if3 .taken))
 
 times-rise-requires : tie.Need-times-rise-requires
 times-rise-requires c κs = search needs
 
 returns-3 : tie.Need-returns-3
-returns-3 c = c .times-rise .ensures ∙ times-are (plain (c .before .before .before .before .before .before .args .r)) _ _ (typed (c .before .before .before)) (sym (c .before .before .single-values .ensures) ∙ not-false _ (c .before .if3 .left))
+returns-3 c = c .times-rise .ensures ∙ times-are (recordIn (c .before .before .before .before .before .before .args .r)) _ _ (typed (c .before .before .before)) (sym (c .before .before .single-values .ensures) ∙ not-false _ (c .before .if3 .left))
 
 pub times-fit-spec : {M : Type 1} → statement M
 times-fit-spec =

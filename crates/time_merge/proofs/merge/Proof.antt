@@ -5,16 +5,16 @@ use native.Mathlib.Omega.{arith}
 use lib.ListN.{length, set, length-set}
 use borrow.Author.Needs.{needs}
 use Rattle.term_merger.specs.Heap.{Out, Ordered}
-use Rattle.term_merger.specs.Order.{Readable}
+use Rattle.term_merger.specs.Order.{TermsInside}
 use Rattle.term_merger.specs.Live.{Back, Started}
 use Rattle.definitions.specs.Segment.{Address}
-use Rattle.time_merge.specs.Order.{segmentsAt}
+use Rattle.time_merge.specs.Order.{placedSegments}
 use Rattle.time_merge.proofs.Going.{Going, going-start, going-readable, going-end, s-there, row-fits, rest-left, room, readable-new, len-new, ordered-new, going-more}
 use Rattle.time_merge.proofs.merge.Statement.{statement}
 use Rattle.time_merge.proofs.merge.Tie as tie
 
 abbrev Inv-loop : tie.InvT-loop
-Inv-loop first places sets ids offsets values alive rows₀ out₀ h₀ k₀ rows out h k = (P : ℕ → ℕ) × (done : List Address) × Going (segmentsAt places sets ids offsets values alive) (0 ∷ []) out₀ rows out h k P done
+Inv-loop first places sets ids offsets values alive rows₀ out₀ h₀ k₀ rows out h k = (P : ℕ → ℕ) × (done : List Address) × Going (placedSegments places sets ids offsets values alive) (0 ∷ []) out₀ rows out h k P done
 
 abbrev μ-loop : tie.MeasureT-loop
 μ-loop first places sets ids offsets values alive rows₀ out₀ h₀ k₀ rows out h k = length out - k
@@ -30,7 +30,7 @@ loop-holds c =
     (_, _, going-start (the-pre .0) _ (the-pre .1 .1 .1 .0) (subst (λ (f : List ℕ). Started f (the-args .rows .now) (the-args .heap)) (the-pre .1 .1 .0) (the-pre .1 .1 .1 .1)))
 
 pop-requires : tie.Need-pop-requires Inv-loop μ-loop
-pop-requires c κs = subst (λ (f : List ℕ). ((256 ≤ length (c .before .before .before .loop .rows)) × Readable f (c .before .before .before .loop .rows)) × ((0 < c .before .before .before .loop .h .len) × (c .before .before .before .loop .h .len ≤ 256) × Ordered f (c .before .before .before .loop .rows) (c .before .before .before .loop .h .seg) (c .before .before .before .loop .h .len))) (sym (c .before .before .before .before .before .before .before .before .before .pre .1 .1 .0)) ((omega (arith, c .before .before .before .loop .inv .2 .size), going-readable (c .before .before .before .before .before .before .before .before .before .pre .0) (c .before .before .before .before .before .before .before .before .before .pre .1 .0) (c .before .before .before .loop .inv .2)), (c .before .if1 .taken, c .before .before .before .loop .inv .2 .len, c .before .before .before .loop .inv .2 .ordered))
+pop-requires c κs = subst (λ (f : List ℕ). ((256 ≤ length (c .before .before .before .loop .rows)) × TermsInside f (c .before .before .before .loop .rows)) × ((0 < c .before .before .before .loop .h .len) × (c .before .before .before .loop .h .len ≤ 256) × Ordered f (c .before .before .before .loop .rows) (c .before .before .before .loop .h .seg) (c .before .before .before .loop .h .len))) (sym (c .before .before .before .before .before .before .before .before .before .pre .1 .1 .0)) ((omega (arith, c .before .before .before .loop .inv .2 .size), going-readable (c .before .before .before .before .before .before .before .before .before .pre .0) (c .before .before .before .before .before .before .before .before .before .pre .1 .0) (c .before .before .before .loop .inv .2)), (c .before .if1 .taken, c .before .before .before .loop .inv .2 .len, c .before .before .before .loop .inv .2 .inHeapOrder))
 
 wide-requires : tie.Need-wide-requires Inv-loop μ-loop
 wide-requires c κs = search needs
@@ -118,7 +118,7 @@ push-live-requires : tie.Need-push-live-requires Inv-loop μ-loop
 push-live-requires c κs =
     let o = (subst (λ (f : List ℕ). Out f (c .before .before .before .before .before .before .before .before .before .before .before .loop .rows) (c .before .before .before .before .before .before .before .before .before .before .before .loop .h) (c .before .before .before .before .before .before .before .pop .result .heap) (c .before .before .before .before .before .before .wide .result)) (c .before .before .before .before .before .before .before .before .before .before .before .before .before .before .before .before .before .pre .1 .1 .0) (subst (λ (n : ℕ). Out (c .before .before .before .before .before .before .before .before .before .before .before .before .before .before .before .before .before .args .first .now) (c .before .before .before .before .before .before .before .before .before .before .before .loop .rows) (c .before .before .before .before .before .before .before .before .before .before .before .loop .h) (c .before .before .before .before .before .before .before .pop .result .heap) n) (sym (c .before .before .before .before .before .before .wide .ensures .0)) (c .before .before .before .before .before .before .before .pop .ensures))) in
     let e = c .before .before .first-from .ensures in
-    subst (λ (f : List ℕ). ((256 ≤ length (set (c .before .before .before .before .before .before .before .before .before .before .before .loop .rows) (c .before .before .before .before .before .before .wide .result) (c .before .before .first-from .result))) × Readable f (set (c .before .before .before .before .before .before .before .before .before .before .before .loop .rows) (c .before .before .before .before .before .before .wide .result) (c .before .before .first-from .result))) × ((c .before .before .before .before .before .before .before .pop .result .heap .len < 256) × Ordered f (set (c .before .before .before .before .before .before .before .before .before .before .before .loop .rows) (c .before .before .before .before .before .before .wide .result) (c .before .before .first-from .result)) (c .before .before .before .before .before .before .before .pop .result .heap .seg) (c .before .before .before .before .before .before .before .pop .result .heap .len))) (sym (c .before .before .before .before .before .before .before .before .before .before .before .before .before .before .before .before .before .pre .1 .1 .0)) ((simp length-set (omega (arith, c .before .before .before .before .before .before .before .before .before .before .before .loop .inv .2 .size)), readable-new (c .before .before .before .before .before .before .before .before .before .before .before .before .before .before .before .before .before .pre .0) (c .before .before .before .before .before .before .before .before .before .before .before .before .before .before .before .before .before .pre .1 .0) (c .before .before .before .before .before .before .before .before .before .before .before .loop .inv .2) o e), (len-new (c .before .before .before .before .before .before .before .before .before .before .before .before .before .before .before .before .before .pre .0) (c .before .before .before .before .before .before .before .before .before .before .before .before .before .before .before .before .before .pre .1 .0) (c .before .before .before .before .before .before .before .before .before .before .before .loop .inv .2) o e, ordered-new (c .before .before .before .before .before .before .before .before .before .before .before .before .before .before .before .before .before .pre .0) (c .before .before .before .before .before .before .before .before .before .before .before .before .before .before .before .before .before .pre .1 .0) (c .before .before .before .before .before .before .before .before .before .before .before .loop .inv .2) o e (let l : length (c .before .before .before .before .before .before .before .pop .result .heap .seg) ≡ 256 = search needs in l)))
+    subst (λ (f : List ℕ). ((256 ≤ length (set (c .before .before .before .before .before .before .before .before .before .before .before .loop .rows) (c .before .before .before .before .before .before .wide .result) (c .before .before .first-from .result))) × TermsInside f (set (c .before .before .before .before .before .before .before .before .before .before .before .loop .rows) (c .before .before .before .before .before .before .wide .result) (c .before .before .first-from .result))) × ((c .before .before .before .before .before .before .before .pop .result .heap .len < 256) × Ordered f (set (c .before .before .before .before .before .before .before .before .before .before .before .loop .rows) (c .before .before .before .before .before .before .wide .result) (c .before .before .first-from .result)) (c .before .before .before .before .before .before .before .pop .result .heap .seg) (c .before .before .before .before .before .before .before .pop .result .heap .len))) (sym (c .before .before .before .before .before .before .before .before .before .before .before .before .before .before .before .before .before .pre .1 .1 .0)) ((simp length-set (omega (arith, c .before .before .before .before .before .before .before .before .before .before .before .loop .inv .2 .size)), readable-new (c .before .before .before .before .before .before .before .before .before .before .before .before .before .before .before .before .before .pre .0) (c .before .before .before .before .before .before .before .before .before .before .before .before .before .before .before .before .before .pre .1 .0) (c .before .before .before .before .before .before .before .before .before .before .before .loop .inv .2) o e), (len-new (c .before .before .before .before .before .before .before .before .before .before .before .before .before .before .before .before .before .pre .0) (c .before .before .before .before .before .before .before .before .before .before .before .before .before .before .before .before .before .pre .1 .0) (c .before .before .before .before .before .before .before .before .before .before .before .loop .inv .2) o e, ordered-new (c .before .before .before .before .before .before .before .before .before .before .before .before .before .before .before .before .before .pre .0) (c .before .before .before .before .before .before .before .before .before .before .before .before .before .before .before .before .before .pre .1 .0) (c .before .before .before .before .before .before .before .before .before .before .before .loop .inv .2) o e (let l : length (c .before .before .before .before .before .before .before .pop .result .heap .seg) ≡ 256 = search needs in l)))
 
 add-k : tie.Need-add-k Inv-loop μ-loop
 add-k c =

@@ -7,7 +7,7 @@ use borrow.Author.Needs.{needs}
 use lib.Seq.{length-take-le}
 use Rattle.places.specs.Places.{rawAt, aliveAt}
 use Rattle.definitions.specs.TimeOrder.{timeOrder}
-use Rattle.time_merge.specs.Order.{placesOf, segmentsAt, ordered, Ready, Rising}
+use Rattle.time_merge.specs.Order.{placesOf, placedSegments, timeWritten, Ready, Rising}
 use Rattle.time_order.proofs.Tables.{take-table, few-records, begins-readable}
 use Rattle.time_order.proofs.order_rows.Statement.{statement}
 use Rattle.time_order.proofs.order_rows.Tie as tie
@@ -120,7 +120,7 @@ returns c =
     let the-args = c .before .before .before .before .before .before .before .before .before .before .before .before .before .before .before .before .before .before .before .before .before .before .before .before .before .before .args in
     let the-fill-places = c .before .before .before .before .before .before .before .before .before .before .before .before .before .before .before .before .before .before .before .before .fill-places in
     let the-fill-alives = c .before .before .before .before .before .before .before .before .before .before .before .before .before .before .before .before .before .fill-alives in
-    (the-merge .ensures .0 ∙ ap₂ (λ (p s : List (List ℕ)). length (timeOrder (segmentsAt p s (the-args .ids .now) (the-args .offsets .now) (the-args .values .now) (the-args .alive .now)))) (take-table (rawAt (the-args .records .now)) (length (the-args .records .now)) (the-fill-places .last .1 .0) _ (the-fill-places .ensures)) (take-table (aliveAt (the-args .records .now)) (length (the-args .records .now)) (the-fill-alives .last .1 .0) _ (the-fill-alives .ensures)), the-merge .ensures .1 .0 ∙ ap₂ (λ (p s : List (List ℕ)). ordered (segmentsAt p s (the-args .ids .now) (the-args .offsets .now) (the-args .values .now) (the-args .alive .now)) (the-args .out .now)) (take-table (rawAt (the-args .records .now)) (length (the-args .records .now)) (the-fill-places .last .1 .0) _ (the-fill-places .ensures)) (take-table (aliveAt (the-args .records .now)) (length (the-args .records .now)) (the-fill-alives .last .1 .0) _ (the-fill-alives .ensures)))
+    (the-merge .ensures .0 ∙ ap₂ (λ (p s : List (List ℕ)). length (timeOrder (placedSegments p s (the-args .ids .now) (the-args .offsets .now) (the-args .values .now) (the-args .alive .now)))) (take-table (rawAt (the-args .records .now)) (length (the-args .records .now)) (the-fill-places .last .1 .0) _ (the-fill-places .ensures)) (take-table (aliveAt (the-args .records .now)) (length (the-args .records .now)) (the-fill-alives .last .1 .0) _ (the-fill-alives .ensures)), the-merge .ensures .1 .0 ∙ ap₂ (λ (p s : List (List ℕ)). timeWritten (placedSegments p s (the-args .ids .now) (the-args .offsets .now) (the-args .values .now) (the-args .alive .now)) (the-args .out .now)) (take-table (rawAt (the-args .records .now)) (length (the-args .records .now)) (the-fill-places .last .1 .0) _ (the-fill-places .ensures)) (take-table (aliveAt (the-args .records .now)) (length (the-args .records .now)) (the-fill-alives .last .1 .0) _ (the-fill-alives .ensures)))
 
 pub order-rows-spec : {M : Type 1} → statement M
 order-rows-spec =

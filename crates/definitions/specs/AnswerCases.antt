@@ -1,0 +1,418 @@
+-- The answers 1 to 11 by small cases (document 01, "Answers of the joiner"): each phrase of the table's rows, with what just passes it, and the order of the
+-- checks. Each table is proved by one computation. Assumes nothing.
+use Prim.Native.Nat.{ℕ, zero, suc}
+use mathlib.Core.Path.{_≡_, refl}
+use mathlib.Core.List.{List, [], _∷_, map}
+use mathlib.Core.Bool.{Bool, true, false}
+use lib.ListN.{length, replicate}
+use Rattle.definitions.specs.Lists.{concat}
+use Rattle.definitions.specs.Segment.{Segment}
+use Rattle.definitions.specs.Answer.{sumsTooLarge}
+use Rattle.definitions.specs.Outcome.{Buffers, Lent, lentOf, numberOf}
+use Rattle.definitions.specs.Book.{lentTo}
+use Rattle.definitions.specs.Sheet.{plain, withAlive, none, full, one, str, dropped, a, b, five, nine, at, memory, call, stacked, inOrder, lending, outcomeOf}
+
+-- ---- how the tables are written
+
+-- a call, and the number that it is answered with
+record Check : Type 0 where
+  number : ℕ
+  lent : Lent
+
+abbrev gives : ℕ → Lent → Check
+gives n l = record { number = n; lent = l }
+
+numberFor : Lent → ℕ
+unfolding outcomeOf
+numberFor l = numberOf (outcomeOf l .answer)
+
+-- one segment, stacked, and no type is required
+abbrev alone : Segment → Lent
+alone s = stacked 255 (s ∷ [])
+
+-- ---- 1: more than 256 segments
+
+segmentChecks : List Check
+segmentChecks = gives 0 (stacked 255 (replicate 256 (none 0))) ∷ gives 1 (stacked 255 (replicate 257 (none 0))) ∷ []
+
+segmentChecks-hold : map (λ c. numberFor (c .lent)) segmentChecks ≡ map (λ c. c .number) segmentChecks
+unfolding numberFor segmentChecks
+segmentChecks-hold = refl
+
+-- ---- 2: section lengths differ from the records' sums, or term bytes from the term lengths' sum
+
+-- one record, Str kind 4 of 2 rows: 2 ids, 3 offsets, 3 values, 1 term, the flag as given; then the sections
+abbrev laid : ℕ → List ℕ → List ℕ → List ℕ → List ℕ → List ℕ → List ℕ → Lent
+laid flag ids offsets values termLengths termBytes alive =
+    lentOf 1 255 ((4 ∷ 4 ∷ 2 ∷ 2 ∷ 3 ∷ 3 ∷ 1 ∷ flag ∷ []) ∷ []) ids offsets values termLengths termBytes alive ((0 ∷ 0 ∷ []) ∷ (0 ∷ 1 ∷ []) ∷ []) (memory 12 12)
+
+lengthChecks : List Check
+lengthChecks =
+    -- as announced; then each section one too short and one too long
+    gives 0 (laid 1 (0 ∷ 1 ∷ []) (0 ∷ 1 ∷ 3 ∷ []) (0 ∷ 0 ∷ 0 ∷ []) (1 ∷ []) (97 ∷ []) (3 ∷ []))
+    ∷ gives 2 (laid 1 (0 ∷ []) (0 ∷ 1 ∷ 3 ∷ []) (0 ∷ 0 ∷ 0 ∷ []) (1 ∷ []) (97 ∷ []) (3 ∷ []))
+    ∷ gives 2 (laid 1 (0 ∷ 1 ∷ 2 ∷ []) (0 ∷ 1 ∷ 3 ∷ []) (0 ∷ 0 ∷ 0 ∷ []) (1 ∷ []) (97 ∷ []) (3 ∷ []))
+    ∷ gives 2 (laid 1 (0 ∷ 1 ∷ []) (0 ∷ 1 ∷ []) (0 ∷ 0 ∷ 0 ∷ []) (1 ∷ []) (97 ∷ []) (3 ∷ []))
+    ∷ gives 2 (laid 1 (0 ∷ 1 ∷ []) (0 ∷ 1 ∷ 3 ∷ 4 ∷ []) (0 ∷ 0 ∷ 0 ∷ []) (1 ∷ []) (97 ∷ []) (3 ∷ []))
+    ∷ gives 2 (laid 1 (0 ∷ 1 ∷ []) (0 ∷ 1 ∷ 3 ∷ []) (0 ∷ 0 ∷ []) (1 ∷ []) (97 ∷ []) (3 ∷ []))
+    ∷ gives 2 (laid 1 (0 ∷ 1 ∷ []) (0 ∷ 1 ∷ 3 ∷ []) (0 ∷ 0 ∷ 0 ∷ 0 ∷ []) (1 ∷ []) (97 ∷ []) (3 ∷ []))
+    ∷ gives 2 (laid 1 (0 ∷ 1 ∷ []) (0 ∷ 1 ∷ 3 ∷ []) (0 ∷ 0 ∷ 0 ∷ []) [] [] (3 ∷ []))
+    ∷ gives 2 (laid 1 (0 ∷ 1 ∷ []) (0 ∷ 1 ∷ 3 ∷ []) (0 ∷ 0 ∷ 0 ∷ []) (1 ∷ 0 ∷ []) (97 ∷ []) (3 ∷ []))
+    ∷ gives 2 (laid 1 (0 ∷ 1 ∷ []) (0 ∷ 1 ∷ 3 ∷ []) (0 ∷ 0 ∷ 0 ∷ []) (2 ∷ []) (97 ∷ []) (3 ∷ []))
+    ∷ gives 2 (laid 1 (0 ∷ 1 ∷ []) (0 ∷ 1 ∷ 3 ∷ []) (0 ∷ 0 ∷ 0 ∷ []) (1 ∷ []) (97 ∷ 97 ∷ []) (3 ∷ []))
+    ∷ gives 2 (laid 1 (0 ∷ 1 ∷ []) (0 ∷ 1 ∷ 3 ∷ []) (0 ∷ 0 ∷ 0 ∷ []) (1 ∷ []) (97 ∷ []) [])
+    ∷ gives 2 (laid 1 (0 ∷ 1 ∷ []) (0 ∷ 1 ∷ 3 ∷ []) (0 ∷ 0 ∷ 0 ∷ []) (1 ∷ []) (97 ∷ []) (3 ∷ 0 ∷ []))
+    -- only flag 1 adds alive words: flag 0 and flag 2 add none
+    ∷ gives 0 (laid 0 (0 ∷ 1 ∷ []) (0 ∷ 1 ∷ 3 ∷ []) (0 ∷ 0 ∷ 0 ∷ []) (1 ∷ []) (97 ∷ []) [])
+    ∷ gives 2 (laid 0 (0 ∷ 1 ∷ []) (0 ∷ 1 ∷ 3 ∷ []) (0 ∷ 0 ∷ 0 ∷ []) (1 ∷ []) (97 ∷ []) (3 ∷ []))
+    ∷ gives 3 (laid 2 (0 ∷ 1 ∷ []) (0 ∷ 1 ∷ 3 ∷ []) (0 ∷ 0 ∷ 0 ∷ []) (1 ∷ []) (97 ∷ []) [])
+    ∷ gives 2 (laid 2 (0 ∷ 1 ∷ []) (0 ∷ 1 ∷ 3 ∷ []) (0 ∷ 0 ∷ 0 ∷ []) (1 ∷ []) (97 ∷ []) (3 ∷ []))
+    ∷ []
+
+lengthChecks-hold : map (λ c. numberFor (c .lent)) lengthChecks ≡ map (λ c. c .number) lengthChecks
+unfolding numberFor lengthChecks
+lengthChecks-hold = refl
+
+-- ---- 3: unknown mode, type, required type, kind or flag; type 255 with a kind or lengths
+
+codeChecks : List Check
+codeChecks =
+    -- modes 0 and 1 are known
+    gives 0 (inOrder 255 [] [])
+    ∷ gives 3 (lentTo (call [] 2 255 []) [])
+    -- the known types, and some that are not, as the required one
+    ∷ gives 0 (stacked 0 [])
+    ∷ gives 0 (stacked 1 [])
+    ∷ gives 0 (stacked 2 [])
+    ∷ gives 0 (stacked 3 [])
+    ∷ gives 0 (stacked 4 [])
+    ∷ gives 0 (stacked 5 [])
+    ∷ gives 3 (stacked 6 [])
+    ∷ gives 0 (stacked 7 [])
+    ∷ gives 3 (stacked 8 [])
+    ∷ gives 3 (stacked 254 [])
+    ∷ gives 3 (stacked 256 [])
+    -- an unknown type, kind and flag, in the second segment
+    ∷ gives 3 (stacked 255 (one 1 5 ∷ full 8 [] ∷ []))
+    ∷ gives 3 (stacked 255 (one 1 5 ∷ plain 1 5 0 [] (0 ∷ []) [] [] ∷ []))
+    ∷ gives 3 (lentOf 0 255 ((255 ∷ 0 ∷ 1 ∷ 0 ∷ 0 ∷ 0 ∷ 0 ∷ 0 ∷ []) ∷ (255 ∷ 0 ∷ 1 ∷ 0 ∷ 0 ∷ 0 ∷ 0 ∷ 2 ∷ []) ∷ []) [] [] [] [] [] [] [] (memory 12 12))
+    -- type 255 with a kind whose lists fit, and with each of the lists
+    ∷ gives 3 (alone (plain 255 1 0 [] [] [] []))
+    ∷ gives 3 (alone (plain 255 2 1 [] [] [] []))
+    ∷ gives 3 (alone (plain 255 0 1 (0 ∷ []) [] [] []))
+    ∷ gives 3 (alone (plain 255 0 1 [] (0 ∷ []) [] []))
+    ∷ gives 3 (alone (plain 255 0 1 [] [] (5 ∷ []) []))
+    ∷ gives 3 (alone (plain 255 0 1 [] [] [] (a ∷ [])))
+    ∷ []
+
+codeChecks-hold : map (λ c. numberFor (c .lent)) codeChecks ≡ map (λ c. c .number) codeChecks
+unfolding numberFor codeChecks
+codeChecks-hold = refl
+
+-- ---- 4: ids not ascending or not below rows; wrong number of ids, offsets or values; offsets not from 0, falling (kind 3) or not rising (kind 4)
+
+listChecks : List Check
+listChecks =
+    -- Empty has no lists
+    gives 0 (alone (plain 1 0 1 [] [] [] []))
+    ∷ gives 4 (alone (plain 1 0 1 (0 ∷ []) [] [] []))
+    ∷ gives 4 (alone (plain 1 0 1 [] (0 ∷ []) [] []))
+    ∷ gives 4 (alone (plain 1 0 1 [] [] (5 ∷ []) []))
+    -- Full has a value for each row, and nothing else
+    ∷ gives 4 (alone (plain 1 1 1 (0 ∷ []) [] (5 ∷ []) []))
+    ∷ gives 4 (alone (plain 1 1 1 [] (0 ∷ []) (5 ∷ []) []))
+    ∷ gives 4 (alone (plain 1 1 2 [] [] (5 ∷ []) []))
+    ∷ gives 4 (alone (plain 1 1 1 [] [] (5 ∷ 6 ∷ []) []))
+    -- Optional has a value for each id, and no offsets
+    ∷ gives 4 (alone (plain 1 2 1 (0 ∷ []) (0 ∷ 1 ∷ []) (5 ∷ []) []))
+    ∷ gives 4 (alone (plain 1 2 2 (0 ∷ 1 ∷ []) [] (5 ∷ []) []))
+    ∷ gives 4 (alone (plain 1 2 2 (0 ∷ []) [] (5 ∷ 6 ∷ []) []))
+    -- its ids ascend, each above the one before it, and are below the rows
+    ∷ gives 4 (alone (plain 1 2 3 (0 ∷ 2 ∷ 1 ∷ []) [] (5 ∷ 6 ∷ 7 ∷ []) []))
+    ∷ gives 4 (alone (plain 1 2 3 (0 ∷ 2 ∷ 2 ∷ []) [] (5 ∷ 6 ∷ 7 ∷ []) []))
+    ∷ gives 4 (alone (plain 1 2 2 (0 ∷ 2 ∷ []) [] (5 ∷ 6 ∷ []) []))
+    -- kind 3 has no ids, and rows + 1 offsets, also of 0 rows
+    ∷ gives 0 (alone (plain 1 3 0 [] (0 ∷ []) [] []))
+    ∷ gives 4 (alone (plain 1 3 0 [] [] [] []))
+    ∷ gives 4 (alone (plain 1 3 1 (0 ∷ []) (0 ∷ 1 ∷ []) (5 ∷ []) []))
+    ∷ gives 4 (alone (plain 1 3 2 [] (0 ∷ 1 ∷ []) (5 ∷ []) []))
+    ∷ gives 4 (alone (plain 1 3 1 [] (0 ∷ 1 ∷ 1 ∷ []) (5 ∷ []) []))
+    -- they begin with 0, do not fall, and end with the number of values
+    ∷ gives 4 (alone (plain 1 3 1 [] (1 ∷ 1 ∷ []) (5 ∷ []) []))
+    ∷ gives 4 (alone (plain 1 3 3 [] (0 ∷ 2 ∷ 1 ∷ 3 ∷ []) (5 ∷ 6 ∷ 7 ∷ []) []))
+    ∷ gives 4 (alone (plain 1 3 1 [] (0 ∷ 1 ∷ []) (5 ∷ 6 ∷ []) []))
+    ∷ gives 4 (alone (plain 1 3 1 [] (0 ∷ 2 ∷ []) (5 ∷ []) []))
+    -- kind 4's ids ascend and are below the rows
+    ∷ gives 4 (alone (plain 1 4 2 (1 ∷ 1 ∷ []) (0 ∷ 1 ∷ 2 ∷ []) (5 ∷ 6 ∷ []) []))
+    ∷ gives 4 (alone (plain 1 4 2 (2 ∷ []) (0 ∷ 1 ∷ []) (5 ∷ []) []))
+    -- one offset more than ids, also of no ids
+    ∷ gives 0 (alone (plain 1 4 1 [] (0 ∷ []) [] []))
+    ∷ gives 4 (alone (plain 1 4 1 [] [] [] []))
+    ∷ gives 4 (alone (plain 1 4 2 (0 ∷ 1 ∷ []) (0 ∷ 2 ∷ []) (5 ∷ 6 ∷ []) []))
+    ∷ gives 4 (alone (plain 1 4 2 (0 ∷ []) (0 ∷ 1 ∷ 2 ∷ []) (5 ∷ 6 ∷ []) []))
+    -- they begin with 0, rise, and end with the number of values
+    ∷ gives 4 (alone (plain 1 4 1 (0 ∷ []) (1 ∷ 2 ∷ []) (5 ∷ 6 ∷ []) []))
+    ∷ gives 4 (alone (plain 1 4 2 (0 ∷ 1 ∷ []) (0 ∷ 0 ∷ 1 ∷ []) (5 ∷ []) []))
+    ∷ gives 4 (alone (plain 1 4 1 (0 ∷ []) (0 ∷ 1 ∷ []) (5 ∷ 6 ∷ []) []))
+    ∷ gives 4 (alone (plain 1 4 1 (0 ∷ []) (0 ∷ 2 ∷ []) (5 ∷ []) []))
+    -- in the second segment
+    ∷ gives 4 (stacked 255 (one 1 5 ∷ plain 1 1 2 [] [] (5 ∷ []) [] ∷ []))
+    ∷ []
+
+listChecks-hold : map (λ c. numberFor (c .lent)) listChecks ≡ map (λ c. c .number) listChecks
+unfolding numberFor listChecks
+listChecks-hold = refl
+
+-- ---- 5: Bool above 1, ordinal not below the terms, terms not strictly ascending, terms on another type or on kind 0
+
+valueChecks : List Check
+valueChecks =
+    -- a Bool above 1, the second value too
+    gives 5 (alone (full 5 (1 ∷ 2 ∷ [])))
+    -- an ordinal not below the terms, of Str and of Bytes, the second value too
+    ∷ gives 5 (alone (str (0 ∷ 1 ∷ []) (a ∷ [])))
+    ∷ gives 5 (alone (plain 3 1 1 [] [] (1 ∷ []) (a ∷ [])))
+    ∷ gives 5 (alone (str (0 ∷ []) []))
+    -- terms ascend strictly and bytewise, each above the one before it
+    ∷ gives 0 (alone (str (0 ∷ []) ([] ∷ a ∷ (97 ∷ 97 ∷ []) ∷ b ∷ (255 ∷ []) ∷ [])))
+    ∷ gives 5 (alone (str (0 ∷ []) (a ∷ a ∷ [])))
+    ∷ gives 5 (alone (str (0 ∷ []) ((97 ∷ 97 ∷ []) ∷ a ∷ [])))
+    ∷ gives 5 (alone (str (0 ∷ []) (a ∷ (99 ∷ []) ∷ b ∷ [])))
+    ∷ gives 5 (alone (str (0 ∷ []) ((255 ∷ []) ∷ a ∷ [])))
+    ∷ gives 5 (alone (plain 3 1 1 [] [] (0 ∷ []) (b ∷ a ∷ [])))
+    -- terms on another type, and on kind 0
+    ∷ gives 5 (alone (plain 1 1 1 [] [] (0 ∷ []) (a ∷ [])))
+    ∷ gives 5 (alone (plain 5 1 1 [] [] (0 ∷ []) (a ∷ [])))
+    ∷ gives 5 (alone (plain 7 1 1 [] [] (0 ∷ []) (a ∷ [])))
+    ∷ gives 5 (alone (plain 4 0 1 [] [] [] (a ∷ [])))
+    ∷ gives 0 (alone (plain 4 0 1 [] [] [] []))
+    -- in the second segment
+    ∷ gives 5 (stacked 255 (one 5 1 ∷ one 5 2 ∷ []))
+    ∷ []
+
+valueChecks-hold : map (λ c. numberFor (c .lent)) valueChecks ≡ map (λ c. c .number) valueChecks
+unfolding numberFor valueChecks
+valueChecks-hold = refl
+
+-- ---- 6: an alive bit past the rows, or an alive set in a stacked join
+
+aliveChecks : List Check
+aliveChecks =
+    -- bit 1 of 1 row, in the second segment; bit 65 of 65 rows
+    gives 6 (inOrder 255 (withAlive (1 ∷ []) (one 1 5) ∷ withAlive (3 ∷ []) (one 1 5) ∷ []) (at 0 0 ∷ at 1 0 ∷ []))
+    ∷ gives 6 (lending (memory 12 65) (inOrder 255 (withAlive (1 ∷ 2 ∷ []) (none 65) ∷ []) (at 0 0 ∷ [])))
+    -- stacked: an alive set of all rows, in the second segment, and one of 0 rows, which has no words
+    ∷ gives 6 (stacked 255 (one 1 5 ∷ withAlive (1 ∷ []) (one 1 5) ∷ []))
+    ∷ gives 6 (stacked 255 (withAlive [] (none 0) ∷ []))
+    ∷ []
+
+aliveChecks-hold : map (λ c. numberFor (c .lent)) aliveChecks ≡ map (λ c. c .number) aliveChecks
+unfolding numberFor aliveChecks
+aliveChecks-hold = refl
+
+-- ---- 7: rows, values or term bytes sum above 4294967294
+
+sumChecks : List Check
+sumChecks =
+    -- rows of no column, of a dropped one, and of two segments
+    gives 7 (inOrder 255 (none 4294967295 ∷ []) [])
+    ∷ gives 7 (inOrder 255 (dropped 1 4294967295 ∷ []) [])
+    ∷ gives 7 (inOrder 255 (none 2147483647 ∷ none 2147483648 ∷ []) [])
+    ∷ []
+
+sumChecks-hold : map (λ c. numberFor (c .lent)) sumChecks ≡ map (λ c. c .number) sumChecks
+unfolding numberFor sumChecks
+sumChecks-hold = refl
+
+-- the check alone: what follows it would list each row
+aboveSum : List Segment → Bool
+unfolding sumsTooLarge
+aboveSum ss = sumsTooLarge ss
+
+-- 4294967294 rows are not too many, of one segment and of two
+fewer-rows : (aboveSum (none 4294967294 ∷ []) ∷ aboveSum (none 2147483647 ∷ none 2147483647 ∷ []) ∷ []) ≡ (false ∷ false ∷ [])
+unfolding aboveSum
+fewer-rows = refl
+
+-- So many values, or term bytes, are no list that can be computed: these hold of any list that is as long, beside a segment with one value and one byte
+many-values : (values : List ℕ) → length values ≡ 4294967294 → aboveSum (plain 4 3 1 [] [] values [] ∷ str (0 ∷ []) (a ∷ []) ∷ []) ≡ true
+unfolding aboveSum
+many-values values h = rw h refl
+
+fewer-values : (values : List ℕ) → length values ≡ 4294967293 → aboveSum (plain 4 3 1 [] [] values [] ∷ str (0 ∷ []) (a ∷ []) ∷ []) ≡ false
+unfolding aboveSum
+fewer-values values h = rw h refl
+
+many-bytes : (terms : List (List ℕ)) → length (concat terms) ≡ 4294967294 → aboveSum (plain 4 3 1 [] [] [] terms ∷ str (0 ∷ []) (a ∷ []) ∷ []) ≡ true
+unfolding aboveSum
+many-bytes terms h = rw h refl
+
+fewer-bytes : (terms : List (List ℕ)) → length (concat terms) ≡ 4294967293 → aboveSum (plain 4 3 1 [] [] [] terms ∷ str (0 ∷ []) (a ∷ []) ∷ []) ≡ false
+unfolding aboveSum
+fewer-bytes terms h = rw h refl
+
+-- ---- 8: ordered, working bytes fewer than all rows plus all terms
+
+workingChecks : List Check
+workingChecks =
+    -- rows plus terms
+    gives 8 (lending (memory 12 2) (inOrder 255 (str (0 ∷ []) (a ∷ b ∷ []) ∷ []) (at 0 0 ∷ [])))
+    ∷ gives 0 (lending (memory 12 3) (inOrder 255 (str (0 ∷ []) (a ∷ b ∷ []) ∷ []) (at 0 0 ∷ [])))
+    -- a term counts once, whatever its bytes
+    ∷ gives 0 (lending (memory 12 2) (inOrder 255 (str (0 ∷ []) ((97 ∷ 97 ∷ []) ∷ []) ∷ []) (at 0 0 ∷ [])))
+    -- of both segments
+    ∷ gives 8 (lending (memory 12 3) (inOrder 255 (str (0 ∷ []) (a ∷ []) ∷ str (0 ∷ []) (a ∷ []) ∷ []) (at 0 0 ∷ at 1 0 ∷ [])))
+    -- a dropped column's terms and rows, withdrawn rows, and rows of no column count
+    ∷ gives 8 (lending (memory 12 1) (inOrder 255 (plain 4 2 1 [] [] [] (a ∷ []) ∷ []) (at 0 0 ∷ [])))
+    ∷ gives 8 (lending (memory 12 1) (inOrder 255 (withAlive (1 ∷ []) (full 1 (5 ∷ 6 ∷ [])) ∷ []) (at 0 0 ∷ [])))
+    ∷ gives 8 (lending (memory 12 1) (inOrder 255 (none 2 ∷ []) (at 0 0 ∷ at 0 1 ∷ [])))
+    -- stacked, none is needed
+    ∷ gives 0 (lending (memory 12 0) (stacked 255 (str (0 ∷ []) (a ∷ []) ∷ [])))
+    ∷ []
+
+workingChecks-hold : map (λ c. numberFor (c .lent)) workingChecks ≡ map (λ c. c .number) workingChecks
+unfolding numberFor workingChecks
+workingChecks-hold = refl
+
+-- ---- 9: an address absent from the segments, withdrawn or repeated; an alive row not listed; any address when stacked
+
+addressChecks : List Check
+addressChecks =
+    -- no such segment, no such row
+    gives 9 (inOrder 255 (one 1 5 ∷ []) (at 0 0 ∷ at 1 0 ∷ []))
+    ∷ gives 9 (inOrder 255 (one 1 5 ∷ []) (at 0 0 ∷ at 0 1 ∷ []))
+    ∷ gives 9 (inOrder 255 [] (at 0 0 ∷ []))
+    -- withdrawn
+    ∷ gives 9 (inOrder 255 (withAlive (1 ∷ []) (full 1 (5 ∷ 6 ∷ [])) ∷ []) (at 0 0 ∷ at 0 1 ∷ []))
+    -- repeated, though all rows are listed
+    ∷ gives 9 (inOrder 255 (one 1 5 ∷ []) (at 0 0 ∷ at 0 0 ∷ []))
+    ∷ gives 9 (inOrder 255 (nine ∷ []) (at 0 0 ∷ at 0 1 ∷ at 0 0 ∷ []))
+    ∷ gives 9 (inOrder 255 (nine ∷ []) (at 0 0 ∷ at 0 1 ∷ at 0 1 ∷ []))
+    -- the same row of two segments is not repeated, nor are two rows of one
+    ∷ gives 0 (inOrder 255 (nine ∷ nine ∷ []) (at 1 0 ∷ at 0 1 ∷ at 0 0 ∷ at 1 1 ∷ []))
+    -- an alive row not listed: the last, the second segment's, one of no column
+    ∷ gives 9 (inOrder 255 (nine ∷ []) (at 0 0 ∷ []))
+    ∷ gives 9 (inOrder 255 (one 1 5 ∷ withAlive (2 ∷ []) nine ∷ []) (at 0 0 ∷ []))
+    ∷ gives 9 (inOrder 255 (one 1 5 ∷ none 1 ∷ []) (at 0 0 ∷ []))
+    -- any address when stacked
+    ∷ gives 9 (lentTo (call [] 0 255 (at 0 0 ∷ [])) (one 1 5 ∷ []))
+    ∷ []
+
+addressChecks-hold : map (λ c. numberFor (c .lent)) addressChecks ≡ map (λ c. c .number) addressChecks
+unfolding numberFor addressChecks
+addressChecks-hold = refl
+
+-- ---- 10: present or required types of two categories, or a held column that can't be coerced
+
+typeChecks : List Check
+typeChecks =
+    -- each type that is not numerical is a category alone
+    gives 10 (stacked 255 (plain 3 1 1 [] [] (0 ∷ []) (a ∷ []) ∷ str (0 ∷ []) (a ∷ []) ∷ []))
+    ∷ gives 10 (stacked 255 (one 1 5 ∷ one 2 5 ∷ plain 3 1 1 [] [] (0 ∷ []) (a ∷ []) ∷ []))
+    ∷ gives 10 (stacked 255 (one 7 5 ∷ one 0 5 ∷ []))
+    ∷ gives 10 (stacked 255 (one 5 1 ∷ one 7 5 ∷ []))
+    ∷ gives 10 (stacked 255 (one 5 1 ∷ one 1 1 ∷ []))
+    -- of dropped columns too
+    ∷ gives 10 (stacked 255 (dropped 3 1 ∷ dropped 4 1 ∷ []))
+    ∷ gives 10 (stacked 255 (one 2 5 ∷ dropped 3 1 ∷ []))
+    ∷ gives 10 (stacked 255 (dropped 7 1 ∷ one 0 5 ∷ []))
+    ∷ gives 10 (stacked 255 (dropped 5 1 ∷ one 1 1 ∷ []))
+    -- the required type's category against a present column, held or dropped
+    ∷ gives 10 (stacked 5 (one 1 1 ∷ []))
+    ∷ gives 10 (stacked 5 (dropped 1 1 ∷ []))
+    ∷ gives 0 (stacked 5 (none 1 ∷ []))
+    ∷ gives 0 (stacked 0 (dropped 2 1 ∷ []))
+    -- a held F64 column becomes no other type
+    ∷ gives 10 (stacked 0 (one 2 0 ∷ []))
+    ∷ gives 10 (stacked 1 (one 2 0 ∷ []))
+    -- a negative I64 value doesn't become U64, the least one and the second value too
+    ∷ gives 10 (stacked 1 (full 0 (5 ∷ 0xffffffffffffffff ∷ []) ∷ []))
+    ∷ gives 10 (stacked 1 (one 1 5 ∷ one 0 0x8000000000000000 ∷ []))
+    -- a U64 value above 9223372036854775807 doesn't become I64, the second one too
+    ∷ gives 10 (stacked 0 (full 1 (5 ∷ 9223372036854775808 ∷ []) ∷ []))
+    ∷ []
+
+typeChecks-hold : map (λ c. numberFor (c .lent)) typeChecks ≡ map (λ c. c .number) typeChecks
+unfolding numberFor typeChecks
+typeChecks-hold = refl
+
+-- ---- 11: an output shorter than its list; for terms and map, than the held columns' sums
+
+-- lent memory: ids, offsets, values, term lengths, term bytes, map
+abbrev lentSpace : ℕ → ℕ → ℕ → ℕ → ℕ → ℕ → Buffers
+lentSpace ids offsets values termLengths termBytes m =
+    record {
+      ids = replicate ids 9;
+      offsets = replicate offsets 9;
+      values = replicate values 9;
+      termLengths = replicate termLengths 9;
+      termBytes = replicate termBytes 9;
+      map = replicate m 9;
+      working = replicate 12 9;
+    }
+
+-- Str kind 3, 2 rows of 2 and no values, terms aa b: 1 id, 2 offsets, 2 values, 2 terms of 3 bytes, a map of 2
+abbrev multi : Lent
+multi = alone (plain 4 3 2 [] (0 ∷ 2 ∷ 2 ∷ []) (0 ∷ 1 ∷ []) ((97 ∷ 97 ∷ []) ∷ b ∷ []))
+
+-- two segments with term a each: 2 values, 1 term, and sums of 2
+abbrev twice : Lent
+twice = stacked 255 (str (0 ∷ []) (a ∷ []) ∷ str (0 ∷ []) (a ∷ []) ∷ [])
+
+spaceChecks : List Check
+spaceChecks =
+    -- as much as the lists need, and each output one element shorter
+    gives 0 (lending (lentSpace 1 2 2 2 3 2) multi)
+    ∷ gives 11 (lending (lentSpace 0 2 2 2 3 2) multi)
+    ∷ gives 11 (lending (lentSpace 1 1 2 2 3 2) multi)
+    ∷ gives 11 (lending (lentSpace 1 2 1 2 3 2) multi)
+    ∷ gives 11 (lending (lentSpace 1 2 2 1 3 2) multi)
+    ∷ gives 11 (lending (lentSpace 1 2 2 2 2 2) multi)
+    ∷ gives 11 (lending (lentSpace 1 2 2 2 3 1) multi)
+    -- terms and map by the held columns' sums, not by the joined terms
+    ∷ gives 0 (lending (lentSpace 0 0 2 2 2 2) twice)
+    ∷ gives 11 (lending (lentSpace 0 0 2 1 2 2) twice)
+    ∷ gives 11 (lending (lentSpace 0 0 2 2 1 2) twice)
+    ∷ gives 11 (lending (lentSpace 0 0 2 2 2 1) twice)
+    -- a dropped column's terms need no space
+    ∷ gives 0 (lending (lentSpace 1 0 1 1 1 1) (stacked 255 (plain 4 2 1 [] [] [] (a ∷ []) ∷ str (0 ∷ []) (b ∷ []) ∷ [])))
+    -- terms that are not kept do
+    ∷ gives 11 (lending (lentSpace 0 0 1 1 2 2) (inOrder 255 (withAlive (2 ∷ []) (str (0 ∷ 1 ∷ []) (a ∷ b ∷ [])) ∷ []) (at 0 1 ∷ [])))
+    ∷ gives 11 (lending (lentSpace 0 0 1 2 1 2) (inOrder 255 (withAlive (2 ∷ []) (str (0 ∷ 1 ∷ []) (a ∷ b ∷ [])) ∷ []) (at 0 1 ∷ [])))
+    -- withdrawn values need none
+    ∷ gives 0 (lending (lentSpace 0 0 1 0 0 0) (inOrder 255 (withAlive (4 ∷ []) five ∷ []) (at 0 2 ∷ [])))
+    ∷ []
+
+spaceChecks-hold : map (λ c. numberFor (c .lent)) spaceChecks ≡ map (λ c. c .number) spaceChecks
+unfolding numberFor spaceChecks
+spaceChecks-hold = refl
+
+-- ---- checks run in number order, each over all segments: of two that fail the first one answers
+
+orderChecks : List Check
+orderChecks =
+    -- 1 and 2: 257 records that announce a value each
+    gives 1 (lentOf 0 255 (replicate 257 (1 ∷ 1 ∷ 1 ∷ 0 ∷ 0 ∷ 1 ∷ 0 ∷ 0 ∷ [])) [] [] [] [] [] [] [] (memory 12 12))
+    -- 2 and 3: type 6 with a value that is not there
+    ∷ gives 2 (lentOf 0 255 ((6 ∷ 1 ∷ 1 ∷ 0 ∷ 0 ∷ 1 ∷ 0 ∷ 0 ∷ []) ∷ []) [] [] [] [] [] [] [] (memory 12 12))
+    -- 3 and 4: the first segment has a value too few, and the second has type 6
+    ∷ gives 3 (stacked 255 (plain 1 1 2 [] [] (5 ∷ []) [] ∷ one 6 5 ∷ []))
+    -- 4 and 5: the first has a Bool above 1, and the second a value too few
+    ∷ gives 4 (stacked 255 (one 5 2 ∷ plain 5 1 2 [] [] (1 ∷ []) [] ∷ []))
+    -- 5 and 6: the first has an alive set, and the second a Bool above 1
+    ∷ gives 5 (stacked 255 (withAlive (1 ∷ []) (one 5 1) ∷ one 5 2 ∷ []))
+    -- 6 and 7: the first has too many rows, and the second an alive bit past its rows
+    ∷ gives 6 (inOrder 255 (none 4294967295 ∷ withAlive (2 ∷ []) (one 1 5) ∷ []) [])
+    -- 7 and 8
+    ∷ gives 7 (inOrder 255 (none 4294967295 ∷ []) [])
+    -- 8 and 9: 2 rows and 1 byte, and none listed
+    ∷ gives 8 (lending (memory 12 1) (inOrder 255 (nine ∷ []) []))
+    -- 9 and 10: none listed, of Str and Bool
+    ∷ gives 9 (inOrder 255 (str (0 ∷ []) (a ∷ []) ∷ one 5 1 ∷ []) [])
+    -- 10 and 11: no space, of Str and Bool
+    ∷ gives 10 (lending (memory 0 12) (stacked 255 (str (0 ∷ []) (a ∷ []) ∷ one 5 1 ∷ [])))
+    ∷ []
+
+orderChecks-hold : map (λ c. numberFor (c .lent)) orderChecks ≡ map (λ c. c .number) orderChecks
+unfolding numberFor orderChecks
+orderChecks-hold = refl

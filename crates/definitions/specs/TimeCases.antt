@@ -1,0 +1,107 @@
+-- The time order by small cases (document 01, "Time order"), and its answers. Each table is proved by one computation. Assumes nothing.
+use Prim.Native.Nat.{ℕ, zero, suc}
+use mathlib.Core.Path.{_≡_, refl}
+use mathlib.Core.List.{List, [], _∷_, map}
+use lib.ListN.{length, replicate}
+use Rattle.definitions.specs.Segment.{Segment, Address}
+use Rattle.definitions.specs.TimeOrder.{sorted, unsorted, TimeOutcome}
+use Rattle.definitions.specs.Sheet.{plain, withAlive, none, full, one, dropped, at, timeSheetOf}
+
+-- ---- how the tables are written
+
+record TimeCase : Type 0 where
+  segments : List Segment
+  space : ℕ
+  expected : TimeOutcome
+
+-- the segments' order; the output has place for it, and no more
+abbrev sortedAs : List Segment → List Address → TimeCase
+sortedAs ss addresses = record { segments = ss; space = length addresses; expected = record { answer = sorted (length addresses); addresses = addresses } }
+
+-- a refusal of a call with place for so many addresses, which changes none
+abbrev unsortedBy : ℕ → List Segment → ℕ → TimeCase
+unsortedBy n ss space = record { segments = ss; space = space; expected = record { answer = unsorted n; addresses = replicate space (at 9 9) } }
+
+-- ---- the order
+
+orderCases : List TimeCase
+orderCases =
+    -- no segments
+    sortedAs [] []
+    -- by key first; a time is signed: -1 is before 0
+    ∷ sortedAs (full 7 (0 ∷ 5 ∷ []) ∷ full 7 (0xffffffffffffffff ∷ 4 ∷ []) ∷ []) (at 1 0 ∷ at 0 0 ∷ at 1 1 ∷ at 0 1 ∷ [])
+    -- then by segment, then by row
+    ∷ sortedAs (full 7 (1 ∷ 5 ∷ []) ∷ full 7 (5 ∷ []) ∷ []) (at 0 0 ∷ at 0 1 ∷ at 1 0 ∷ [])
+    ∷ sortedAs (full 7 (5 ∷ 5 ∷ []) ∷ []) (at 0 0 ∷ at 0 1 ∷ [])
+    -- a row without a time has the last time before it
+    ∷ sortedAs (plain 7 2 3 (0 ∷ 1 ∷ []) [] (10 ∷ 20 ∷ []) [] ∷ one 7 15 ∷ []) (at 0 0 ∷ at 1 0 ∷ at 0 1 ∷ at 0 2 ∷ [])
+    -- else it stands before all times, the least one too; so does a row of no column
+    ∷ sortedAs (one 7 0x8000000000000000 ∷ plain 7 2 2 (1 ∷ []) [] (5 ∷ []) [] ∷ none 1 ∷ []) (at 1 0 ∷ at 2 0 ∷ at 0 0 ∷ at 1 1 ∷ [])
+    -- a withdrawn row is not listed and still gives its time
+    ∷ sortedAs (one 7 0 ∷ withAlive (2 ∷ []) (plain 7 2 2 (0 ∷ []) [] (5 ∷ []) []) ∷ []) (at 0 0 ∷ at 1 1 ∷ [])
+    -- kinds 3 and 4
+    ∷ sortedAs (plain 7 3 2 [] (0 ∷ 0 ∷ 1 ∷ []) (5 ∷ []) [] ∷ plain 7 4 2 (1 ∷ []) (0 ∷ 1 ∷ []) (4 ∷ []) [] ∷ []) (at 0 0 ∷ at 1 0 ∷ at 1 1 ∷ at 0 1 ∷ [])
+    ∷ []
+
+orderCases-hold : map (λ c. timeSheetOf (c .segments) (c .space)) orderCases ≡ map (λ c. c .expected) orderCases
+unfolding timeSheetOf orderCases
+orderCases-hold = refl
+
+-- ---- 1 to 7, and 11: an output shorter than the list. "And n after it": that check fails too, and is not the answer
+
+answerCases : List TimeCase
+answerCases =
+    -- 1, and 2 after it: an alive set without its word
+    unsortedBy 1 (replicate 257 (withAlive [] (one 7 5))) 0
+    ∷ sortedAs (replicate 256 (none 0)) []
+    -- 2, and 3 after it
+    ∷ unsortedBy 2 (withAlive [] (one 6 5) ∷ []) 1
+    -- 3: an unknown type; type 255 with a kind; 4 after it
+    ∷ unsortedBy 3 (one 6 5 ∷ []) 1
+    ∷ unsortedBy 3 (plain 255 1 0 [] [] [] [] ∷ []) 0
+    ∷ unsortedBy 3 (plain 6 1 2 [] [] (5 ∷ []) [] ∷ []) 2
+    -- 4: too few values; 5 after it
+    ∷ unsortedBy 4 (plain 5 1 2 [] [] (2 ∷ []) [] ∷ []) 2
+    -- 5: a Bool above 1; 6 after it
+    ∷ unsortedBy 5 (withAlive (2 ∷ []) (one 5 2) ∷ []) 1
+    -- 6: a bit past the rows; 7 after it
+    ∷ unsortedBy 6 (none 4294967295 ∷ withAlive (2 ∷ []) (one 7 5) ∷ []) 1
+    -- 7, and 11 after it
+    ∷ unsortedBy 7 (none 4294967295 ∷ []) 2
+    -- 11, and 12 after it: one place too few, for times that fall
+    ∷ unsortedBy 11 (full 7 (5 ∷ 4 ∷ []) ∷ []) 1
+    ∷ unsortedBy 11 (none 1 ∷ []) 0
+    -- a withdrawn row needs no place
+    ∷ sortedAs (withAlive (1 ∷ []) (full 7 (5 ∷ 6 ∷ [])) ∷ []) (at 0 0 ∷ [])
+    ∷ []
+
+answerCases-hold : map (λ c. timeSheetOf (c .segments) (c .space)) answerCases ≡ map (λ c. c .expected) answerCases
+unfolding timeSheetOf answerCases
+answerCases-hold = refl
+
+-- ---- 12: another type, a row of several times, or times falling within a segment
+
+timeChecks : List TimeCase
+timeChecks =
+    -- another type, in the second segment, and of a column without values
+    unsortedBy 12 (one 7 5 ∷ one 0 5 ∷ []) 2
+    ∷ unsortedBy 12 (dropped 1 1 ∷ []) 1
+    -- a row of several times, though they are equal; a withdrawn one
+    ∷ unsortedBy 12 (plain 7 3 1 [] (0 ∷ 2 ∷ []) (5 ∷ 5 ∷ []) [] ∷ []) 1
+    ∷ unsortedBy 12 (withAlive (1 ∷ []) (plain 7 3 2 [] (0 ∷ 1 ∷ 3 ∷ []) (5 ∷ 6 ∷ 6 ∷ []) []) ∷ []) 1
+    -- times that fall, each against the one before it, over a row without a time
+    ∷ unsortedBy 12 (full 7 (4 ∷ 6 ∷ 5 ∷ []) ∷ []) 3
+    ∷ unsortedBy 12 (plain 7 2 3 (0 ∷ 2 ∷ []) [] (5 ∷ 4 ∷ []) [] ∷ []) 3
+    -- the times of withdrawn rows too
+    ∷ unsortedBy 12 (withAlive (1 ∷ []) (full 7 (5 ∷ 4 ∷ [])) ∷ []) 2
+    ∷ unsortedBy 12 (withAlive (2 ∷ []) (full 7 (5 ∷ 4 ∷ [])) ∷ []) 2
+    -- from 0 to -1 is falling, from -1 to 0 is not
+    ∷ unsortedBy 12 (full 7 (0 ∷ 0xffffffffffffffff ∷ []) ∷ []) 2
+    ∷ sortedAs (full 7 (0xffffffffffffffff ∷ 0 ∷ []) ∷ []) (at 0 0 ∷ at 0 1 ∷ [])
+    -- from one segment to the next they may fall
+    ∷ sortedAs (one 7 5 ∷ one 7 4 ∷ []) (at 1 0 ∷ at 0 0 ∷ [])
+    ∷ []
+
+timeChecks-hold : map (λ c. timeSheetOf (c .segments) (c .space)) timeChecks ≡ map (λ c. c .expected) timeChecks
+unfolding timeSheetOf timeChecks
+timeChecks-hold = refl
