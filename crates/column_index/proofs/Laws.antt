@@ -1,22 +1,24 @@
 -- Rank and membership in ascending ids, and a row's range by the segment's kind. Assumes nothing.
 use Prim.Native.Nat.{ℕ, zero, suc, _+_, _-_, _≤_, _<_, zero-le, suc-le-suc}
-use native.Mathlib.Nat.{le-of-suc-le-suc, not-suc-le-zero, le-refl, le-trans, le-suc}
+use native.Mathlib.Nat.{le-of-suc-le-suc, not-suc-le-zero, le-refl}
 use native.Mathlib.Numerals.{add-one}
 use native.Mathlib.Omega.{arith}
-use mathlib.Core.Path.{_≡_, refl, sym, ap, ap₂, _∙_, subst}
-use mathlib.Core.List.{List, [], _∷_}
-use mathlib.Core.Bool.{Bool, true, false, cond, _||_, _&&_, false≢true}
-use lib.ListN.{length, getD, take, drop}
-use lib.Seq.{slice, length-slice}
-use lib.Dec.{T, eqb, ltb, leb, ltb→lt, nltb→le, eqb→eq, eqb-refl}
+use mathlib.Core.Path.{_≡_, refl, sym, ap, _∙_}
+use mathlib.Core.List.{List, [], _∷_, Memᴰ·cast}
+use mathlib.Core.Bool.{Bool, true, false, cond, _||_, false≢true}
+use lib.ListN.{length, getD}
+use lib.Seq.{slice}
+use lib.Dec.{T, eqb, ltb, leb, ltb→lt}
 use lib.Ieee.Fits.{and-l, and-r}
-use lib.Ieee.Bits.{is-true, is-false}
-use borrow.Author.Tests.{lt-ltb, le-ltb, eq-eqb, ne-eqb, ltb-true, ltb-false, eqb-true, eqb-false, leb-true, leb-false}
-use Rattle.definitions.specs.Lists.{any, elem, all, count, ascending, ascendingFrom, notFalling, notFallingFrom, last, isEmpty}
-use Rattle.definitions.specs.Segment.{Segment, byKind}
-use Rattle.definitions.specs.Row.{rank, rowValues, oneAt, between, ifListed}
+use borrow.Author.Tests.{lt-ltb, le-ltb, ne-eqb, ltb-true, ltb-false, eqb-true, eqb-false, leb-true, leb-false}
+use Rattle.definitions.specs.Lists.{elem, ascending, ascendingFrom}
+use Rattle.definitions.specs.Segment.{Segment}
+use Rattle.definitions.specs.Row.{rank, rowValues}
 use Rattle.definitions.proofs.Fit.{rank-lt, rank-le}
-use Rattle.column_index.specs.Lookup.{rankIn, lesser, isIn, startOf, endOf, Readable}
+use Rattle.column_index.specs.Lookup.{rankIn, lesser, isIn, startOf, endOf}
+use Rattle.definitions.proofs.Lists.{mem-elem, mem-at}
+use mathlib.Core.Logic.{_⊎_, inl, inr}
+use Rattle.lists.proofs.Numbers.{le-lt}
 
 -- ---- ascending lists
 
@@ -115,33 +117,23 @@ module _ (row : ℕ) (ids : List ℕ) (h : T (ascending ids)) where
   reaches-suc : (j : ℕ) → (length ids < suc j → ⊥) → ltb (getD ids j 0) row ≡ leb (suc j) (rankIn row ids)
   reaches-suc j l = leb-is (ltb (getD ids j 0) row) (suc j) (rankIn row ids) yes no
     where
+      inside : (j < length ids) ⊎ (length ids ≤ j) → j < length ids
+      inside (inl e) = e
+      inside (inr e) = absurd (l (suc-le-suc e))
+
       yes : ltb (getD ids j 0) row ≡ true → suc j ≤ rankIn row ids
-      yes q = go (leb (suc j) (rankIn row ids)) refl
+      yes q = go (le-lt j (rankIn row ids))
         where
-          go : (b : Bool) → leb (suc j) (rankIn row ids) ≡ b → suc j ≤ rankIn row ids
-          go true e = leb-true (suc j) (rankIn row ids) e
-          go false e =
-              let a = ltb-true (getD ids j 0) row q in
-              let i : j < length ids = not-past in
-              let z = above-rank j (let y = leb-false (suc j) (rankIn row ids) e in omega arith) i in
-              absurd (omega arith)
-            where
-              not-past : j < length ids
-              not-past = inside (leb (suc j) (length ids)) refl
-                where
-                  inside : (b : Bool) → leb (suc j) (length ids) ≡ b → j < length ids
-                  inside true e = leb-true (suc j) (length ids) e
-                  inside false e = absurd (l (leb-false (suc j) (length ids) e))
+          go : (j < rankIn row ids) ⊎ (rankIn row ids ≤ j) → suc j ≤ rankIn row ids
+          go (inl e) = e
+          go (inr e) = let a = ltb-true (getD ids j 0) row q in let z = above-rank j e (inside (le-lt j (length ids))) in absurd (omega arith)
 
       no : ltb (getD ids j 0) row ≡ false → rankIn row ids < suc j
-      no q = go (leb (suc j) (rankIn row ids)) refl
+      no q = go (le-lt j (rankIn row ids))
         where
-          go : (b : Bool) → leb (suc j) (rankIn row ids) ≡ b → rankIn row ids < suc j
-          go false e = leb-false (suc j) (rankIn row ids) e
-          go true e =
-              let a = ltb-false (getD ids j 0) row q in
-              let z = below-rank j (leb-true (suc j) (rankIn row ids) e) in
-              absurd (omega arith)
+          go : (j < rankIn row ids) ⊎ (rankIn row ids ≤ j) → rankIn row ids < suc j
+          go (inl e) = let a = ltb-false (getD ids j 0) row q in let z = below-rank j e in absurd (omega arith)
+          go (inr e) = suc-le-suc e
 
   pub reaches-at : (k : ℕ) → (k ≡ 0 → ⊥) → (length ids < k → ⊥) → ltb (getD ids (k - 1) 0) row ≡ leb k (rankIn row ids)
   reaches-at zero n l = absurd (n refl)
@@ -151,19 +143,19 @@ module _ (row : ℕ) (ids : List ℕ) (h : T (ascending ids)) where
 
   -- an id that is not below the row is not before the rank
   pub rank-most : (k : ℕ) → row ≤ getD ids k 0 → rankIn row ids ≤ k
-  rank-most k l = go (leb (suc k) (rankIn row ids)) refl
+  rank-most k l = go (le-lt k (rankIn row ids))
     where
-      go : (b : Bool) → leb (suc k) (rankIn row ids) ≡ b → rankIn row ids ≤ k
-      go true e = let z = below-rank k (leb-true (suc k) (rankIn row ids) e) in absurd (omega arith)
-      go false e = let z = leb-false (suc k) (rankIn row ids) e in omega arith
+      go : (k < rankIn row ids) ⊎ (rankIn row ids ≤ k) → rankIn row ids ≤ k
+      go (inl e) = let z = below-rank k e in absurd (omega arith)
+      go (inr e) = e
 
   -- and one that is, is
   pub rank-least : (k : ℕ) → k < length ids → getD ids k 0 < row → k < rankIn row ids
-  rank-least k i l = go (leb (suc k) (rankIn row ids)) refl
+  rank-least k i l = go (le-lt k (rankIn row ids))
     where
-      go : (b : Bool) → leb (suc k) (rankIn row ids) ≡ b → k < rankIn row ids
-      go true e = leb-true (suc k) (rankIn row ids) e
-      go false e = let z = above-rank k (let y = leb-false (suc k) (rankIn row ids) e in omega arith) i in absurd (omega arith)
+      go : (k < rankIn row ids) ⊎ (rankIn row ids ≤ k) → k < rankIn row ids
+      go (inl e) = e
+      go (inr e) = let z = above-rank k e i in absurd (omega arith)
 
 -- ---- the lesser of two numbers
 
@@ -223,13 +215,7 @@ found row (x ∷ xs) h e = go (ltb x row) refl (λ t. found row xs (asc-tail x x
         rw (rank-none row x xs h (omega arith)) (here (eqb row x) refl l e)
 
 is-here : (row : ℕ) (ids : List ℕ) (k : ℕ) → k < length ids → getD ids k 0 ≡ row → elem row ids ≡ true
-is-here row [] k h e = absurd (not-suc-le-zero h)
-is-here row (x ∷ xs) zero h e = rw (eq-eqb row x (sym e))
-is-here row (x ∷ xs) (suc k) h e = rw (is-here row xs k (le-of-suc-le-suc h) e) (or-true (eqb row x))
-  where
-    or-true : (b : Bool) → b || true ≡ true
-    or-true true = refl
-    or-true false = refl
+is-here row ids k h e = mem-elem row ids (Memᴰ·cast (sym e) (mem-at ids k 0 h))
 
 bool-false : (b : Bool) → (b ≡ true → ⊥) → b ≡ false
 bool-false true f = absurd (f refl)

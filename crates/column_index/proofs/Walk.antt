@@ -1,23 +1,24 @@
 -- All rows of a sound segment: their values one after another are the segment's values, and their widths sum up to the number of values.
 -- What check 4 says of a segment is that it is sound. Assumes nothing.
-use Prim.Native.Nat.{ℕ, zero, suc, _+_, _-_, _≤_, _<_, zero-le, suc-le-suc}
-use native.Mathlib.Nat.{le-of-suc-le-suc, not-suc-le-zero, le-refl, le-trans, le-suc, add-zero, zero-add, add-suc, suc-add}
+use Prim.Native.Nat.{ℕ, zero, suc, _+_, _-_, _≤_, _<_, zero-le}
+use native.Mathlib.Nat.{le-refl, le-trans, le-suc, add-zero, zero-add}
 use native.Mathlib.Omega.{arith}
-use mathlib.Core.Path.{_≡_, refl, sym, ap, ap₂, _∙_, subst}
+use mathlib.Core.Path.{_≡_, refl, sym, ap, _∙_, subst}
 use mathlib.Core.List.{List, [], _∷_, _++_, map}
-use mathlib.Core.Bool.{Bool, true, false, cond, not, _||_, _&&_, false≢true}
+use mathlib.Core.Bool.{Bool, true, false, cond}
 use lib.ListN.{length, getD, take, drop, take-append-drop}
-use lib.Seq.{slice, slice-empty, take-take, take-length, take-all, drop-append-le, length-take-le}
-use lib.Dec.{T, eqb, ltb, leb, eqb→eq}
+use lib.Seq.{slice, slice-empty, take-take, take-length, drop-append-le, length-take-le}
+use lib.Dec.{T, eqb, ltb, eqb→eq}
 use lib.Ieee.Fits.{and-l, and-r}
 use Rattle.definitions.specs.Lists.{elem, all, ascending, notFalling, last, isEmpty, upFrom, upTo, concat, sum}
 use Rattle.definitions.specs.Segment.{Segment, byKind}
-use Rattle.definitions.specs.Row.{rank, rowValues}
+use Rattle.definitions.specs.Row.{rank}
 use Rattle.definitions.specs.Answer.{listsFit, emptyFits, fullFits, optionalFits, oldFits, newFits, idsFit, offsetsFit}
-use Rattle.definitions.proofs.Fit.{and3, and4, rank-lt}
+use Rattle.definitions.proofs.Fit.{rank-lt}
 use Rattle.column_index.specs.Lookup.{rankIn, isIn, startOf, endOf, widthOf, Readable, Sound}
-use Rattle.column_index.proofs.Laws.{row-slice}
-use Rattle.column_index.proofs.Sound.{cursorOf, at-new, cell-cursor, width-cursor, cursor-zero, cursor-end, cursor-le, cursor-step, fall-step, asc-fall, rank-suc}
+use Rattle.column_index.proofs.Sound.{earlierOf, at-new, cell-earlier, width-earlier, earlier-zero, earlier-end, earlier-le, earlier-step, fall-step, asc-fall, rank-suc}
+use Rattle.definitions.proofs.Lists.{and3, and4, map-mem}
+use Rattle.lists.proofs.Lists.{none-is}
 
 -- ---- slices that follow one another
 
@@ -46,10 +47,6 @@ walk-sum p k (suc m) up =
     let e : p (suc k + m) ≡ p (k + suc m) = ap p (omega arith) in
     omega arith
 
-pub map-same : {A B : Type 0} (f g : A → B) (l : List A) → ((x : A) → f x ≡ g x) → map f l ≡ map g l
-map-same f g [] e = refl
-map-same f g (x ∷ xs) e = ap₂ (λ y ys. y ∷ ys) (e x) (map-same f g xs e)
-
 slice-whole : (a b : ℕ) (vs : List ℕ) → a ≡ 0 → b ≡ length vs → slice a b vs ≡ vs
 slice-whole a b vs e f = rw (e, f) (take-length vs)
 
@@ -57,28 +54,23 @@ module _ {kind rows : ℕ} {ids offsets : List ℕ} where
   pub walk-values : (vs : List ℕ) → Sound kind rows (length vs) ids offsets
       → concat (map (λ r. slice (startOf kind ids offsets r) (endOf kind ids offsets r) vs) (upTo rows)) ≡ vs
   walk-values vs s =
-      let t = walk-slices (cursorOf kind ids offsets) vs 0 rows (λ r h. cursor-step s r (omega arith)) (λ r h. cursor-le s r (omega arith)) in
-      ap concat (map-same (λ r. slice (startOf kind ids offsets r) (endOf kind ids offsets r) vs) (λ r. slice (cursorOf kind ids offsets r) (cursorOf kind ids offsets (suc r)) vs) (upTo rows) (λ r. cell-cursor kind ids offsets vs r (s .ascends)))
+      let t = walk-slices (earlierOf kind ids offsets) vs 0 rows (λ r h. earlier-step s r (omega arith)) (λ r h. earlier-le s r (omega arith)) in
+      ap concat (map-mem (λ r. slice (startOf kind ids offsets r) (endOf kind ids offsets r) vs) (λ r. slice (earlierOf kind ids offsets r) (earlierOf kind ids offsets (suc r)) vs) (upTo rows) (λ r m. cell-earlier kind ids offsets vs r (s .ascends)))
       ∙ t .1
-      ∙ slice-whole (cursorOf kind ids offsets 0) (cursorOf kind ids offsets (0 + rows)) vs (cursor-zero s) (ap (cursorOf kind ids offsets) (zero-add rows) ∙ cursor-end s)
+      ∙ slice-whole (earlierOf kind ids offsets 0) (earlierOf kind ids offsets (0 + rows)) vs (earlier-zero s) (ap (earlierOf kind ids offsets) (zero-add rows) ∙ earlier-end s)
 
   pub walk-widths : {n : ℕ} → Sound kind rows n ids offsets → sum (map (widthOf kind ids offsets) (upTo rows)) ≡ n
   walk-widths {n} s =
-      let t = walk-sum (cursorOf kind ids offsets) 0 rows (λ r h. cursor-step s r (omega arith)) in
-      let z = cursor-zero s in
-      let e : cursorOf kind ids offsets (0 + rows) ≡ n = ap (cursorOf kind ids offsets) (zero-add rows) ∙ cursor-end s in
-      ap sum (map-same (widthOf kind ids offsets) (λ r. cursorOf kind ids offsets (suc r) - cursorOf kind ids offsets r) (upTo rows) (λ r. width-cursor kind ids offsets r (s .ascends)))
+      let t = walk-sum (earlierOf kind ids offsets) 0 rows (λ r h. earlier-step s r (omega arith)) in
+      let z = earlier-zero s in
+      let e : earlierOf kind ids offsets (0 + rows) ≡ n = ap (earlierOf kind ids offsets) (zero-add rows) ∙ earlier-end s in
+      ap sum (map-mem (widthOf kind ids offsets) (λ r. earlierOf kind ids offsets (suc r) - earlierOf kind ids offsets r) (upTo rows) (λ r m. width-earlier kind ids offsets r (s .ascends)))
       ∙ (omega arith)
 
 -- ---- what check 4 says
 
-none-length : (l : List ℕ) → T (isEmpty l) → length l ≡ 0
-none-length [] h = refl
-none-length (x ∷ xs) h = absurd h
-
 none-ascends : (l : List ℕ) → T (isEmpty l) → T (ascending l)
-none-ascends [] h = tt
-none-ascends (x ∷ xs) h = absurd h
+none-ascends l h = subst (λ (x : List ℕ). T (ascending x)) (sym (none-is l h)) tt
 
 first-zero : (l : List ℕ) → T (eqb (getD l 0 1) 0) → getD l 0 0 ≡ 0
 first-zero [] h = refl
@@ -89,7 +81,7 @@ unfolding listsFit emptyFits fullFits optionalFits oldFits newFits idsFit offset
 fits-sound s fit =
     record {
       ascends = asc (s .kind) fit;
-      empty = λ e. none-length (s .values) (and3 (isEmpty (s .ids)) (isEmpty (s .offsets)) (isEmpty (s .values)) (at 0 e) .2);
+      empty = λ e. ap length (none-is (s .values) (and3 (isEmpty (s .ids)) (isEmpty (s .offsets)) (isEmpty (s .values)) (at 0 e) .2));
       full = λ e. eqb→eq (length (s .values)) (s .rows) (and3 (isEmpty (s .ids)) (isEmpty (s .offsets)) (eqb (length (s .values)) (s .rows)) (at 1 e) .2);
       optional = λ e.
           let t = and3 (idsFit s) (isEmpty (s .offsets)) (eqb (length (s .values)) (length (s .ids))) (at 2 e) in
@@ -165,8 +157,8 @@ module _ {kind rows n : ℕ} {ids offsets : List ℕ} (s : Sound kind rows n ids
           rw (at-new {A = ℕ} k 0 r 0 (getD offsets r 0) 0, at-new {A = ℕ} k 0 (suc r) 0 (getD offsets (suc r) 0) 0) zero-le
 
   pub sound-inside : endOf kind ids offsets r ≤ n
-  unfolding endOf rankIn isIn cursorOf
-  sound-inside = go (eqb kind 0) (eqb kind 1) (eqb kind 2) (eqb kind 3) (elem r ids) (rw (rank-suc r ids (s .ascends)) at (cursor-le s (suc r) h))
+  unfolding endOf rankIn isIn earlierOf
+  sound-inside = go (eqb kind 0) (eqb kind 1) (eqb kind 2) (eqb kind 3) (elem r ids) (rw (rank-suc r ids (s .ascends)) at (earlier-le s (suc r) h))
     where
       k : ℕ
       k = rank r ids

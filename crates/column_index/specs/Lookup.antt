@@ -1,13 +1,13 @@
 -- Where a row's values stand among its segment's values, by the segment's kind, row ids and offsets (document 01, "The join", first point). Assumes nothing.
-use Prim.Native.Nat.{ℕ, zero, suc, _+_, _-_, _*_, _≤_, _<_}
+use Prim.Native.Nat.{ℕ, suc, _+_, _-_, _≤_, _<_}
 use mathlib.Core.Path.{_≡_}
-use mathlib.Core.List.{List, [], _∷_}
-use mathlib.Core.Bool.{Bool, true, false, cond}
+use mathlib.Core.List.{List}
+use mathlib.Core.Bool.{Bool, cond}
 use lib.ListN.{length, getD}
 use lib.Dec.{T, ltb}
-use Rattle.definitions.specs.Lists.{elem, all, count, upTo, ascending, notFalling, last}
+use Rattle.definitions.specs.Lists.{elem, all, ascending, notFalling, last}
 use Rattle.definitions.specs.Segment.{byKind}
-use Rattle.definitions.specs.Row.{rank, bitAt}
+use Rattle.definitions.specs.Row.{rank}
 
 -- the definitions' rank and membership, kept shut
 unfoldable pub rankIn : ℕ → List ℕ → ℕ
@@ -54,7 +54,3 @@ pub record Sound (kind rows count : ℕ) (ids offsets : List ℕ) : Type 0 where
   pub optional : kind ≡ 2 → T (all (λ n. ltb n rows) ids) × (count ≡ length ids)
   pub old : kind ≡ 3 → (length offsets ≡ suc rows) × (getD offsets 0 0 ≡ 0) × (last offsets ≡ count) × T (notFalling offsets)
   pub new : 4 ≤ kind → T (all (λ n. ltb n rows) ids) × (length offsets ≡ suc (length ids)) × (getD offsets 0 0 ≡ 0) × (last offsets ≡ count) × T (ascending offsets)
-
--- how many rows of an alive set are alive
-unfoldable pub aliveCount : List ℕ → ℕ
-aliveCount words = count (bitAt words) (upTo (64 * length words))

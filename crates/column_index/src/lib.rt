@@ -1,13 +1,11 @@
-// Lookups in one segment's index: a row's rank, its range of values, its alive bit.
+// Lookups in one segment's index: a row's rank, its range of values.
 // After column_index/mod.rs (`value_row_ids`), multivalued_index.rs (`range`), optional_index/mod.rs (`rank_if_exists`).
 ghost use mathlib.Core.Path.{_≡_};
-ghost use Prim.Native.Nat.{suc, _<_, _≤_, _+_, _*_};
-ghost use mathlib.Core.Bool.{cond};
+ghost use Prim.Native.Nat.{_<_, _≤_, _+_};
 ghost use lib.ListN.{length, getD};
 ghost use lib.Dec.{T, leb};
-ghost use Rattle.definitions.specs.Lists.{ascending, count, upTo};
-ghost use Rattle.definitions.specs.Row.{bitAt};
-ghost use Rattle.column_index.specs.Lookup.{rankIn, lesser, isIn, startOf, endOf, Readable, Ranked, aliveCount};
+ghost use Rattle.definitions.specs.Lists.{ascending};
+ghost use Rattle.column_index.specs.Lookup.{rankIn, lesser, isIn, startOf, endOf, Readable, Ranked};
 
 // The places of a row's values among its segment's values: from start, before end.
 pub struct Range {
@@ -149,55 +147,4 @@ pub fn value_range(kind: usize, ids: &[u32], offsets: &[u32], row: u32, near: us
         return between(offsets, r);
     }
     ranked_range(kind, ids, offsets, row, near)
-}
-
-// Whether the row's bit is set; row 0 is the lowest bit of the first word.
-pub fn is_alive(words: &[u64], row: usize) -> bool
-    requires { ⌜ row < 64 * length (now words) ⌝ }
-    ensures { λ r. ⌜ r ≡ bitAt (now (words .entry)) row ⌝ }
-{
-    let w = words[row / 64];
-    let b = (row % 64) as u64;
-    (w >> b) % 2 == 1
-}
-
-// How many rows of an alive set are alive, by counting the ones of each word.
-pub fn count_alive(words: &[u64]) -> usize
-    requires { ⌜ length (now words) ≤ 67108864 ⌝ }
-    ensures { λ r. ⌜ r ≡ aliveCount (now (words .entry)) ⌝ }
-{
-    let mut n: usize = 0;
-    let mut i: usize = 0;
-    while i < words.len() {
-        n += segment::wide(u64::count_ones(words[i]));
-        i += 1;
-    }
-    n
-}
-
-// Counts one more for an alive row.
-fn count_on(n: usize, alive: bool) -> usize
-    requires { ⌜ n ≤ 4294967296 ⌝ }
-    ensures { λ r. ⌜ r ≡ cond alive (suc n) n ⌝ }
-{
-    if alive {
-        return n + 1;
-    }
-    n
-}
-
-// How many of the first rows are alive: whole words by their ones, the rest row by row.
-pub fn alive_before(words: &[u64], rows: usize) -> usize
-    requires { ⌜ rows ≤ 64 * length (now words) ⌝ }
-    requires { ⌜ rows ≤ 4294967296 ⌝ }
-    ensures { λ r. ⌜ r ≡ count (bitAt (now (words .entry))) (upTo rows) ⌝ }
-{
-    let whole = rows / 64;
-    let mut n = count_alive(&words[..whole]);
-    let mut r = 64 * whole;
-    while r < rows {
-        n = count_on(n, is_alive(words, r));
-        r += 1;
-    }
-    n
 }

@@ -6,8 +6,8 @@ use native.Mathlib.Omega.{arith}
 use mathlib.Core.Path.{_≡_, refl, sym, ap, _∙_}
 use mathlib.Core.List.{List, [], _∷_, map}
 use mathlib.Core.Bool.{Bool, true, false, cond}
-use lib.ListN.{length, getD, drop, length-drop, drop-of-length-le}
-use lib.Seq.{drop-cons, length-take-le}
+use lib.ListN.{length, getD, drop, drop-of-length-le}
+use lib.Seq.{drop-cons}
 use lib.Dec.{eqb}
 use borrow.Author.Tests.{eq-eqb, ne-eqb, eqb-true, eqb-false}
 use Rattle.definitions.specs.Lists.{elem, upFrom, filter, greatest}
@@ -16,6 +16,8 @@ use Rattle.definitions.specs.Class.{rowClass}
 use Rattle.column_index.specs.Lookup.{widthOf}
 use Rattle.places.specs.Place.{run, kindAt, rowsAt, idsAt, offsetsAt, startIn, endIn, widthIn}
 use Rattle.places.proofs.Stack.{width-empty, width-full, width-none, width-optional}
+use Rattle.definitions.proofs.Group as group
+use Rattle.lists.proofs.Parts.{run-length}
 use Rattle.column_index_merge.specs.Class.{widthClass, rowClassIn, aliveClassFrom, kindClassOf, classIn, greatestIn, Classed}
 
 pub class-none : (w : ℕ) → w ≡ 0 → 1 ≡ widthClass w
@@ -68,15 +70,7 @@ kind-multi kind rows a b c = rw (ne-eqb kind 0 a, ne-eqb kind 1 b, ne-eqb kind 2
 
 kind-le : (kind rows : ℕ) → kindClassOf kind rows ≤ 2
 unfolding kindClassOf
-kind-le kind rows = go (eqb kind 0) (eqb rows 0) (eqb kind 1) (eqb kind 2) (eqb kind 3)
-  where
-    go : (a b c d e : Bool) → cond a (cond b 0 1) (cond c 0 (cond d 1 (cond e 2 2))) ≤ 2
-    go true true c d e = zero-le
-    go true false c d e = omega arith
-    go false b true d e = zero-le
-    go false b false true e = omega arith
-    go false b false false true = le-refl 2
-    go false b false false false = le-refl 2
+kind-le kind rows = group.kind-le kind rows
 
 -- no row raises the class above that of its kind
 class-top : (kind rows : ℕ) (ids offsets : List ℕ) (r : ℕ) → r < rows → widthClass (widthOf kind ids offsets r) ≤ kindClassOf kind rows
@@ -180,8 +174,7 @@ module _ (place alive ids offsets words : List ℕ) where
 
   pub words-enough : Classed place alive ids offsets words → getD alive 0 0 ≡ 1 → rowsAt place ≤ 64 * length (run (getD alive 1 0) (getD alive 2 0) words)
   words-enough c e =
-      let l : length (run (getD alive 1 0) (getD alive 2 0) words) ≡ getD alive 2 0 - getD alive 1 0 = length-take-le (getD alive 2 0 - getD alive 1 0) (drop (getD alive 1 0) words) (rw (length-drop (getD alive 1 0) words) (omega (arith, c .words-end))) in
-      rw l (c .enough (eq-eqb (getD alive 0 0) 1 e))
+      rw (run-length (getD alive 1 0) (getD alive 2 0) words (c .words-end)) (c .enough (eq-eqb (getD alive 0 0) 1 e))
 
 class-in-le : (place alive ids offsets words : List ℕ) → classIn place alive ids offsets words ≤ 2
 unfolding classIn

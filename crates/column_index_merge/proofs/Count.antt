@@ -7,10 +7,10 @@ use mathlib.Core.Path.{_≡_, refl, sym, ap, ap₂, _∙_}
 use mathlib.Core.List.{List, [], _∷_, _++_, map}
 use mathlib.Core.Bool.{Bool, true, false, cond}
 use mathlib.Core.Logic.{_⊎_, inl, inr}
-use lib.ListN.{length, getD, drop, drop-of-length-le, length-drop}
-use lib.Seq.{drop-cons, getD-take, getD-drop, length-take-le}
-use lib.Dec.{T, eqb, ltb, ltb→lt}
-use borrow.Author.Tests.{eq-eqb, ne-eqb, eqb-true, eqb-false, ltb-true, ltb-false}
+use lib.ListN.{length, getD, drop, drop-of-length-le}
+use lib.Seq.{drop-cons}
+use lib.Dec.{T, ltb, ltb→lt}
+use borrow.Author.Tests.{eq-eqb, ne-eqb}
 use Rattle.definitions.specs.Lists.{count, upFrom, elem, all, ascending, ascendingFrom}
 use Rattle.definitions.specs.Lists.{sum}
 use Rattle.places.specs.Width.{idPart, idsOf}
@@ -21,10 +21,12 @@ use Rattle.column_index.proofs.Laws.{asc-tail, asc-at, elem-above, four-le}
 use Rattle.places.proofs.Stack.{width-full, width-none}
 use Rattle.places.specs.Stack.{diffs, segmentWidths, stackedWidths, SoundAt}
 use Rattle.places.proofs.Bulk.{diffs-now}
-use Rattle.definitions.proofs.Group.{all-mem}
-use Rattle.definitions.proofs.Cell.{mem-at}
-use Rattle.segment.proofs.At.{sum-append}
 use Rattle.column_index_merge.specs.Counted.{aliveWidth, aliveWidths, countedIn, countedAll}
+use Rattle.lists.proofs.Sums.{sum-append}
+use Rattle.lists.proofs.Lists.{up-step, up-end, all-at}
+use Rattle.lists.proofs.Numbers.{same?}
+use Rattle.lists.proofs.Parts.{run-length, part-at}
+use lib.Arith.{lt-of-le-ne}
 
 -- how many rows have a value; the first row's number makes no difference
 unfoldable pub countOf : List ℕ → ℕ
@@ -79,28 +81,13 @@ sum-done ws whole n e f = let z : sum ws ≡ 0 = ap sum e in omega arith
 
 -- ---- rows of a segment with an alive set
 
-pub if-dead : (b : Bool) (w : ℕ) → b ≡ false → 0 ≡ cond b w 0
-if-dead b w e = rw e
-
-pub if-living : (b : Bool) (w : ℕ) → b ≡ true → w ≡ cond b w 0
-if-living b w e = rw e
-
 pub alive-width : (place ids offsets words : List ℕ) (r w v : ℕ) → w ≡ widthIn place ids offsets r → v ≡ cond (bitAt words r) w 0 → v ≡ aliveWidth place ids offsets words r
 unfolding aliveWidth
 alive-width place ids offsets words r w v e f = f ∙ ap (λ (n : ℕ). cond (bitAt words r) n 0) e
 
 module _ (f : ℕ → ℕ) where
-  from-next : (r n : ℕ) → 0 < n → upFrom r n ≡ r ∷ upFrom (r + 1) (n - 1)
-  from-next r zero h = absurd (omega arith)
-  from-next r (suc n) h =
-      let a : r + 1 ≡ suc r = omega arith in
-      let b : suc n - 1 ≡ n = omega arith in
-      rw (a, b) refl
-
   pub rows-step : (r rows : ℕ) → r < rows → map f (upFrom r (rows - r)) ≡ f r ∷ map f (upFrom (r + 1) (rows - (r + 1)))
-  rows-step r rows h =
-      let a : rows - r - 1 ≡ rows - (r + 1) = omega arith in
-      ap (map f) (from-next r (rows - r) (omega arith)) ∙ ap (λ (n : ℕ). f r ∷ map f (upFrom (r + 1) n)) a
+  rows-step r rows h = ap (map f) (up-step r rows h)
 
   pub rows-count : (r rows : ℕ) → r < rows → (w : ℕ) → w ≡ f r → countOf (map f (upFrom r (rows - r))) ≡ length (idPart 0 w) + countOf (map f (upFrom (r + 1) (rows - (r + 1))))
   rows-count r rows h w e =
@@ -114,23 +101,12 @@ module _ (f : ℕ → ℕ) where
   rows-begin g rows = zero-add (g (map f (upFrom 0 (rows - 0)))) ∙ ap (λ (n : ℕ). g (map f (upFrom 0 n))) (let z : rows - 0 ≡ rows = omega arith in z)
 
   pub rows-end : (r rows : ℕ) → rows ≤ r → map f (upFrom r (rows - r)) ≡ []
-  rows-end r rows h = ap (λ (n : ℕ). map f (upFrom r n)) (let z : rows - r ≡ 0 = omega arith in z)
+  rows-end r rows h = ap (map f) (up-end r rows h)
 
 -- ---- rows by their ids
 
-equal? : (a b : ℕ) → (a ≡ b) ⊎ (a ≡ b → ⊥)
-equal? a b = go (eqb a b) refl
-  where
-    go : (t : Bool) → eqb a b ≡ t → (a ≡ b) ⊎ (a ≡ b → ⊥)
-    go true e = inl (eqb-true a b e)
-    go false e = inr (eqb-false a b e)
-
 above-other : (s i : ℕ) → s ≤ i → (i ≡ s → ⊥) → suc s ≤ i
-above-other s i h d = go (ltb s i) refl
-  where
-    go : (b : Bool) → ltb s i ≡ b → suc s ≤ i
-    go true e = ltb-true s i e
-    go false e = absurd (d (let x = ltb-false s i e in omega arith))
+above-other s i h d = lt-of-le-ne h (λ e. d (sym e))
 
 not-listed : (s i : ℕ) (is : List ℕ) → T (ascendingFrom i is) → s < i → elem s (i ∷ is) ≡ false
 not-listed s i is a h = rw (ne-eqb s i (λ e. omega arith)) (none (elem s is) refl)
@@ -150,7 +126,7 @@ over-ids f s (suc n) (i ∷ is) a l u z =
     (λ e. over-ids f (suc s) n is (asc-tail i is a) (λ k h. let x = asc-at i is k a h in omega arith) (λ k h. let x = u (suc k) (suc-le-suc h) in omega arith)
     (λ r h q. z r (omega arith) (rw (ne-eqb r i (λ x. omega arith)) q)))
     (λ d. over-ids f (suc s) n (i ∷ is) a (λ k h. from k h (above-other s i (l 0 (suc-le-suc zero-le)) d)) (λ k h. let x = u k h in omega arith) (λ r h q. z r (omega arith) q))
-    (equal? i s)
+    (same? i s)
   where
     from : (k : ℕ) → k < length (i ∷ is) → suc s ≤ i → suc s ≤ getD (i ∷ is) k 0
     from zero h x = x
@@ -171,17 +147,14 @@ module _ {place ids offsets : List ℕ} (words : List ℕ) (sa : SoundAt place i
   w = aliveWidth place ids offsets words
 
   own-small : (k : ℕ) → k < length own → getD own k 0 < 0 + rowsAt place
-  own-small k h = let x = ltb→lt (getD own k 0) (rowsAt place) all-get in omega arith
+  own-small k h = let x = ltb→lt (getD own k 0) (rowsAt place) (all-at (λ n. ltb n (rowsAt place)) own k 0 small h) in omega arith
     where
       small : T (all (λ n. ltb n (rowsAt place)) own)
-      small = pick (equal? (kindAt place) 2)
+      small = pick (same? (kindAt place) 2)
         where
           pick : (kindAt place ≡ 2) ⊎ (kindAt place ≡ 2 → ⊥) → T (all (λ n. ltb n (rowsAt place)) own)
           pick (inl e) = sa .sound .optional e .0
           pick (inr d) = sa .sound .new (four-le (kindAt place) (rk .0) (rk .1) d (rk .2)) .0
-
-      all-get : T (ltb (getD own k 0) (rowsAt place))
-      all-get = all-mem (λ n. ltb n (rowsAt place)) own small (mem-at own k 0 h)
 
   no-width : (r : ℕ) → elem r own ≡ false → w r ≡ 0
   unfolding aliveWidth widthIn startIn endIn widthOf
@@ -219,10 +192,10 @@ module _ {place ids offsets : List ℕ} (words : List ℕ) (sa : SoundAt place i
   ids-over k h = ap (map w) (drop-of-length-le own h)
 
   pub own-long : length own ≡ getD place 3 0 - getD place 2 0
-  own-long = length-take-le (getD place 3 0 - getD place 2 0) (drop (getD place 2 0) ids) (let x = sa .ids-end in omega (arith, length-drop (getD place 2 0) ids))
+  own-long = run-length (getD place 2 0) (getD place 3 0) ids (sa .ids-end)
 
   pub own-at : (k : ℕ) → k < getD place 3 0 - getD place 2 0 → getD ids (getD place 2 0 + k) 0 ≡ getD own k 0
-  own-at k h = sym (getD-take (getD place 3 0 - getD place 2 0) (drop (getD place 2 0) ids) k 0 h ∙ getD-drop (getD place 2 0) ids k 0)
+  own-at k h = sym (part-at (getD place 3 0 - getD place 2 0) (getD place 2 0) ids k h)
 
   pub own-row : (k row : ℕ) → k < getD place 3 0 - getD place 2 0 → row ≡ getD ids (getD place 2 0 + k) 0 → row < rowsAt place
   own-row k row h e = let x = own-small k (omega (arith, own-long)) in let y = own-at k h in omega arith

@@ -2,16 +2,16 @@
 use Prim.Native.Nat.{ℕ, suc, _+_, _-_, _≤_, _<_}
 use native.Mathlib.Numerals.{add-one}
 use native.Mathlib.Omega.{arith}
-use mathlib.Core.Path.{_≡_, sym, ap, _∙_}
+use mathlib.Core.Path.{_≡_, refl, sym, ap, _∙_}
 use mathlib.Core.List.{List, []}
-use mathlib.Core.Bool.{Bool, true, false, _||_, not}
+use mathlib.Core.Bool.{Bool, true, false, _||_, not, cond}
 use lib.ListN.{getD}
 use lib.Dec.{eqb}
 use borrow.Author.Tests.{eq-eqb, ne-eqb}
 use Rattle.definitions.specs.Row.{bitAt}
 use Rattle.places.specs.Place.{run, rowsAt, widthIn}
-use Rattle.places.specs.Places.{recordAt}
 use Rattle.column_index_merge.specs.Held.{hasAt, hasFrom, heldIn, byteOf, heldAt}
+use Rattle.segment.specs.Records.{recordAt}
 
 module _ (place ids offsets words : List ℕ) where
   pub has-dead : (r : ℕ) → bitAt words r ≡ false → false ≡ hasAt place ids offsets words r
@@ -71,6 +71,14 @@ byte-set b e = rw e
 pub byte-none : (b : Bool) → b ≡ false → 0 ≡ byteOf b
 unfolding byteOf
 byte-none b e = rw e
+
+pub flag-none : (b : Bool) (n : ℕ) → n ≡ byteOf b → eqb n 0 ≡ not b
+unfolding byteOf
+flag-none b n e = ap (λ (m : ℕ). eqb m 0) e ∙ go b
+  where
+    go : (b : Bool) → eqb (cond b 1 0) 0 ≡ not b
+    go true = refl
+    go false = refl
 
 pub held-now : (records places alives : List (List ℕ)) (ids offsets words : List ℕ) (s t : ℕ) {b : Bool} {n : ℕ} → t ≡ recordAt records s .type
     → b ≡ heldIn t (getD places s []) (getD alives s []) ids offsets words → n ≡ byteOf b → n ≡ heldAt records places alives ids offsets words s

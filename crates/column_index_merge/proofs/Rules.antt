@@ -19,6 +19,7 @@ use Rattle.places.proofs.Bridge.{Stands, cell-stands, count-stands, inside-stan
 use Rattle.column_index_merge.specs.Class.{widthClass, aliveClassFrom, kindClassOf, classIn, greatestIn}
 use Rattle.column_index_merge.specs.Held.{hasAt, hasFrom, heldIn}
 use Rattle.column_index_merge.proofs.Class.{alive-is, row-class}
+use Rattle.lists.proofs.Lists.{empty-length}
 
 kind-class-is : (s : Segment) → kindClass s ≡ kindClassOf (s .kind) (s .rows)
 unfolding kindClass kindClassOf
@@ -65,8 +66,7 @@ module _ (alive words : List ℕ) {place ids offsets values : List ℕ} {s : Seg
           ∙ sym (kind-class-is s)
 
 not-none : (l : List ℕ) → not (eqb (length l) 0) ≡ not (isEmpty l)
-not-none [] = refl
-not-none (x ∷ xs) = ap not (ne-eqb (length (x ∷ xs)) 0 (λ e. omega arith))
+not-none l = ap not (sym (empty-length l))
 
 same-ends : (a b : ℕ) (l : List ℕ) → length l ≡ b - a → a ≤ b → eqb b a ≡ isEmpty l
 same-ends a b [] e h = eq-eqb b a (omega arith)

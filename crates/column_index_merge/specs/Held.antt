@@ -1,12 +1,15 @@
 -- Which of the placed segments are held, from how many values their rows have. Assumes nothing.
-use Prim.Native.Nat.{ℕ, zero, suc}
+use Prim.Native.Nat.{ℕ, zero, suc, _<_}
+use mathlib.Core.Path.{_≡_}
 use mathlib.Core.List.{List, []}
 use mathlib.Core.Bool.{Bool, false, _&&_, _||_, cond, not}
-use lib.ListN.{getD}
+use lib.ListN.{length, getD}
 use lib.Dec.{eqb}
-use Rattle.definitions.specs.Row.{bitAt, noType}
+use Rattle.definitions.specs.Segment.{Segment}
+use Rattle.definitions.specs.Row.{bitAt, noType, isHeld}
+use Rattle.definitions.specs.Join.{absent}
 use Rattle.places.specs.Place.{run, rowsAt, widthIn}
-use Rattle.places.specs.Places.{recordAt}
+use Rattle.segment.specs.Records.{recordAt}
 
 -- the row is alive and has a value
 unfoldable pub hasAt : List ℕ → List ℕ → List ℕ → List ℕ → ℕ → Bool
@@ -30,3 +33,7 @@ byteOf b = cond b 1 0
 
 unfoldable pub heldAt : List (List ℕ) → List (List ℕ) → List (List ℕ) → List ℕ → List ℕ → List ℕ → ℕ → ℕ
 heldAt records places alives ids offsets words k = byteOf (heldIn (recordAt records k .type) (getD places k []) (getD alives k []) ids offsets words)
+
+-- the bytes say which of the segments are held; more bytes may follow
+pub record Flagged (held : List ℕ) (ss : List Segment) : Type 0 where
+  pub each : (k : ℕ) → k < length ss → getD held k 0 ≡ byteOf (isHeld (getD ss k absent))

@@ -25,7 +25,7 @@ fn has_at(place: [usize; 8], ids: &[u32], offsets: &[u32], words: &[u64], row: u
     requires { ⌜ row < 4294967296 ⌝ }
     ensures { λ r. ⌜ r ≡ hasAt place (now (ids .entry)) (now (offsets .entry)) (now (words .entry)) row ⌝ }
 {
-    if !column_index::is_alive(words, row) {
+    if !alive_set::is_alive(words, row) {
         return false;
     }
     let w = places::width_in(place, ids, offsets, row as u32, ids.len());
@@ -158,7 +158,7 @@ fn row_class(place: [usize; 8], ids: &[u32], offsets: &[u32], words: &[u64], row
     requires { ⌜ row < 4294967296 ⌝ }
     ensures { λ r. ⌜ r ≡ rowClassIn place (now (ids .entry)) (now (offsets .entry)) (now (words .entry)) row ⌝ }
 {
-    if !column_index::is_alive(words, row) {
+    if !alive_set::is_alive(words, row) {
         return 0;
     }
     let w = places::width_in(place, ids, offsets, row as u32, ids.len());
@@ -282,7 +282,7 @@ fn if_alive(words: &[u64], row: usize, w: usize) -> usize
     requires { ⌜ row < 64 * length (now words) ⌝ }
     ensures { λ r. ⌜ r ≡ cond (bitAt (now (words .entry)) row) w 0 ⌝ }
 {
-    if !column_index::is_alive(words, row) {
+    if !alive_set::is_alive(words, row) {
         return 0;
     }
     w
@@ -356,7 +356,7 @@ fn alive_counts(place: [usize; 8], ids: &[u32], offsets: &[u32], words: &[u64]) 
         return row_counts(place, ids, offsets, words);
     }
     if kind == 1 {
-        let n = column_index::alive_before(words, place[1]);
+        let n = alive_set::alive_before(words, place[1]);
         return Counts {
             listed: n,
             values: n,

@@ -9,11 +9,11 @@ use mathlib.Core.Bool.{Bool, true, false, cond, false≢true}
 use lib.ListN.{length, getD, set, drop, drop-of-length-le}
 use lib.Seq.{drop-cons}
 use Rattle.runs.specs.Put.{put, putIf, RoomIf}
-use Rattle.runs.proofs.Laws.{Filling, fill-start, fill-end, fill-room, fill-more, put-nil}
+use Rattle.runs.proofs.Laws.{Filling, fill-start, fill-end, fill-room, fill-more, put-nil, put-one}
 use Rattle.places.specs.Width.{idPart, idsOf, totalsOf}
 use Rattle.places.specs.Place.{run, rowOf, startIn, endIn, widthIn, cellIn, widths, Inside}
 use Rattle.places.proofs.Cells.{cell-run, cell-length}
-use Rattle.places.proofs.Laws.{put-one, first-set, fill-second, part-none, part-some, part-length, ids-step, totals-step, widthNow}
+use Rattle.places.proofs.Laws.{first-set, fill-second, part-none, part-some, part-length, ids-step, totals-step, widthNow}
 use Rattle.column_values_merge.specs.Word.{newWords, Worded}
 use Rattle.column_values_merge.proofs.Laws.{words-length}
 use Rattle.column_index_shuffled.specs.Order.{orderedWords, Ordered}

@@ -114,12 +114,6 @@ fn fill_guesses(places: &[[usize; 8]], ids: &[u32], bases: &mut [usize], work: &
     }
 }
 
-fn low(b: u8) -> usize
-    ensures { λ r. ⌜ r < 256 ⌝ }
-{
-    b as usize
-}
-
 // The guess that stands from index at on, 0 where none does.
 fn guess_at(work: &[u8], at: usize) -> usize {
     if work.len() < 4 {
@@ -128,10 +122,10 @@ fn guess_at(work: &[u8], at: usize) -> usize {
     if work.len() - 4 < at {
         return 0;
     }
-    let a = low(work[at]);
-    let b = low(work[at + 1]);
-    let c = low(work[at + 2]);
-    let d = low(work[at + 3]);
+    let a = runs::byte(work[at]);
+    let b = runs::byte(work[at + 1]);
+    let c = runs::byte(work[at + 2]);
+    let d = runs::byte(work[at + 3]);
     a + b * 256 + c * 65536 + d * 16777216
 }
 

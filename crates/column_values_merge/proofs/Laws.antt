@@ -1,22 +1,21 @@
 -- What becomes of a run of words, and a turn of the loop over segments. Assumes nothing.
-use Prim.Native.Nat.{ℕ, zero, suc, _+_, _-_, _≤_, _<_, zero-le, suc-le-suc}
-use native.Mathlib.Nat.{le-of-suc-le-suc, le-of-eq}
+use Prim.Native.Nat.{ℕ, _+_, _-_, _≤_, _<_, zero-le, suc-le-suc}
 use native.Mathlib.Numerals.{add-one}
 use native.Mathlib.Omega.{arith}
-use mathlib.Core.Path.{_≡_, refl, sym, ap, ap₂, _∙_, subst}
-use mathlib.Core.List.{List, [], _∷_, _++_, map}
-use mathlib.Core.Bool.{Bool, true, false, cond, _&&_}
-use lib.ListN.{length, getD, take, drop, length-drop, length-map, drop-of-length-le, set}
-use lib.Seq.{drop-cons, length-take-le, getD-take, getD-drop}
-use lib.Dec.{eqb}
-use borrow.Author.Tests.{ne-eqb}
+use mathlib.Core.Path.{_≡_, refl, sym, ap, _∙_, subst}
+use mathlib.Core.List.{List, [], _∷_, _++_, map-id}
+use mathlib.Core.Bool.{Bool, true, false, cond}
+use lib.ListN.{length, getD, take, drop, length-map, drop-of-length-le, set}
+use lib.Seq.{drop-cons}
 use Rattle.definitions.specs.Types.{hasTerms, integerOf, doubleOf, coerced}
-use Rattle.column_index.proofs.Walk.{map-same}
+use Rattle.lists.proofs.Parts.{run-length, part-at}
+use Rattle.numerical.proofs.Laws as one
 use Rattle.runs.specs.Put.{put, looked}
 use Rattle.runs.proofs.Laws.{Filling, fill-room, fill-more, looked-length, put-one, put-nil}
 use Rattle.places.specs.Place.{run, valuesAt}
 use Rattle.column_values_merge.specs.Word.{doubles, coercedAll, mapAt, newWords, Worded}
 use Rattle.column_values_merge.specs.Stack.{stackedWords, AllWorded}
+use Rattle.definitions.proofs.Lists.{getD-in, map-mem}
 
 pub doubles-length : (t : ℕ) (vs : List ℕ) → length (doubles t vs) ≡ length vs
 unfolding doubles
@@ -24,38 +23,26 @@ doubles-length t vs = length-map vs (λ w. doubleOf (integerOf t w))
 
 pub doubles-at : (t : ℕ) (vs : List ℕ) (j : ℕ) → j < length vs → doubleOf (integerOf t (getD vs j 0)) ≡ getD (doubles t vs) j 0
 unfolding doubles
-doubles-at t [] j h = absurd (omega arith)
-doubles-at t (v ∷ vs) zero h = refl
-doubles-at t (v ∷ vs) (suc j) h = doubles-at t vs j (le-of-suc-le-suc h)
-
-one-double : (t w : ℕ) → doubleOf (integerOf t w) ∷ [] ≡ doubles t (w ∷ [])
-unfolding doubles
-one-double t w = refl
+doubles-at t vs j h = sym (getD-in (λ w. doubleOf (integerOf t w)) vs j 0 0 h)
 
 -- ---- coercion
 
-same-all : (f : ℕ → ℕ) (vs : List ℕ) → ((w : ℕ) → f w ≡ w) → vs ≡ map f vs
-same-all f [] e = refl
-same-all f (v ∷ vs) e = ap₂ (λ (x : ℕ) (xs : List ℕ). x ∷ xs) (sym (e v)) (same-all f vs e)
+module _ (t u : ℕ) (vs : List ℕ) where
+  pub coerced-other : (u ≡ 2 → ⊥) → vs ≡ coercedAll t u vs
+  unfolding coercedAll
+  coerced-other h = sym (map-id vs) ∙ map-mem (λ w. w) (coerced t u) vs (λ w _. one.coerced-other t u w h)
 
-pub coerced-other : (t u : ℕ) (vs : List ℕ) → (u ≡ 2 → ⊥) → vs ≡ coercedAll t u vs
-unfolding coercedAll coerced
-coerced-other t u vs h = same-all (coerced t u) vs (λ w. rw (ne-eqb u 2 h))
+  pub coerced-double : u ≡ 2 → t ≡ 2 → vs ≡ coercedAll t u vs
+  unfolding coercedAll
+  coerced-double h k = sym (map-id vs) ∙ map-mem (λ w. w) (coerced t u) vs (λ w _. one.coerced-double t u w h k)
 
-pub coerced-double : (t u : ℕ) (vs : List ℕ) → t ≡ 2 → vs ≡ coercedAll t u vs
-unfolding coercedAll coerced
-coerced-double t u vs h = same-all (coerced t u) vs (λ w. rw h (go (eqb u 2) w))
-  where
-    go : (b : Bool) (w : ℕ) → cond (b && false) (doubleOf (integerOf 2 w)) w ≡ w
-    go true w = refl
-    go false w = refl
+  pub coerced-integer : u ≡ 2 → (t ≡ 2 → ⊥) → doubles t vs ≡ coercedAll t u vs
+  unfolding doubles coercedAll
+  coerced-integer h k = map-mem (λ w. doubleOf (integerOf t w)) (coerced t u) vs (λ w _. one.coerced-integer t u w h k)
 
-pub coerced-integer : (t u : ℕ) (vs : List ℕ) → u ≡ 2 → (t ≡ 2 → ⊥) → doubles t vs ≡ coercedAll t u vs
-unfolding doubles coercedAll coerced
-coerced-integer t u vs h k = map-same (λ w. doubleOf (integerOf t w)) (coerced t u) vs (λ w. rw (h, ne-eqb t 2 k))
-
-pub coerced-one : (t u w x : ℕ) → u ≡ 2 → (t ≡ 2 → ⊥) → x ≡ doubleOf (integerOf t w) → x ∷ [] ≡ coercedAll t u (w ∷ [])
-coerced-one t u w x h k e = ap (λ (n : ℕ). n ∷ []) e ∙ one-double t w ∙ coerced-integer t u (w ∷ []) h k
+pub coerced-one : (t u w : ℕ) {x : ℕ} → x ≡ coerced t u w → x ∷ [] ≡ coercedAll t u (w ∷ [])
+unfolding coercedAll
+coerced-one t u w e = ap (λ (n : ℕ). n ∷ []) e
 
 coerced-length : (t u : ℕ) (vs : List ℕ) → length (coercedAll t u vs) ≡ length vs
 unfolding coercedAll
@@ -63,15 +50,11 @@ coerced-length t u vs = length-map vs (coerced t u)
 
 -- ---- terms
 
--- one word
-run-at : (a b : ℕ) (l : List ℕ) (w : ℕ) → a + w < b → getD (run a b l) w 0 ≡ getD l (a + w) 0
-run-at a b l w h = getD-take (b - a) (drop a l) w 0 (omega arith) ∙ getD-drop a l w 0
-
 pub looked-one : (to : ℕ) (source table : List ℕ) (w x : ℕ) → hasTerms (getD source 0 0) ≡ true → getD source 1 0 + w < getD source 2 0 → x ≡ getD table (getD source 1 0 + w) 0
     → x ∷ [] ≡ newWords to source table (w ∷ [])
 unfolding newWords looked
 looked-one to source table w x e h q =
-    ap (λ (n : ℕ). n ∷ []) (q ∙ sym (run-at (getD source 1 0) (getD source 2 0) table w h)) ∙ ap (λ (b : Bool). cond b (looked (mapAt source table) (w ∷ [])) (coercedAll (getD source 0 0) to (w ∷ []))) (sym e)
+    ap (λ (n : ℕ). n ∷ []) (q ∙ sym (part-at (getD source 2 0 - getD source 1 0) (getD source 1 0) table w (omega arith))) ∙ ap (λ (b : Bool). cond b (looked (mapAt source table) (w ∷ [])) (coercedAll (getD source 0 0) to (w ∷ []))) (sym e)
 
 pub run-one : (a b : ℕ) (l : List ℕ) → b ≡ a + 1 → a < length l → run a b l ≡ getD l a 0 ∷ []
 run-one a b l e h =
@@ -81,14 +64,10 @@ run-one a b l e h =
 pub ordinal-in : (source table : List ℕ) (w : ℕ) → Worded source table (w ∷ []) → hasTerms (getD source 0 0) ≡ true → getD source 1 0 + w < getD source 2 0
 ordinal-in source table w g e =
     let k : w < length (mapAt source table) = g .ordinals e 0 (suc-le-suc zero-le) in
-    let l : length (mapAt source table) ≤ getD source 2 0 - getD source 1 0 = run-short (getD source 1 0) (getD source 2 0) table (g .map-end) in
-    omega (arith, g .map-run)
-  where
-    run-short : (a b : ℕ) (l : List ℕ) → b ≤ length l → length (run a b l) ≤ b - a
-    run-short a b l h = le-of-eq (length-take-le (b - a) (drop a l) (omega (arith, length-drop a l)))
+    omega (arith, g .map-run, run-length (getD source 1 0) (getD source 2 0) table (g .map-end))
 
 -- a row of no value
-words-none : (to : ℕ) (source table : List ℕ) → newWords to source table [] ≡ []
+pub words-none : (to : ℕ) (source table : List ℕ) → newWords to source table [] ≡ []
 unfolding newWords looked coercedAll
 words-none to source table = go (hasTerms (getD source 0 0))
   where
@@ -142,9 +121,7 @@ words-done to places sources values table s h = rw (drop-of-length-le places h)
 
 module _ {places sources : List (List ℕ)} {values table : List ℕ} (l : AllWorded places sources values table) {s : ℕ} (h : s < length places) where
   pub now-length : length (valuesAt (getD places s []) values) ≡ getD (getD places s []) 7 0 - getD (getD places s []) 6 0
-  now-length =
-      length-take-le (getD (getD places s []) 7 0 - getD (getD places s []) 6 0) (drop (getD (getD places s []) 6 0) values)
-      (rw (length-drop (getD (getD places s []) 6 0) values) (omega (arith, l .each s h .1, l .each s h .2)))
+  now-length = run-length (getD (getD places s []) 6 0) (getD (getD places s []) 7 0) values (l .each s h .2)
 
   module _ (to : ℕ) {start : ℕ} {whole old out : List ℕ} {at : ℕ} (g : Filling start whole old (stackedWords to (drop s places) (drop s sources) values table) out at) where
     pub words-room : at + length (valuesAt (getD places s []) values) ≤ length out

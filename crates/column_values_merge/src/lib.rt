@@ -2,8 +2,7 @@
 ghost use mathlib.Core.Path.{_≡_};
 ghost use mathlib.Core.List.{[], _∷_};
 ghost use Prim.Native.Nat.{_<_, _≤_, _+_, _-_};
-ghost use lib.ListN.{length, getD};
-ghost use Rattle.definitions.specs.Types.{hasTerms};
+ghost use lib.ListN.{length};
 ghost use Rattle.runs.specs.Put.{put};
 ghost use Rattle.places.specs.Place.{run};
 ghost use Rattle.column_values_merge.specs.Word.{doubles, coercedAll, newWords, Worded};
@@ -61,19 +60,6 @@ pub fn append_words(
     append_coerced(t, to, vs, out, at);
 }
 
-// A word of type t as a word of type u.
-fn coerced_word(t: u32, u: u32, word: u64) -> u64
-    ensures { λ r. ⌜ r ∷ [] ≡ coercedAll t u (word ∷ []) ⌝ }
-{
-    if u != 2 {
-        return word;
-    }
-    if t == 2 {
-        return word;
-    }
-    numerical::integer_to_double(t, word)
-}
-
 // The same as append_words for a run of one word.
 fn new_word(to: u32, source: [usize; 3], word: u64, map: &[u32]) -> u64
     requires { ⌜ Worded source (now map) (word ∷ []) ⌝ }
@@ -84,7 +70,7 @@ fn new_word(to: u32, source: [usize; 3], word: u64, map: &[u32]) -> u64
         let k = source[1] + (word as usize);
         return segment::wide(map[k]) as u64;
     }
-    coerced_word(t, to, word)
+    numerical::coerce(t, to, word)
 }
 
 // Writes the words of one row, which stand from g.start to g.end behind the segment's first value; returns the index after them.

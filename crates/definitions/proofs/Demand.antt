@@ -3,12 +3,11 @@ use Prim.Native.Nat.{ℕ, zero, suc, _+_, _<_, zero-le, suc-le-suc}
 use native.Mathlib.Nat.{le-antisymm, zero-add, add-zero, suc-add, add-suc}
 use native.Mathlib.Omega.{arith}
 use mathlib.Core.Path.{_≡_, refl, sym, ap, ap₂, _∙_, subst}
-use mathlib.Core.List.{List, [], _∷_, map, List·Memᴰ, List·Memᴰ·head, List·Memᴰ·tail, List·Memᴰ·not-nil, Memᴰ·cast}
+use mathlib.Core.List.{List, [], _∷_, map, List·Memᴰ, List·Memᴰ·head, List·Memᴰ·tail, List·Memᴰ·not-nil, Memᴰ·cast, Memᴰ·map, map-map}
 use mathlib.Core.Bool.{Bool, true, false, not, cond, _||_, _&&_, false≢true}
 use lib.ListN.{length, getD, List·getD-map}
 use lib.Dec.{T, eqb, ltb, ltb→lt, eqb→eq, eqb-refl, eqb·suc-zero}
 use lib.Ieee.Fits.{and-i, and-l, and-r}
-use lib.Ieee.Bits.{is-true}
 use Rattle.definitions.specs.Lists.{all, any, count, filter, elem}
 use Rattle.definitions.specs.Segment.{Segment, aliveWords, recordOf}
 use Rattle.definitions.specs.Row.{isPresent, isHeld, effective, noType}
@@ -21,13 +20,11 @@ use Rattle.definitions.specs.Outcome.{Numbers, accepted, spaceOf, Lent, 
 use Rattle.definitions.proofs.Sections.{flatten, flatten-back}
 use Rattle.definitions.proofs.Outcome.{accepted-is}
 use Rattle.definitions.proofs.Summary.{keepsTerm, Same, same-terms, same-type, same-class, OfType, Uniform}
-use Rattle.definitions.proofs.Fit.{any-mem, mem-filter, greatest-ge}
-use Rattle.definitions.proofs.Group.{Listed, columnOf, any-true, any-false, any-none, all-mem, mem-map, greatest-le}
-use Rattle.definitions.proofs.Accept.{all-passed, or-cases, mem-map-back}
-use Rattle.definitions.proofs.Cell.{mem-at}
-use Rattle.definitions.proofs.Part.{map-mem, map-twice}
-use Rattle.definitions.proofs.Entry.{getD-in, rowsAt, one-column, Good, good-first}
-use Rattle.definitions.proofs.Turn.{getD-all, Given, Agreed, agreed}
+use Rattle.definitions.proofs.Group.{Listed, columnOf}
+use Rattle.definitions.proofs.Accept.{is-accepted, or-cases}
+use Rattle.definitions.proofs.Entry.{rowsAt, one-column, Good, good-first}
+use Rattle.definitions.proofs.Turn.{Given, Agreed, agreed}
+use Rattle.definitions.proofs.Lists.{any-mem, mem-filter, greatest-ge, any-true, any-false, any-none, all-mem, greatest-le, mem-map-back, mem-at, map-mem, getD-in, getD-all, all-of, mem-elem, elem-mem}
 
 -- ---- lists with the same members
 
@@ -50,10 +47,6 @@ module _ (xs ys : List Segment) (there : (x : Segment) → List·Memᴰ x xs →
         terms = λ u. any-same (keepsTerm u);
       }
 
-all-of : {A : Type 0} (p : A → Bool) (l : List A) → ((x : A) → List·Memᴰ x l → T (p x)) → T (all p l)
-all-of p [] h = tt
-all-of p (x ∷ xs) h = and-i (p x) (all p xs) (h x (List·Memᴰ·head refl)) (all-of p xs (λ y m. h y (List·Memᴰ·tail m)))
-
 -- ---- sequences of the same numbers
 
 elem-count : (n : ℕ) (l : List ℕ) → elem n l ≡ not (eqb (count (eqb n) l) 0)
@@ -67,16 +60,10 @@ elem-count n (m ∷ ms) = go (eqb n m) (elem-count n ms)
 elem-same : (xs ys : List ℕ) → IsSequenceOf xs ys → (n : ℕ) → elem n xs ≡ elem n ys
 elem-same xs ys h n = elem-count n xs ∙ ap (λ (k : ℕ). not (eqb k 0)) (h n) ∙ sym (elem-count n ys)
 
-mem-elem : (n : ℕ) (l : List ℕ) → List·Memᴰ n l → elem n l ≡ true
-mem-elem n l m = any-mem (eqb n) m (is-true (eqb n n) (eqb-refl n))
-
-elem-mem : (n : ℕ) (l : List ℕ) → elem n l ≡ true → List·Memᴰ n l
-elem-mem n l e = let t = any-true (eqb n) l e in Memᴰ·cast (eqb→eq n (t .0) (subst T (sym (t .2)) tt)) (t .1)
-
 segments-there : (firsts : List Segment) (xs ys : List ℕ) → ((n : ℕ) → elem n xs ≡ elem n ys) → (x : Segment) → List·Memᴰ x (segmentsAt firsts xs) → List·Memᴰ x (segmentsAt firsts ys)
 segments-there firsts xs ys h x m =
     let t = mem-map-back (λ n. getD firsts n absent) xs m in
-    Memᴰ·cast (t .2) (mem-map (λ n. getD firsts n absent) (elem-mem (t .0) ys (sym (h (t .0)) ∙ mem-elem (t .0) xs (t .1))))
+    Memᴰ·cast (t .2) (Memᴰ·map (λ n. getD firsts n absent) (elem-mem (t .0) ys (sym (h (t .0)) ∙ mem-elem (t .0) xs (t .1))))
 
 -- ---- the one join does not depend on the sequence of the sources
 
@@ -161,7 +148,7 @@ module _ (firsts : List Segment) where
       go : (s : Segment) → List·Memᴰ s firsts → (b : Bool) → isPresent s ≡ b → T (not b || eqb (s .type) u)
       go s m true e =
           equal-head (filter (λ t. not (eqb t noType)) (map (λ (s : Segment). s .type) firsts)) h
-          (mem-filter (λ t. not (eqb t noType)) (map (λ (s : Segment). s .type) firsts) e (mem-map (λ (s : Segment). s .type) m))
+          (mem-filter (λ t. not (eqb t noType)) (map (λ (s : Segment). s .type) firsts) e (Memᴰ·map (λ (s : Segment). s .type) m))
       go s m false e = tt
 
   uniform-at : (u : ℕ) → OfType u firsts → (n : ℕ) → Uniform noType u (getD firsts n absent ∷ [])
@@ -226,7 +213,7 @@ sources-laid firsts required u e good r =
 
 handed-firsts : (firsts : List Segment) (c : Call) → segmentsHanded c (map first firsts) ≡ segmentsAt firsts (c .handed)
 handed-firsts firsts c =
-    map-twice segmentIn (λ k. getD (map first firsts) k (first absent)) (c .handed)
+    map-map segmentIn (λ k. getD (map first firsts) k (first absent)) (c .handed)
     ∙ map-mem (λ k. segmentIn (getD (map first firsts) k (first absent))) (λ k. getD firsts k absent) (c .handed) (λ k m. ap segmentIn (List·getD-map first firsts k absent))
 
 module _ (firsts : List Segment) (e : Entry) (c : Call) (laid : (n : ℕ) → List·Memᴰ n (e .sources) → T (isSegment (getD firsts n absent)))
@@ -247,7 +234,7 @@ module _ (firsts : List Segment) (e : Entry) (c : Call) (laid : (n : ℕ) → Li
   called a =
       ap (λ (ss : List Segment). joinedColumn (c .required) ss (cond (eqb (c .mode) 0) (stackedFrom 0 ss) (c .addresses)))
       (flatten-back (c .mode) (c .required) ss (c .addresses) (spaceOf (c .buffers)) called-laid)
-      ∙ go (c .mode) refl (all-passed (inputOf (lentTo c ss)) a .mode)
+      ∙ go (c .mode) refl (is-accepted (inputOf (lentTo c ss)) a .mode)
       ∙ ap (λ (n : ℕ). joinedColumn n ss (originsIn (c .handed) (e .origins))) (at .required)
     where
       go : (m : ℕ) → c .mode ≡ m → T (ltb m 2)

@@ -1,3 +1,4 @@
+pub mod Lists
 pub mod Decode
 pub mod Sections
 pub mod Outcome
@@ -6,6 +7,7 @@ pub mod Summary
 pub mod Fit
 pub mod Group
 pub mod Cell
+pub mod Checks
 pub mod Accept
 pub mod Part
 pub mod Entry

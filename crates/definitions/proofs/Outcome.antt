@@ -1,7 +1,7 @@
 -- The laws of a call's outcome: its number is the table's answer, and the column of an accepted call is read back from the outputs. Assumes nothing.
-use Prim.Native.Nat.{ℕ, zero, suc}
+use Prim.Native.Nat.{ℕ}
 use mathlib.Core.Path.{_≡_, refl, sym, ap, _∙_, subst}
-use mathlib.Core.List.{List, [], _∷_, _++_, map}
+use mathlib.Core.List.{List, map}
 use mathlib.Core.Bool.{Bool, true, false, cond}
 use native.Mathlib.Omega.{arith}
 use lib.ListN.{length, take, drop, length-map}
@@ -9,9 +9,9 @@ use lib.Seq.{take-append-seam, take-at}
 use lib.Dec.{T, eqb, eqb→eq}
 use Rattle.definitions.specs.Lists.{concat}
 use Rattle.definitions.specs.Segment.{cut}
-use Rattle.definitions.specs.Join.{Column, Joined}
+use Rattle.definitions.specs.Join.{Joined}
 use Rattle.definitions.specs.Answer.{answer, joinOf}
-use Rattle.definitions.specs.Outcome.{Buffers, Numbers, Answer, accepted, refused, Outcome, numberOf, written, numbersOf, refusedBuffers, acceptedBuffers, Lent, inputOf, joinOutcome, readBack}
+use Rattle.definitions.specs.Outcome.{Buffers, Numbers, accepted, refused, numberOf, written, numbersOf, refusedBuffers, acceptedBuffers, Lent, inputOf, joinOutcome, readBack}
 use Rattle.definitions.proofs.Sections.{cut-concat}
 
 -- the terms stand in their two outputs

@@ -1,46 +1,30 @@
 -- Segments laid out in sections and cut out of them again. Assumes nothing.
-use Prim.Native.Nat.{ℕ, zero, suc, _+_}
-use mathlib.Core.Path.{_≡_, refl, sym, ap, ap₂, _∙_}
-use mathlib.Core.List.{List, [], _∷_, _++_, map, append-assoc}
-use mathlib.Core.Bool.{Bool, true, false, cond, _&&_}
-use lib.ListN.{length, take, drop, length-append}
+use Prim.Native.Nat.{ℕ}
+use mathlib.Core.Path.{_≡_, refl, ap, ap₂, _∙_}
+use mathlib.Core.List.{List, [], _∷_, _++_, map, append-assoc, map-append}
+use lib.ListN.{length, take, drop, length-map}
 use lib.Seq.{take-append-seam, drop-append-seam, take-at, drop-at}
-use lib.Dec.{T, eqb, eqb→eq}
+use lib.Dec.{T, eqb→eq}
 use lib.Ieee.Fits.{and-l, and-r}
 use Rattle.definitions.specs.Lists.{sum, concat, all}
-use Rattle.definitions.specs.Segment.{Segment, Sections, SegmentRecord, Address, Space, aliveWords, cut, firstSegment, afterFirst, segmentsFrom, segmentsOf, recordOf, sectionsOf, Input}
+use Rattle.definitions.specs.Segment.{Segment, Address, Space, aliveWords, cut, firstSegment, afterFirst, segmentsFrom, segmentsOf, recordOf, sectionsOf, Input}
 use Rattle.definitions.specs.Book.{isSegment}
-
-length-concat : (ls : List (List ℕ)) → length (concat ls) ≡ sum (map length ls)
-length-concat [] = refl
-length-concat (l ∷ ls) = length-append l (concat ls) ∙ ap (λ (n : ℕ). length l + n) (length-concat ls)
+use Rattle.definitions.proofs.Lists.{length-concat, concat-append}
 
 pub cut-concat : (ts : List (List ℕ)) (rest : List ℕ) → cut (map length ts) (concat ts ++ rest) ≡ ts
 cut-concat [] rest = refl
 cut-concat (t ∷ ts) rest = rw (append-assoc t (concat ts) rest, take-append-seam t (concat ts ++ rest), drop-append-seam t (concat ts ++ rest)) (ap (λ (l : List (List ℕ)). t ∷ l) (cut-concat ts rest))
 
-map-append : (f : List ℕ → ℕ) (xs ys : List (List ℕ)) → map f (xs ++ ys) ≡ map f xs ++ map f ys
-map-append f [] ys = refl
-map-append f (x ∷ xs) ys = ap (λ (l : List ℕ). f x ∷ l) (map-append f xs ys)
-
-pub concat-append : (xs ys : List (List ℕ)) → concat (xs ++ ys) ≡ concat xs ++ concat ys
-concat-append [] ys = refl
-concat-append (x ∷ xs) ys = ap (λ (l : List ℕ). x ++ l) (concat-append xs ys) ∙ sym (append-assoc x (concat xs) (concat ys))
-
-length-map : (xs : List (List ℕ)) → length (map length xs) ≡ length xs
-length-map [] = refl
-length-map (x ∷ xs) = ap suc (length-map xs)
-
 -- the terms of a first segment, and what stands behind them
 module _ (ts us : List (List ℕ)) where
   lengths-first : take (length ts) (map length (ts ++ us)) ≡ map length ts
-  lengths-first = rw (map-append length ts us) (take-at (map length ts) (map length us) (length ts) (length-map ts))
+  lengths-first = rw (map-append length ts us) (take-at (map length ts) (map length us) (length ts) (length-map ts length))
 
   terms-first : cut (take (length ts) (map length (ts ++ us))) (concat (ts ++ us)) ≡ ts
   terms-first = rw (lengths-first, concat-append ts us) (cut-concat ts (concat us))
 
   lengths-after : drop (length ts) (map length (ts ++ us)) ≡ map length us
-  lengths-after = rw (map-append length ts us) (drop-at (map length ts) (map length us) (length ts) (length-map ts))
+  lengths-after = rw (map-append length ts us) (drop-at (map length ts) (map length us) (length ts) (length-map ts length))
 
   bytes-after : drop (sum (take (length ts) (map length (ts ++ us)))) (concat (ts ++ us)) ≡ concat us
   bytes-after = rw (lengths-first, concat-append ts us) (drop-at (concat ts) (concat us) (sum (map length ts)) (length-concat ts))

@@ -5,20 +5,20 @@ use native.Mathlib.Nat.{le-trans, le-of-eq, le-of-suc-le-suc, not-suc-le-zero, a
 use native.Mathlib.Omega.{arith}
 use mathlib.Core.Path.{_≡_, refl, sym, ap, _∙_, subst}
 use mathlib.Core.List.{List, [], _∷_, _++_, map}
-use mathlib.Core.Bool.{Bool, true, false, not, cond, _||_, _&&_, false≢true}
+use mathlib.Core.Bool.{Bool, true, false, not, cond, _||_, _&&_, false≢true, or-true, and-eq-true-iff}
 use lib.ListN.{length, getD}
 use lib.Dec.{T, eqb, ltb, ltb→lt}
 use lib.Arith.{lt-of-le-ne}
 use lib.Ieee.Bits.{is-true}
 use borrow.Author.Tests.{eq-eqb, ne-eqb, lt-ltb, ltb-true, ltb-false, eqb-true, eqb-false, not-false}
 use Rattle.definitions.specs.Lists.{upFrom, upTo, all, any, filter, count, sum, isEmpty}
-use Rattle.definitions.specs.Segment.{Segment, Address, Input, segmentsOf}
+use Rattle.definitions.specs.Segment.{Segment, Address, Input, segmentsOf, address as at}
 use Rattle.definitions.specs.Row.{isAlive, aliveRows}
 use Rattle.definitions.specs.Join.{absent, rowsOf, stackedFrom}
 use Rattle.definitions.specs.Answer.{sameAddress, isListed, isRepeated, isAliveAt, aliveAddresses, listsAliveRows, addressesWrong}
 use Rattle.definitions.specs.TimeOrder.{keyOf, isBefore, insertAddress, sortAddresses, timeOrder, inOrderFrom, inTimeOrder, IsTimeOrder}
-use Rattle.definitions.proofs.Fit.{and3}
 use Rattle.definitions.proofs.Accept.{same-address}
+use Rattle.definitions.proofs.Lists.{and3, and-fails}
 
 -- ---- counts
 
@@ -172,13 +172,6 @@ module _ (ss : List Segment) (a : Address) (p q : Address → Bool) (pa : p a �
 
 -- ---- all rows, segment after segment: each once
 
-abbrev at : ℕ → ℕ → Address
-at n r = record { segment = n; row = r }
-
-and-none : (b c : Bool) → c ≡ false → b && c ≡ false
-and-none true c e = e
-and-none false c e = refl
-
 count-absent : (a : Address) (n u m : ℕ) → (a .segment ≡ n → ⊥) → count (sameAddress a) (map (at n) (upFrom u m)) ≡ 0
 count-absent a n u zero d = refl
 count-absent a n u (suc m) d = rw (ne-eqb (a .segment) n d) (count-absent a n (suc u) m d)
@@ -186,7 +179,7 @@ count-absent a n u (suc m) d = rw (ne-eqb (a .segment) n d) (count-absent a n (s
 count-past : (a : Address) (n u m : ℕ) → a .row < u → count (sameAddress a) (map (at n) (upFrom u m)) ≡ 0
 count-past a n u zero h = refl
 count-past a n u (suc m) h =
-    rw (and-none (eqb (a .segment) n) (eqb (a .row) u) (ne-eqb (a .row) u (λ e. omega arith))) (count-past a n (suc u) m (omega arith))
+    rw (and-fails (eqb (a .segment) n) (eqb (a .row) u) (ne-eqb (a .row) u (λ e. omega arith))) (count-past a n (suc u) m (omega arith))
 
 count-row : (a : Address) (n u m : ℕ) → a .segment ≡ n → u ≤ a .row → a .row < u + m → count (sameAddress a) (map (at n) (upFrom u m)) ≡ 1
 count-row a n u zero e l h = absurd (omega arith)
@@ -249,7 +242,7 @@ alive-once ss a v = stacked-once a 0 (a .segment) ss (sym (zero-add (a .segment)
 
 -- ---- the time order is accepted as the row order of an ordered join of the same segments
 
-same-self : (a : Address) → sameAddress a a ≡ true
+pub same-self : (a : Address) → sameAddress a a ≡ true
 same-self a = rw (eq-eqb (a .segment) (a .segment) refl, eq-eqb (a .row) (a .row) refl)
 
 count-filter : (p : Address → Bool) (a : Address) (bs : List Address) → count (sameAddress a) (filter p bs) ≡ cond (p a) (count (sameAddress a) bs) 0
@@ -327,14 +320,6 @@ order-joins i m e =
 
 -- ---- the time order is sorted
 
-both : (b c : Bool) → b && c ≡ true → (b ≡ true) × (c ≡ true)
-both true c e = (refl, e)
-both false c e = absurd (false≢true e)
-
-or-true : (b : Bool) → b || true ≡ true
-or-true true = refl
-or-true false = refl
-
 -- two that are compared by a number, and where it is the same by what comes next: if one is not before, the other is
 other-first : (k l : ℕ) (x y : Bool) → (eqb k l ≡ true → x ≡ false → y ≡ true) → ltb k l || (eqb k l && x) ≡ false → ltb l k || (eqb l k && y) ≡ true
 other-first k l x y next e = go (ltb k l) (eqb k l) refl refl e
@@ -359,7 +344,7 @@ module _ (ss : List Segment) where
   insert-from c a [] z h o = rw h
   insert-from c a (b ∷ bs) z h o =
       let d = none-head (sameAddress a b) z in
-      let o = both (isBefore ss c b) (inOrderFrom ss b bs) o in
+      let o = and-eq-true-iff (isBefore ss c b) (inOrderFrom ss b bs) .0 o in
       go (isBefore ss a b) refl (o .0) (o .1) (λ k. insert-from b a bs (d .1) (total a b (d .0) k) (o .1))
     where
       go : (t : Bool) → isBefore ss a b ≡ t → isBefore ss c b ≡ true → inOrderFrom ss b bs ≡ true → (isBefore ss a b ≡ false → inOrderFrom ss b (insertAddress ss a bs) ≡ true)

@@ -1,7 +1,7 @@
 -- Joins in turn: at each call the book's answer is the joiner's, and what stands is what the book takes to stand. Assumes nothing.
-use Prim.Native.Nat.{ℕ, zero, suc, _<_}
+use Prim.Native.Nat.{ℕ, suc, _<_}
 use mathlib.Core.Path.{_≡_, refl, sym, ap, ap₂, _∙_, subst}
-use mathlib.Core.List.{List, [], _∷_, _++_, map, List·Memᴰ, List·Memᴰ·head, List·Memᴰ·tail, Memᴰ·cast, List·Memᴰ·append-cases, List·Memᴰ·eq-of-singleton}
+use mathlib.Core.List.{List, [], _∷_, _++_, map, List·Memᴰ, List·Memᴰ·head, List·Memᴰ·tail, Memᴰ·cast, List·Memᴰ·append-cases, List·Memᴰ·eq-of-singleton, map-map, map-append}
 use mathlib.Core.Logic.{⊎-elim}
 use mathlib.Core.Bool.{Bool, true, false, cond, false≢true}
 use lib.ListN.{length, getD, length-map}
@@ -15,19 +15,12 @@ use Rattle.definitions.specs.Outcome.{Buffers, accepted, refused, spaceO
 use Rattle.definitions.specs.Book.{Standing, first, result, segmentIn, Call, lentTo, handedOf, leftFrom, callLent, callOutcome, callAnswer, afterAnswer, afterCall, answersOf, standsAfter, Entry, noEntry, standingOf, joinedEntry, bookAnswer, bookAfterCall, bookAnswersFrom, bookAfterFrom, isSegment, segmentsHanded, acceptsOnlySegments, handsOnlyStanding, acceptedFrom}
 use Rattle.definitions.proofs.Sections.{flatten, flatten-back}
 use Rattle.definitions.proofs.Outcome.{read-back, number-is}
-use Rattle.definitions.proofs.Group.{all-mem}
-use Rattle.definitions.proofs.Cell.{mem-at}
-use Rattle.definitions.proofs.Accept.{Passed, all-passed, Lists, lists-order, mem-map-back}
+use Rattle.definitions.proofs.Accept.{Accepted, is-accepted, Lists, lists-order}
 use Rattle.definitions.proofs.Part as P
-use Rattle.definitions.proofs.Part.{map-mem, map-twice}
-use Rattle.definitions.proofs.Entry.{getD-in, map-append, segOf, Good, partsOf, parts-segments, joined-is, good-joined}
+use Rattle.definitions.proofs.Entry.{segOf, Good, partsOf, parts-segments, joined-is, good-joined}
+use Rattle.definitions.proofs.Lists.{all-mem, mem-at, mem-map-back, map-mem, getD-in}
 
 -- ---- lists
-
-pub getD-all : {A : Type 0} (p : A → Bool) (l : List A) (k : ℕ) (d : A) → T (all p l) → T (p d) → T (p (getD l k d))
-getD-all p [] k d h e = e
-getD-all p (x ∷ xs) zero d h e = and-l (p x) (all p xs) h
-getD-all p (x ∷ xs) (suc k) d h e = getD-all p xs k d (and-r (p x) (all p xs) h) e
 
 left-map : {A B : Type 0} (f : A → B) (n : ℕ) (places : List ℕ) (l : List A) → leftFrom n places (map f l) ≡ map f (leftFrom n places l)
 left-map f n places [] = refl
@@ -96,8 +89,8 @@ module _ (firsts : List Segment) (required u : ℕ) where
     handed-same =
         ap (map segmentIn)
         (map-mem (λ k. getD (map stand book) k (first absent)) (λ k. stand (getD book k noEntry)) (c .handed) (λ k m. getD-in stand book k (first absent) noEntry (in-range k m))
-        ∙ sym (map-twice stand (λ k. getD book k noEntry) (c .handed)))
-        ∙ map-twice segmentIn stand es
+        ∙ sym (map-map stand (λ k. getD book k noEntry) (c .handed)))
+        ∙ map-map segmentIn stand es
 
     abbrev input : Input
     input = inputOf (lentTo c (map (segOf firsts) es))
@@ -124,8 +117,8 @@ module _ (firsts : List Segment) (required u : ℕ) where
           flatten-back (c .mode) (c .required) (map (segOf firsts) es) (c .addresses) (spaceOf (c .buffers)) (laid e)
           ∙ sym (parts-segments firsts required u es good-es)
 
-      passed : answer input ≡ 0 → Passed input partSegments
-      passed e = subst (Passed input) (back e) (all-passed input e)
+      passed : answer input ≡ 0 → Accepted input partSegments
+      passed e = subst (Accepted input) (back e) (is-accepted input e)
 
       column-same : answer input ≡ 0 → joinOf input .column ≡ joinedColumn (c .required) partSegments (rowOrder (c .mode) partSegments (c .addresses))
       unfolding joinRules inputOf lentTo

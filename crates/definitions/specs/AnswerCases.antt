@@ -1,25 +1,25 @@
 -- The answers 1 to 11 by small cases (document 01, "Answers of the joiner"): each phrase of the table's rows, with what just passes it, and the order of the
 -- checks. Each table is proved by one computation. Assumes nothing.
-use Prim.Native.Nat.{ℕ, zero, suc}
+use Prim.Native.Nat.{ℕ}
 use mathlib.Core.Path.{_≡_, refl}
 use mathlib.Core.List.{List, [], _∷_, map}
 use mathlib.Core.Bool.{Bool, true, false}
 use lib.ListN.{length, replicate}
 use Rattle.definitions.specs.Lists.{concat}
-use Rattle.definitions.specs.Segment.{Segment}
+use Rattle.definitions.specs.Segment.{Segment, address as at}
 use Rattle.definitions.specs.Answer.{sumsTooLarge}
 use Rattle.definitions.specs.Outcome.{Buffers, Lent, lentOf, numberOf}
 use Rattle.definitions.specs.Book.{lentTo}
-use Rattle.definitions.specs.Sheet.{plain, withAlive, none, full, one, str, dropped, a, b, five, nine, at, memory, call, stacked, inOrder, lending, outcomeOf}
+use Rattle.definitions.specs.Sheet.{plain, withAlive, none, full, one, str, dropped, a, b, five, nine, memory, call, stacked, inOrder, lending, outcomeOf}
 
 -- ---- how the tables are written
 
 -- a call, and the number that it is answered with
-record Check : Type 0 where
+record AnswerCase : Type 0 where
   number : ℕ
   lent : Lent
 
-abbrev gives : ℕ → Lent → Check
+abbrev gives : ℕ → Lent → AnswerCase
 gives n l = record { number = n; lent = l }
 
 numberFor : Lent → ℕ
@@ -32,12 +32,12 @@ alone s = stacked 255 (s ∷ [])
 
 -- ---- 1: more than 256 segments
 
-segmentChecks : List Check
-segmentChecks = gives 0 (stacked 255 (replicate 256 (none 0))) ∷ gives 1 (stacked 255 (replicate 257 (none 0))) ∷ []
+segmentCases : List AnswerCase
+segmentCases = gives 0 (stacked 255 (replicate 256 (none 0))) ∷ gives 1 (stacked 255 (replicate 257 (none 0))) ∷ []
 
-segmentChecks-hold : map (λ c. numberFor (c .lent)) segmentChecks ≡ map (λ c. c .number) segmentChecks
-unfolding numberFor segmentChecks
-segmentChecks-hold = refl
+segmentCases-hold : map (λ c. numberFor (c .lent)) segmentCases ≡ map (λ c. c .number) segmentCases
+unfolding numberFor segmentCases
+segmentCases-hold = refl
 
 -- ---- 2: section lengths differ from the records' sums, or term bytes from the term lengths' sum
 
@@ -46,8 +46,8 @@ abbrev laid : ℕ → List ℕ → List ℕ → List ℕ → List ℕ → List �
 laid flag ids offsets values termLengths termBytes alive =
     lentOf 1 255 ((4 ∷ 4 ∷ 2 ∷ 2 ∷ 3 ∷ 3 ∷ 1 ∷ flag ∷ []) ∷ []) ids offsets values termLengths termBytes alive ((0 ∷ 0 ∷ []) ∷ (0 ∷ 1 ∷ []) ∷ []) (memory 12 12)
 
-lengthChecks : List Check
-lengthChecks =
+lengthCases : List AnswerCase
+lengthCases =
     -- as announced; then each section one too short and one too long
     gives 0 (laid 1 (0 ∷ 1 ∷ []) (0 ∷ 1 ∷ 3 ∷ []) (0 ∷ 0 ∷ 0 ∷ []) (1 ∷ []) (97 ∷ []) (3 ∷ []))
     ∷ gives 2 (laid 1 (0 ∷ []) (0 ∷ 1 ∷ 3 ∷ []) (0 ∷ 0 ∷ 0 ∷ []) (1 ∷ []) (97 ∷ []) (3 ∷ []))
@@ -69,14 +69,14 @@ lengthChecks =
     ∷ gives 2 (laid 2 (0 ∷ 1 ∷ []) (0 ∷ 1 ∷ 3 ∷ []) (0 ∷ 0 ∷ 0 ∷ []) (1 ∷ []) (97 ∷ []) (3 ∷ []))
     ∷ []
 
-lengthChecks-hold : map (λ c. numberFor (c .lent)) lengthChecks ≡ map (λ c. c .number) lengthChecks
-unfolding numberFor lengthChecks
-lengthChecks-hold = refl
+lengthCases-hold : map (λ c. numberFor (c .lent)) lengthCases ≡ map (λ c. c .number) lengthCases
+unfolding numberFor lengthCases
+lengthCases-hold = refl
 
 -- ---- 3: unknown mode, type, required type, kind or flag; type 255 with a kind or lengths
 
-codeChecks : List Check
-codeChecks =
+codeCases : List AnswerCase
+codeCases =
     -- modes 0 and 1 are known
     gives 0 (inOrder 255 [] [])
     ∷ gives 3 (lentTo (call [] 2 255 []) [])
@@ -105,14 +105,14 @@ codeChecks =
     ∷ gives 3 (alone (plain 255 0 1 [] [] [] (a ∷ [])))
     ∷ []
 
-codeChecks-hold : map (λ c. numberFor (c .lent)) codeChecks ≡ map (λ c. c .number) codeChecks
-unfolding numberFor codeChecks
-codeChecks-hold = refl
+codeCases-hold : map (λ c. numberFor (c .lent)) codeCases ≡ map (λ c. c .number) codeCases
+unfolding numberFor codeCases
+codeCases-hold = refl
 
 -- ---- 4: ids not ascending or not below rows; wrong number of ids, offsets or values; offsets not from 0, falling (kind 3) or not rising (kind 4)
 
-listChecks : List Check
-listChecks =
+listCases : List AnswerCase
+listCases =
     -- Empty has no lists
     gives 0 (alone (plain 1 0 1 [] [] [] []))
     ∷ gives 4 (alone (plain 1 0 1 (0 ∷ []) [] [] []))
@@ -159,14 +159,14 @@ listChecks =
     ∷ gives 4 (stacked 255 (one 1 5 ∷ plain 1 1 2 [] [] (5 ∷ []) [] ∷ []))
     ∷ []
 
-listChecks-hold : map (λ c. numberFor (c .lent)) listChecks ≡ map (λ c. c .number) listChecks
-unfolding numberFor listChecks
-listChecks-hold = refl
+listCases-hold : map (λ c. numberFor (c .lent)) listCases ≡ map (λ c. c .number) listCases
+unfolding numberFor listCases
+listCases-hold = refl
 
 -- ---- 5: Bool above 1, ordinal not below the terms, terms not strictly ascending, terms on another type or on kind 0
 
-valueChecks : List Check
-valueChecks =
+valueCases : List AnswerCase
+valueCases =
     -- a Bool above 1, the second value too
     gives 5 (alone (full 5 (1 ∷ 2 ∷ [])))
     -- an ordinal not below the terms, of Str and of Bytes, the second value too
@@ -190,14 +190,14 @@ valueChecks =
     ∷ gives 5 (stacked 255 (one 5 1 ∷ one 5 2 ∷ []))
     ∷ []
 
-valueChecks-hold : map (λ c. numberFor (c .lent)) valueChecks ≡ map (λ c. c .number) valueChecks
-unfolding numberFor valueChecks
-valueChecks-hold = refl
+valueCases-hold : map (λ c. numberFor (c .lent)) valueCases ≡ map (λ c. c .number) valueCases
+unfolding numberFor valueCases
+valueCases-hold = refl
 
 -- ---- 6: an alive bit past the rows, or an alive set in a stacked join
 
-aliveChecks : List Check
-aliveChecks =
+aliveCases : List AnswerCase
+aliveCases =
     -- bit 1 of 1 row, in the second segment; bit 65 of 65 rows
     gives 6 (inOrder 255 (withAlive (1 ∷ []) (one 1 5) ∷ withAlive (3 ∷ []) (one 1 5) ∷ []) (at 0 0 ∷ at 1 0 ∷ []))
     ∷ gives 6 (lending (memory 12 65) (inOrder 255 (withAlive (1 ∷ 2 ∷ []) (none 65) ∷ []) (at 0 0 ∷ [])))
@@ -206,23 +206,23 @@ aliveChecks =
     ∷ gives 6 (stacked 255 (withAlive [] (none 0) ∷ []))
     ∷ []
 
-aliveChecks-hold : map (λ c. numberFor (c .lent)) aliveChecks ≡ map (λ c. c .number) aliveChecks
-unfolding numberFor aliveChecks
-aliveChecks-hold = refl
+aliveCases-hold : map (λ c. numberFor (c .lent)) aliveCases ≡ map (λ c. c .number) aliveCases
+unfolding numberFor aliveCases
+aliveCases-hold = refl
 
 -- ---- 7: rows, values or term bytes sum above 4294967294
 
-sumChecks : List Check
-sumChecks =
+sumCases : List AnswerCase
+sumCases =
     -- rows of no column, of a dropped one, and of two segments
     gives 7 (inOrder 255 (none 4294967295 ∷ []) [])
     ∷ gives 7 (inOrder 255 (dropped 1 4294967295 ∷ []) [])
     ∷ gives 7 (inOrder 255 (none 2147483647 ∷ none 2147483648 ∷ []) [])
     ∷ []
 
-sumChecks-hold : map (λ c. numberFor (c .lent)) sumChecks ≡ map (λ c. c .number) sumChecks
-unfolding numberFor sumChecks
-sumChecks-hold = refl
+sumCases-hold : map (λ c. numberFor (c .lent)) sumCases ≡ map (λ c. c .number) sumCases
+unfolding numberFor sumCases
+sumCases-hold = refl
 
 -- the check alone: what follows it would list each row
 aboveSum : List Segment → Bool
@@ -253,8 +253,8 @@ fewer-bytes terms h = rw h refl
 
 -- ---- 8: ordered, working bytes fewer than all rows plus all terms
 
-workingChecks : List Check
-workingChecks =
+workingCases : List AnswerCase
+workingCases =
     -- rows plus terms
     gives 8 (lending (memory 12 2) (inOrder 255 (str (0 ∷ []) (a ∷ b ∷ []) ∷ []) (at 0 0 ∷ [])))
     ∷ gives 0 (lending (memory 12 3) (inOrder 255 (str (0 ∷ []) (a ∷ b ∷ []) ∷ []) (at 0 0 ∷ [])))
@@ -270,14 +270,14 @@ workingChecks =
     ∷ gives 0 (lending (memory 12 0) (stacked 255 (str (0 ∷ []) (a ∷ []) ∷ [])))
     ∷ []
 
-workingChecks-hold : map (λ c. numberFor (c .lent)) workingChecks ≡ map (λ c. c .number) workingChecks
-unfolding numberFor workingChecks
-workingChecks-hold = refl
+workingCases-hold : map (λ c. numberFor (c .lent)) workingCases ≡ map (λ c. c .number) workingCases
+unfolding numberFor workingCases
+workingCases-hold = refl
 
 -- ---- 9: an address absent from the segments, withdrawn or repeated; an alive row not listed; any address when stacked
 
-addressChecks : List Check
-addressChecks =
+addressCases : List AnswerCase
+addressCases =
     -- no such segment, no such row
     gives 9 (inOrder 255 (one 1 5 ∷ []) (at 0 0 ∷ at 1 0 ∷ []))
     ∷ gives 9 (inOrder 255 (one 1 5 ∷ []) (at 0 0 ∷ at 0 1 ∷ []))
@@ -298,14 +298,14 @@ addressChecks =
     ∷ gives 9 (lentTo (call [] 0 255 (at 0 0 ∷ [])) (one 1 5 ∷ []))
     ∷ []
 
-addressChecks-hold : map (λ c. numberFor (c .lent)) addressChecks ≡ map (λ c. c .number) addressChecks
-unfolding numberFor addressChecks
-addressChecks-hold = refl
+addressCases-hold : map (λ c. numberFor (c .lent)) addressCases ≡ map (λ c. c .number) addressCases
+unfolding numberFor addressCases
+addressCases-hold = refl
 
 -- ---- 10: present or required types of two categories, or a held column that can't be coerced
 
-typeChecks : List Check
-typeChecks =
+typeCases : List AnswerCase
+typeCases =
     -- each type that is not numerical is a category alone
     gives 10 (stacked 255 (plain 3 1 1 [] [] (0 ∷ []) (a ∷ []) ∷ str (0 ∷ []) (a ∷ []) ∷ []))
     ∷ gives 10 (stacked 255 (one 1 5 ∷ one 2 5 ∷ plain 3 1 1 [] [] (0 ∷ []) (a ∷ []) ∷ []))
@@ -332,9 +332,9 @@ typeChecks =
     ∷ gives 10 (stacked 0 (full 1 (5 ∷ 9223372036854775808 ∷ []) ∷ []))
     ∷ []
 
-typeChecks-hold : map (λ c. numberFor (c .lent)) typeChecks ≡ map (λ c. c .number) typeChecks
-unfolding numberFor typeChecks
-typeChecks-hold = refl
+typeCases-hold : map (λ c. numberFor (c .lent)) typeCases ≡ map (λ c. c .number) typeCases
+unfolding numberFor typeCases
+typeCases-hold = refl
 
 -- ---- 11: an output shorter than its list; for terms and map, than the held columns' sums
 
@@ -359,8 +359,8 @@ multi = alone (plain 4 3 2 [] (0 ∷ 2 ∷ 2 ∷ []) (0 ∷ 1 ∷ []) ((97 ∷ 9
 abbrev twice : Lent
 twice = stacked 255 (str (0 ∷ []) (a ∷ []) ∷ str (0 ∷ []) (a ∷ []) ∷ [])
 
-spaceChecks : List Check
-spaceChecks =
+spaceCases : List AnswerCase
+spaceCases =
     -- as much as the lists need, and each output one element shorter
     gives 0 (lending (lentSpace 1 2 2 2 3 2) multi)
     ∷ gives 11 (lending (lentSpace 0 2 2 2 3 2) multi)
@@ -383,14 +383,14 @@ spaceChecks =
     ∷ gives 0 (lending (lentSpace 0 0 1 0 0 0) (inOrder 255 (withAlive (4 ∷ []) five ∷ []) (at 0 2 ∷ [])))
     ∷ []
 
-spaceChecks-hold : map (λ c. numberFor (c .lent)) spaceChecks ≡ map (λ c. c .number) spaceChecks
-unfolding numberFor spaceChecks
-spaceChecks-hold = refl
+spaceCases-hold : map (λ c. numberFor (c .lent)) spaceCases ≡ map (λ c. c .number) spaceCases
+unfolding numberFor spaceCases
+spaceCases-hold = refl
 
 -- ---- checks run in number order, each over all segments: of two that fail the first one answers
 
-orderChecks : List Check
-orderChecks =
+orderCases : List AnswerCase
+orderCases =
     -- 1 and 2: 257 records that announce a value each
     gives 1 (lentOf 0 255 (replicate 257 (1 ∷ 1 ∷ 1 ∷ 0 ∷ 0 ∷ 1 ∷ 0 ∷ 0 ∷ [])) [] [] [] [] [] [] [] (memory 12 12))
     -- 2 and 3: type 6 with a value that is not there
@@ -413,6 +413,6 @@ orderChecks =
     ∷ gives 10 (lending (memory 0 12) (stacked 255 (str (0 ∷ []) (a ∷ []) ∷ one 5 1 ∷ [])))
     ∷ []
 
-orderChecks-hold : map (λ c. numberFor (c .lent)) orderChecks ≡ map (λ c. c .number) orderChecks
-unfolding numberFor orderChecks
-orderChecks-hold = refl
+orderCases-hold : map (λ c. numberFor (c .lent)) orderCases ≡ map (λ c. c .number) orderCases
+unfolding numberFor orderCases
+orderCases-hold = refl

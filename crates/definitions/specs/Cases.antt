@@ -1,15 +1,15 @@
 -- Log sheets C1 to C13 of document 01, the slips to shut out, the example of every answer, what a call leaves in the lent memory, and joins in turn: each
 -- table proved by one computation. Assumes nothing.
-use Prim.Native.Nat.{ℕ, zero, suc}
+use Prim.Native.Nat.{ℕ}
 use mathlib.Core.Path.{_≡_, refl}
 use mathlib.Core.List.{List, [], _∷_, map}
 use lib.ListN.{replicate}
-use Rattle.definitions.specs.Segment.{Segment, Address}
+use Rattle.definitions.specs.Segment.{Segment, Address, address as at}
 use Rattle.definitions.specs.Join.{kindOf, asSegment}
 use Rattle.definitions.specs.Outcome.{Lent, lentOf, Outcome, accepted, refused}
 use Rattle.definitions.specs.TimeOrder.{sorted, timeNumberOf}
 use Rattle.definitions.specs.Book.{Call, Standing, first, result, Entry, callLent, callOutcome, callAnswer, afterCall, answersOf, standsAfter, firstEntry, oneJoin, standingOf, joinedEntry, bookAnswer, bookAfterCall, bookAnswers, bookAfter}
-use Rattle.definitions.specs.Sheet.{plain, withAlive, none, full, one, str, dropped, a, b, five, nine, newKind, at, memory, call, stacked, inOrder, lending, outcomeOf, sheetOf, timeSheetOf, accepts, refuses, Case, case}
+use Rattle.definitions.specs.Sheet.{plain, withAlive, none, full, one, str, dropped, a, b, five, nine, newKind, memory, call, stacked, inOrder, lending, outcomeOf, sheetOf, timeSheetOf, accepts, refuses, Case, case}
 
 -- ---- C1 to C12
 

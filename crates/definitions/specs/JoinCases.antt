@@ -1,10 +1,10 @@
 -- Each rule of the join by small cases (document 01, "The join"): a row's values, dropped columns, type, class, terms. Each table is proved by one computation.
 -- Assumes nothing.
-use Prim.Native.Nat.{ℕ, zero, suc}
 use mathlib.Core.Path.{_≡_, refl}
 use mathlib.Core.List.{List, [], _∷_, map}
 use Rattle.definitions.specs.Lists.{upTo}
-use Rattle.definitions.specs.Sheet.{plain, withAlive, none, full, one, str, dropped, a, b, five, nine, newKind, at, memory, stacked, inOrder, lending, sheetOf, accepts, refuses, Case, case}
+use Rattle.definitions.specs.Sheet.{plain, withAlive, none, full, one, str, dropped, a, b, five, nine, newKind, memory, stacked, inOrder, lending, sheetOf, accepts, refuses, Case, case}
+use Rattle.definitions.specs.Segment.{address as at}
 
 -- ---- a row's values
 

@@ -1,8 +1,8 @@
 -- What a call of the joiner gives and leaves in the lent memory (document 01, "Answers of the joiner"): a refusal changes no output, output
 -- beyond the lists keeps its elements, and the working bytes are zero on return. Assumes nothing.
-use Prim.Native.Nat.{ℕ, zero, suc}
-use mathlib.Core.List.{List, [], _∷_, _++_, map}
-use mathlib.Core.Bool.{Bool, true, false, cond}
+use Prim.Native.Nat.{ℕ}
+use mathlib.Core.List.{List, _++_, map}
+use mathlib.Core.Bool.{cond}
 use lib.ListN.{length, take, drop, replicate}
 use lib.Dec.{eqb}
 use Rattle.definitions.specs.Lists.{concat}

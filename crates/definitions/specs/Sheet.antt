@@ -1,16 +1,16 @@
 -- How the tables of cases are written: segments, calls, and what is expected of them, in few words. Assumes nothing.
-use Prim.Native.Nat.{ℕ, zero, suc}
+use Prim.Native.Nat.{ℕ}
 use mathlib.Core.List.{List, [], _∷_, map}
 use lib.ListN.{length, take, replicate}
 use lib.Ieee.{ofInt, toBits}
-use Rattle.definitions.specs.Segment.{Segment, SegmentRecord, Sections, Address, aliveWords, firstSegment, afterFirst, segmentsOf, recordOf, sectionsOf}
+use Rattle.definitions.specs.Segment.{Segment, Address, aliveWords, firstSegment, afterFirst, segmentsOf, recordOf, sectionsOf, address as at}
 use Rattle.definitions.specs.Row.{rowValues, bitAt, isAlive, aliveRows, isDropped, isHeld, heldOf, asEmpty, effective, noType}
 use Rattle.definitions.specs.Types.{isKnownType, isNumerical, hasTerms, sameCategory, hasType, everyValue, onlyType, numericalType, typeOf, signedOf, integerOf, doubleOf, coerced, isCoercible}
 use Rattle.definitions.specs.Class.{kindClass, aliveClass, classOf, greatestClass}
 use Rattle.definitions.specs.Join.{Column, rowOrder, isUsed, keptTerms, termsOf, ordinalOf, mapOf, newWord, cellOf, encode, joinedType, joinedClass, joinedCells, joinedColumn, joinRules}
-use Rattle.definitions.specs.Answer.{tooManySegments, lengthsWrong, codesKnown, noColumnIsBare, segmentCodesWrong, codesWrong, idsFit, offsetsFit, emptyFits, fullFits, optionalFits, oldFits, newFits, listsFit, listsWrong, valuesFit, valuesWrong, bitPastRows, aliveWrong, sumsTooLarge, workingTooSmall, isAliveAt, aliveAddresses, listsAliveRows, addressesWrong, presentTypes, oneCategory, allCoercible, typesWrong, outputTooShort, answer}
+use Rattle.definitions.specs.Answer.{tooManySegments, lengthsWrong, codesKnown, noColumnIsBare, segmentCodesWrong, codesWrong, idsFit, offsetsFit, emptyFits, fullFits, optionalFits, oldFits, newFits, listsFit, listsWrong, valuesFit, valuesWrong, bitPastRows, aliveWrong, sumsTooLarge, workingTooSmall, isAliveAt, aliveAddresses, listsAliveRows, addressesWrong, presentTypes, oneCategory, allCoercible, typesWrong, outputTooShort, joinChecks, answer}
 use Rattle.definitions.specs.Outcome.{Buffers, Answer, accepted, refused, Outcome, spaceOf, numbersOf, refusedBuffers, acceptedBuffers, Lent, inputOf, joinOutcome, readBack}
-use Rattle.definitions.specs.TimeOrder.{TimeInput, TimeOutcome, keyOf, isBefore, timeOrder, timesWrong, timeAnswer, timeOutcome}
+use Rattle.definitions.specs.TimeOrder.{TimeOutcome, keyOf, isBefore, timeOrder, timesWrong, timeChecks, timeAnswer, timeOutcome}
 use Rattle.definitions.specs.Book.{Call, lentTo}
 
 -- ---- segments
@@ -76,9 +76,6 @@ newKind = plain 1 4 4 (1 ∷ 3 ∷ []) (0 ∷ 2 ∷ 3 ∷ []) (7 ∷ 8 ∷ 9 ∷
 
 -- ---- calls
 
-abbrev pub at : ℕ → ℕ → Address
-at s r = record { segment = s; row = r }
-
 -- lent memory: so many elements of each output, and so many working bytes. None of it is zero
 abbrev pub memory : ℕ → ℕ → Buffers
 memory n working =
@@ -113,7 +110,7 @@ lending memory l =
 
 -- What a call gives and leaves. Every definition is opened here, once: what names this helper on its line opens them all
 unfoldable pub outcomeOf : Lent → Outcome
-unfolding ofInt toBits aliveWords firstSegment afterFirst segmentsOf recordOf sectionsOf rowValues bitAt isAlive aliveRows isDropped isHeld heldOf asEmpty effective isKnownType isNumerical hasTerms sameCategory hasType everyValue onlyType numericalType typeOf signedOf integerOf doubleOf coerced isCoercible kindClass aliveClass classOf greatestClass rowOrder isUsed keptTerms termsOf ordinalOf mapOf newWord cellOf encode joinedType joinedClass joinedCells joinedColumn joinRules tooManySegments lengthsWrong codesKnown noColumnIsBare segmentCodesWrong codesWrong idsFit offsetsFit emptyFits fullFits optionalFits oldFits newFits listsFit listsWrong valuesFit valuesWrong bitPastRows aliveWrong sumsTooLarge workingTooSmall isAliveAt aliveAddresses listsAliveRows addressesWrong presentTypes oneCategory allCoercible typesWrong outputTooShort answer spaceOf numbersOf refusedBuffers acceptedBuffers inputOf joinOutcome readBack lentTo
+unfolding ofInt toBits aliveWords firstSegment afterFirst segmentsOf recordOf sectionsOf rowValues bitAt isAlive aliveRows isDropped isHeld heldOf asEmpty effective isKnownType isNumerical hasTerms sameCategory hasType everyValue onlyType numericalType typeOf signedOf integerOf doubleOf coerced isCoercible kindClass aliveClass classOf greatestClass rowOrder isUsed keptTerms termsOf ordinalOf mapOf newWord cellOf encode joinedType joinedClass joinedCells joinedColumn joinRules tooManySegments lengthsWrong codesKnown noColumnIsBare segmentCodesWrong codesWrong idsFit offsetsFit emptyFits fullFits optionalFits oldFits newFits listsFit listsWrong valuesFit valuesWrong bitPastRows aliveWrong sumsTooLarge workingTooSmall isAliveAt aliveAddresses listsAliveRows addressesWrong presentTypes oneCategory allCoercible typesWrong outputTooShort joinChecks answer spaceOf numbersOf refusedBuffers acceptedBuffers inputOf joinOutcome readBack lentTo
 outcomeOf l = joinOutcome l
 
 -- what a listing shows: the answer, and the column and the map as they stand in the outputs
@@ -135,7 +132,7 @@ sheetOf l = sheetBy (outcomeOf l .buffers) (outcomeOf l .answer)
 
 -- a call of the time order that is lent an output of so many addresses (9, 9)
 unfoldable pub timeSheetOf : List Segment → ℕ → TimeOutcome
-unfolding outcomeOf keyOf isBefore timeOrder timesWrong timeAnswer timeOutcome
+unfolding outcomeOf keyOf isBefore timeOrder timesWrong timeChecks timeAnswer timeOutcome
 timeSheetOf ss space = timeOutcome (record { records = map recordOf ss; sections = sectionsOf ss; space = space }) (replicate space (at 9 9))
 
 -- ---- what is expected of them

@@ -1,11 +1,11 @@
 -- The time order by small cases (document 01, "Time order"), and its answers. Each table is proved by one computation. Assumes nothing.
-use Prim.Native.Nat.{ℕ, zero, suc}
+use Prim.Native.Nat.{ℕ}
 use mathlib.Core.Path.{_≡_, refl}
 use mathlib.Core.List.{List, [], _∷_, map}
 use lib.ListN.{length, replicate}
-use Rattle.definitions.specs.Segment.{Segment, Address}
+use Rattle.definitions.specs.Segment.{Segment, Address, address as at}
 use Rattle.definitions.specs.TimeOrder.{sorted, unsorted, TimeOutcome}
-use Rattle.definitions.specs.Sheet.{plain, withAlive, none, full, one, dropped, at, timeSheetOf}
+use Rattle.definitions.specs.Sheet.{plain, withAlive, none, full, one, dropped, timeSheetOf}
 
 -- ---- how the tables are written
 

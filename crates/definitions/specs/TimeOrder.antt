@@ -2,15 +2,16 @@
 use Prim.Native.Nat.{ℕ, zero, suc, _+_, _%_, _^_}
 use mathlib.Core.List.{List, [], _∷_, _++_, map}
 use mathlib.Core.Path.{_≡_}
-use mathlib.Core.Bool.{Bool, true, false, _&&_, _||_, cond, not}
+use mathlib.Core.Bool.{Bool, true, _&&_, _||_, cond, not}
 use lib.ListN.{length, getD}
-use lib.Dec.{eqb, ltb, leb}
-use Rattle.definitions.specs.Lists.{upTo, any, all, notFalling}
+use lib.Dec.{eqb, ltb}
+use Rattle.definitions.specs.Lists.{upTo, any, notFalling}
 use Rattle.definitions.specs.Segment.{Segment, SegmentRecord, Sections, Address, segmentsFrom}
 use Rattle.definitions.specs.Row.{rowValues, isPresent}
 use Rattle.definitions.specs.Types.{DateTime}
 use Rattle.definitions.specs.Join.{absent}
-use Rattle.definitions.specs.Answer.{tooManySegments, lengthsWrong, segmentCodesWrong, listsWrong, valuesWrong, bitPastRows, sumsTooLarge, aliveAddresses, listsAliveRows}
+use Rattle.definitions.specs.Checks.{Check, check, firstOf}
+use Rattle.definitions.specs.Answer.{aliveAddresses, listsAliveRows, plainChecks}
 use Rattle.definitions.specs.Outcome.{written}
 
 -- no mode, required type or addresses; the space is the number of addresses that the output has place for
@@ -88,18 +89,19 @@ timesWrong ss =
     || not (notFalling (map timeOf (s .values))))
     ss
 
+-- 11 and 12, after the segments' own
+abbrev pub timeOwnChecks : TimeInput → List Check
+timeOwnChecks i =
+    check 11 (ltb (i .space) (length (aliveAddresses (segmentsFrom (i .records) (i .sections)))))
+    ∷ check 12 (timesWrong (segmentsFrom (i .records) (i .sections)))
+    ∷ []
+
+-- the time order's checks in their order
+unfoldable pub timeChecks : TimeInput → List Check
+timeChecks i = plainChecks (i .records) (i .sections) ++ timeOwnChecks i
+
 unfoldable pub timeAnswer : TimeInput → ℕ
-timeAnswer i =
-    cond (tooManySegments (i .records)) 1
-    (cond (lengthsWrong (i .records) (i .sections)) 2
-    (cond (segmentCodesWrong (segmentsFrom (i .records) (i .sections))) 3
-    (cond (listsWrong (segmentsFrom (i .records) (i .sections))) 4
-    (cond (valuesWrong (segmentsFrom (i .records) (i .sections))) 5
-    (cond (any bitPastRows (segmentsFrom (i .records) (i .sections))) 6
-    (cond (sumsTooLarge (segmentsFrom (i .records) (i .sections))) 7
-    (cond (ltb (i .space) (length (aliveAddresses (segmentsFrom (i .records) (i .sections))))) 11
-    (cond (timesWrong (segmentsFrom (i .records) (i .sections))) 12
-    0))))))))
+timeAnswer i = firstOf (timeChecks i)
 
 -- the answer: how many addresses were written, or the number of the first check that fails
 pub data TimeAnswer : Type 0 where

@@ -4,9 +4,9 @@ use mathlib.Core.Path.{_≡_, sym, ap, _∙_}
 use mathlib.Core.List.{List, [], _∷_}
 use Rattle.definitions.specs.Outcome as Outcome
 use Rattle.definitions.specs.Outcome.{Buffers, numberOf}
-use Rattle.merge.specs.declared.Numbers.{Numbers}
-use Rattle.merge.specs.declared.Answer.{Answer}
-use Rattle.merge.specs.declared.Answer.the-variants as A
+use Rattle.merge_checked.specs.declared.Numbers.{Numbers}
+use Rattle.merge_checked.specs.declared.Answer.{Answer}
+use Rattle.merge_checked.specs.declared.Answer.the-variants as A
 use Rattle.merge.specs.Whole.{answerOf, outcomeOf}
 use Rattle.definitions.specs.TimeOrder as Time
 use Rattle.definitions.specs.TimeOrder.{timeNumberOf}

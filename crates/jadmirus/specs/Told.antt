@@ -3,7 +3,7 @@ use Prim.Native.Nat.{ℕ}
 use mathlib.Core.List.{List, [], _∷_}
 use Rattle.definitions.specs.Outcome.{Numbers, Answer, accepted, refused}
 use Rattle.definitions.specs.TimeOrder.{TimeAnswer, sorted, unsorted}
-use Rattle.merge.specs.declared.Numbers as Declared
+use Rattle.merge_checked.specs.declared.Numbers as Declared
 
 -- type, class, rows, and the number of ids, offsets, values, terms, term bytes and ordinals of the map
 abbrev pub numbersListed : Numbers → List ℕ

@@ -1,14 +1,14 @@
 -- The listing's lines, taken apart as the code writes them. Assumes nothing.
-use mathlib.Core.Path.{_≡_, refl, ap}
+use mathlib.Core.Path.{_≡_, refl}
 use mathlib.Core.List.{List, [], _∷_, _++_}
-use Prim.Native.Nat.{ℕ, suc, _+_, _-_, _≤_, _<_, _/_, _%_}
+use Prim.Native.Nat.{ℕ, _+_, _-_, _≤_, _<_, _/_, _%_}
 use native.Mathlib.Numerals.{add-one}
 use native.Mathlib.Omega.{arith}
 use lib.ListN.{length, drop, take, getD, drop-of-length-le}
 use lib.Seq.{drop-cons, drop-drop}
 use native.Mathlib.Nat.{add-sub-cancel-left}
-use Rattle.definitions.specs.Lists.{sum}
 use Rattle.definitions.specs.Segment.{cut}
+use Rattle.lists.proofs.Cuts.{cut-length}
 use Rattle.definitions.specs.Listing.{decimal, numbersText, termText, termsText, hexadecimal, valueLine, listLine, termsLine, digit, newline, space, numbersPart, listsPart, termsPart, typeName, className, rowsName, idsName, offsetsName, valuesName, termsName, mapsName, answerName, acceptedText}
 
 pub value-is : (name : List ℕ) (n : ℕ) → valueLine name n ≡ name ++ (decimal n ++ newline)
@@ -46,9 +46,6 @@ unfolding termText
 term-some [] h = absurd (h refl)
 term-some (b ∷ bs) h = refl
 
-pub sum-step : (ns : List ℕ) (i x : ℕ) → i < length ns → x ≡ getD ns i 0 → sum (drop i ns) ≡ x + sum (drop (i + 1) ns)
-sum-step ns i x h e = rw (add-one i, drop-cons ns i 0, e)
-
 -- the term that stands first, as the code lends it
 pub terms-step : (ls bytes : List ℕ) (i from n : ℕ) → i < length ls → n ≡ getD ls i 0
     → termsText (cut (drop i ls) (drop from bytes)) ≡ space ++ (termText (take (from + n - from) (drop from bytes)) ++ termsText (cut (drop (i + 1) ls) (drop (from + n) bytes)))
@@ -58,10 +55,6 @@ terms-step ls bytes i from n h e = rw (add-one i, drop-cons ls i 0, ← e, drop-
 pub terms-end : (ls bytes : List ℕ) (i : ℕ) → length ls ≤ i → termsText (cut (drop i ls) bytes) ≡ []
 unfolding termsText
 terms-end ls bytes i h = rw (drop-of-length-le ls h)
-
-pub cut-length : (ls bytes : List ℕ) → length (cut ls bytes) ≡ length ls
-cut-length [] bytes = refl
-cut-length (n ∷ ls) bytes = ap suc (cut-length ls (drop n bytes))
 
 pub terms-is : (name ls bytes : List ℕ) → termsLine name (cut ls bytes) ≡ name ++ (decimal (length ls) ++ (termsText (cut ls bytes) ++ newline))
 unfolding termsLine

@@ -1,9 +1,3 @@
-pub mod Given
-pub mod Parts
-pub mod Planned
-pub mod Filled
-pub mod Leaves
-pub mod Dictionary
-pub mod Ends
+pub mod Call
 pub mod InTurn
 pub mod Exhibit

@@ -8,9 +8,9 @@ use Rattle.definitions.specs.Segment.{Segment}
 use Rattle.definitions.specs.Join.{absent}
 use Rattle.definitions.specs.Outcome.{Buffers, Lent, numberOf, lentOf, readBack}
 use Rattle.definitions.specs.Book.{Call, Standing, first, result, callLent, afterAnswer, Entry, oneJoin, bookAnswers, bookAfter, standingOf, handsOnlyStanding, acceptsOnlySegments, isUniform, IsSequenceOf, ResultStands, CallsOneJoin}
-use Rattle.merge.specs.declared.Numbers.{Numbers}
-use Rattle.merge.specs.declared.Answer.{Answer}
-use Rattle.merge.specs.declared.Answer.the-variants as A
+use Rattle.merge_checked.specs.declared.Numbers.{Numbers}
+use Rattle.merge_checked.specs.declared.Answer.{Answer}
+use Rattle.merge_checked.specs.declared.Answer.the-variants as A
 use Rattle.merge.specs.Whole.{numbersIn, answerOf, JoinKept}
 
 -- the call of the book that a run answers, the lists that `join` was lent, what it gave, and the memory as it left it

@@ -1,18 +1,17 @@
 -- The walk over the records that sums the held columns' terms and their bytes. Assumes nothing.
-use Prim.Native.Nat.{ℕ, zero, suc, _+_, _-_, _≤_, _<_, zero-le}
+use Prim.Native.Nat.{ℕ, suc, _+_, _-_, _≤_, _<_, zero-le}
 use native.Mathlib.Numerals.{add-one}
 use native.Mathlib.Omega.{arith}
-use mathlib.Core.Path.{_≡_, refl, sym, ap, ap₂, _∙_, subst}
-use mathlib.Core.List.{List, [], _∷_}
-use mathlib.Core.Bool.{Bool, true, false, cond}
+use mathlib.Core.Path.{_≡_, refl, ap, ap₂, _∙_}
+use mathlib.Core.List.{List}
+use mathlib.Core.Bool.{cond}
 use lib.ListN.{length, getD, take, drop}
 use lib.Dec.{eqb}
 use Rattle.definitions.specs.Lists.{sum}
-use Rattle.term_rows.specs.Runs.{countAt, heldAt, posAt, fromAt, toAt, textAt}
-use Rattle.term_rows.proofs.Rows.{sum-take-le}
-use Rattle.term_rows.proofs.Starts.{from-sum}
-use Rattle.term_rows.proofs.Begin.{pos-mono, to-pos, text-from, held-le}
+use Rattle.term_cursors.specs.Runs.{countAt, heldAt, posAt, toAt, textAt}
+use Rattle.term_cursors.proofs.Begin.{pos-mono, to-pos, text-from, held-le, from-sum}
 use Rattle.merge_column.specs.Plan.{HeldRuns}
+use Rattle.lists.proofs.Sums.{sum-take-le}
 
 pub record Walk (records : List (List ℕ)) (held lengths : List ℕ) (s pos terms bytes : ℕ) : Type 0 where
   pub most : s ≤ length records

@@ -1,40 +1,25 @@
 -- The laws of the parts: one choice by a code, counts, room, and the shape. Assumes nothing.
-use Prim.Native.Nat.{ℕ, zero, suc, _+_, _≤_, _<_}
-use native.Mathlib.Nat.{zero-add, le-refl}
+use Prim.Native.Nat.{ℕ, suc, _+_, _≤_}
 use native.Mathlib.Omega.{arith}
-use mathlib.Core.Path.{_≡_, refl, sym, ap, _∙_, subst}
-use mathlib.Core.List.{List, [], _∷_, _++_, append-nil}
+use mathlib.Core.Path.{_≡_, refl, sym, ap, _∙_}
+use mathlib.Core.List.{List, _∷_}
 use mathlib.Core.Bool.{Bool, true, false, not, cond}
-use lib.ListN.{length, take, drop, replicate, drop-of-length-le}
-use lib.Dec.{eqb, ltb, leb}
-use borrow.Author.Tests.{eq-eqb, ne-eqb, not-true, not-false}
+use lib.ListN.{length, replicate}
+use lib.Dec.{eqb}
+use borrow.Author.Tests.{not-true, not-false}
 use Rattle.runs.specs.Put.{put, putIf, RoomIf}
 use Rattle.places.specs.Width.{idsOf, totalsOf}
 use Rattle.places.specs.Place.{widths}
 use Rattle.places.specs.Stack.{stackedWidths}
 use Rattle.column_values_merge.specs.Stack.{stackedWords}
-use Rattle.column_index_stacked.specs.Stacked.{Stacked}
-use Rattle.column_index_shuffled.specs.Order.{orderedWords, Ordered}
+use Rattle.column_index_shuffled.specs.Order.{orderedWords}
 use Rattle.merge_column.specs.declared.Shape.{Shape}
 use Rattle.merge_column.specs.declared.Space.{Space}
-use Rattle.merge_column.specs.declared.Plan.{Plan}
 use Rattle.merge_column.specs.declared.Plan.the-variants.{Refused, Column}
-use Rattle.merge_column.specs.Plan.{classFor, widthsFor, idsFor, offsetsFor, enoughFor, joinedWords, leftFor, Filling}
-
--- put from the start over something as long
-pub put-whole : {A : Type 0} (vs old : List A) → length vs ≡ length old → put 0 vs old ≡ vs
-unfolding put
-put-whole vs old e =
-    ap (λ (n : ℕ). vs ++ drop n old) (zero-add (length vs) ∙ e) ∙ rw (drop-of-length-le old (le-refl (length old))) (append-nil vs)
+use Rattle.merge_column.specs.Plan.{classFor, widthsFor, offsetsFor, enoughFor, joinedWords, leftFor, Filling}
+use Rattle.lists.proofs.Tests.{at-code, past-code}
 
 -- ---- one choice by a code
-
-module _ {A : Type 0} (m n : ℕ) (a b : A) where
-  pub at-code : m ≡ n → a ≡ cond (eqb m n) a b
-  at-code e = rw (eq-eqb m n e)
-
-  pub past-code : (m ≡ n → ⊥) → b ≡ cond (eqb m n) a b
-  past-code e = rw (ne-eqb m n e)
 
 pub class-none : (t g : ℕ) → t ≡ 255 → 0 ≡ classFor t g
 unfolding classFor
@@ -43,14 +28,6 @@ class-none t g e = at-code t 255 0 g e
 pub class-some : (t g r : ℕ) → (t ≡ 255 → ⊥) → r ≡ g → r ≡ classFor t g
 unfolding classFor
 class-some t g r e q = q ∙ past-code t 255 0 g e
-
-pub ids-none : (k n : ℕ) → k ≡ 0 → 0 ≡ idsFor k n
-unfolding idsFor
-ids-none k n e = at-code k 0 0 n e
-
-pub ids-some : (k n : ℕ) → (k ≡ 0 → ⊥) → n ≡ idsFor k n
-unfolding idsFor
-ids-some k n e = past-code k 0 0 n e
 
 pub offsets-some : (k n : ℕ) → k ≡ 2 → n + 1 ≡ offsetsFor k n
 unfolding offsetsFor
@@ -90,14 +67,6 @@ module _ {mode class to : ℕ} {addresses places sources : List (List ℕ)} {ids
 
     pub values-place : length vs ≤ length outValues
     values-place = rw q (g .values-room)
-
--- ---- room
-
-pub no-room : {t : Bool} (rest : Bool) → t ≡ true → false ≡ cond t false rest
-no-room rest e = rw e
-
-pub has-place : {t x rest : Bool} → t ≡ false → x ≡ rest → x ≡ cond t false rest
-has-place e q = rw e q
 
 -- ---- the shape
 

@@ -2,3 +2,10 @@ pub mod Laws
 pub mod Held
 pub mod Ready
 pub mod Measured
+pub mod Stand
+pub mod Distinct
+pub mod Index
+pub mod Counted
+pub mod Map
+pub mod Values
+pub mod Joined

@@ -1,8 +1,8 @@
 -- What is measured is the plan. Assumes nothing.
-use Prim.Native.Nat.{ℕ, zero, suc, _+_, _≤_, _<_, zero-le}
+use Prim.Native.Nat.{ℕ, _≤_, _<_}
 use native.Mathlib.Omega.{arith}
-use mathlib.Core.Path.{_≡_, refl, sym, ap, _∙_}
-use mathlib.Core.List.{List, [], _∷_}
+use mathlib.Core.Path.{_≡_, sym, ap, _∙_}
+use mathlib.Core.List.{List}
 use mathlib.Core.Bool.{cond}
 use lib.Dec.{eqb}
 use lib.ListN.{length}
@@ -13,7 +13,7 @@ use Rattle.segment.specs.Records.{recordsOf}
 use Rattle.places.specs.Width.{idsOf}
 use Rattle.column_index_merge.specs.declared.Counts.{Counts}
 use Rattle.column_index_merge.specs.Class.{greatestIn}
-use Rattle.term_rows.specs.Runs.{toAt, textAt}
+use Rattle.term_cursors.specs.Runs.{toAt, textAt}
 use Rattle.merge_type.specs.declared.TypeAnswer.{TypeAnswer}
 use Rattle.merge_type.specs.declared.TypeAnswer.the-variants.{Wrong, Joined}
 use Rattle.merge_type.specs.Parts.{partsFrom, typeAnswer}
@@ -21,16 +21,10 @@ use Rattle.merge_column.specs.declared.Space.{Space}
 use Rattle.merge_column.specs.declared.Plan.{Plan}
 use Rattle.merge_column.specs.declared.Plan.the-variants.{Refused}
 use Rattle.merge_column.specs.Plan.{classFor, widthsFor, planOf, planBy, planFor}
-
--- a row that is listed has a value
-ids-le : (n : ℕ) (ws : List ℕ) → length (idsOf n ws) ≤ sum ws
-unfolding idsOf
-ids-le n [] = zero-le
-ids-le n (zero ∷ ws) = let h = ids-le (suc n) ws in omega arith
-ids-le n (suc w ∷ ws) = let h = ids-le (suc n) ws in omega arith
+use Rattle.column_index_merge.proofs.Count.{count-sum, count-is}
 
 pub listed-few : (n : ℕ) (ws : List ℕ) → n ≡ length (idsOf 0 ws) → sum ws ≤ 4294967294 → n < 18446744073709551615
-listed-few n ws e h = omega (arith, ids-le 0 ws)
+listed-few n ws e h = omega (arith, count-sum ws, count-is ws)
 
 module _ (mode required : ℕ) (records : List (List ℕ)) (ids offsets values lengths words : List ℕ) (addresses places alives : List (List ℕ)) (held : List ℕ) (space : Space)
     (x : TypeAnswer) (e : x ≡ typeAnswer required (partsFrom records values held)) where

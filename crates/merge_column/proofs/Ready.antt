@@ -1,18 +1,16 @@
 -- The tables that the passes over the records leave. Assumes nothing.
 use Prim.Native.Nat.{ℕ, _≤_}
 use native.Mathlib.Nat.{le-of-eq}
-use native.Mathlib.Omega.{arith}
-use mathlib.Core.Path.{_≡_, refl, sym, ap, _∙_, subst}
+use mathlib.Core.Path.{_≡_, sym, ap, _∙_}
 use mathlib.Core.List.{List}
 use lib.ListN.{length}
 use Rattle.runs.specs.Put.{put}
-use Rattle.places.specs.Places.{table, rawAt, keptAt, aliveAt, sourceAt}
+use Rattle.places.specs.Places.{table, rawAt, keptAt, aliveAt, sourceAt, rawPlaces, alivesOf, sourcesOf}
 use Rattle.places.proofs.Fill.{table-length}
 use Rattle.column_index_merge.specs.Held.{heldAt}
 use Rattle.column_index_merge.specs.Class.{AllClassed}
-use Rattle.placed.specs.Checked.{rawPlaces, placesOf, alivesOf, sourcesOf}
-use Rattle.merge_column.specs.Plan.{Preparing, Prepared, flagsOf}
-use Rattle.merge_column.proofs.Laws.{put-whole}
+use Rattle.merge_column.specs.Plan.{Preparing, Prepared}
+use Rattle.runs.proofs.Laws.{put-whole}
 
 module _ {records : List (List ℕ)} {ids offsets words : List ℕ} {places alives : List (List ℕ)} {held : List ℕ} {sources : List (List ℕ)}
     (g : Preparing records ids offsets words places alives held sources) {P A : List (List ℕ)}

@@ -1,8 +1,8 @@
 -- The parts of one column's join, over what the passes over the records leave (crates places, column_index_merge, merge_type). Assumes nothing.
-use Prim.Native.Nat.{ℕ, suc, _+_, _≤_, _<_}
+use Prim.Native.Nat.{ℕ, suc, _≤_, _<_}
 use mathlib.Core.Path.{_≡_}
-use mathlib.Core.List.{List, [], _∷_}
-use mathlib.Core.Bool.{Bool, true, false, cond, not}
+use mathlib.Core.List.{List, _∷_}
+use mathlib.Core.Bool.{Bool, false, cond, not}
 use lib.Dec.{eqb, ltb, leb}
 use lib.ListN.{length, replicate}
 use Rattle.definitions.specs.Lists.{sum}
@@ -13,19 +13,18 @@ use Rattle.segment.specs.Records.{recordsOf}
 use Rattle.runs.specs.Put.{RoomIf}
 use Rattle.places.specs.Width.{idsOf, totalsOf}
 use Rattle.places.specs.Place.{widths}
-use Rattle.places.specs.Places.{table}
+use Rattle.places.specs.Places.{table, rawPlaces, placesOf, alivesOf, sourcesOf}
 use Rattle.places.specs.Stack.{stackedWidths}
 use Rattle.column_index_merge.specs.Held.{heldAt}
 use Rattle.column_index_merge.specs.Class.{greatestIn, AllClassed}
 use Rattle.column_index_merge.specs.Counted.{countedAll}
-use Rattle.term_rows.specs.Runs.{posAt, toAt, textAt}
+use Rattle.term_cursors.specs.Runs.{posAt, toAt, textAt}
 use Rattle.merge_type.specs.declared.TypeAnswer.{TypeAnswer}
 use Rattle.merge_type.specs.declared.TypeAnswer.the-variants.{Wrong, Joined}
 use Rattle.merge_type.specs.Parts.{partsFrom, Lent, typeAnswer}
 use Rattle.column_values_merge.specs.Stack.{stackedWords}
 use Rattle.column_index_stacked.specs.Stacked.{Stacked}
 use Rattle.column_index_shuffled.specs.Order.{orderedWords, Ordered}
-use Rattle.placed.specs.Checked.{rawPlaces, placesOf, alivesOf, sourcesOf}
 use Rattle.merge_column.specs.declared.Shape.{Shape}
 use Rattle.merge_column.specs.declared.Space.{Space}
 use Rattle.merge_column.specs.declared.Plan.{Plan}

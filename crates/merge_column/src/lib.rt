@@ -8,7 +8,7 @@ ghost use lib.ListN.{length};
 ghost use lib.Dec.{eqb};
 ghost use Rattle.runs.specs.Put.{put, putIf};
 ghost use Rattle.places.specs.Width.{idsOf, totalsOf};
-ghost use Rattle.term_rows.specs.Runs.{toAt, textAt};
+ghost use Rattle.term_cursors.specs.Runs.{toAt, textAt};
 ghost use Rattle.column_index_merge.specs.Class.{greatestIn, AllClassed};
 ghost use Rattle.merge_column.specs.Plan.{Preparing, Prepared, classFor, HeldRuns, idsFor, offsetsFor, enoughFor, planOf, Planning, planFor, widthsFor, joinedWords, leftFor, Filling};
 
@@ -57,15 +57,6 @@ pub struct HeldTerms {
     pub bytes: usize,
 }
 
-fn held_part(held: u8, n: usize) -> usize
-    ensures { λ r. ⌜ r ≡ cond (eqb held 0) 0 n ⌝ }
-{
-    if held == 0 {
-        return 0;
-    }
-    n
-}
-
 fn held_terms(records: &[[u32; 8]], held: &[u8], lengths: &[u32]) -> HeldTerms
     requires { ⌜ HeldRuns (now records) (now held) (now lengths) ⌝ }
     ensures { λ r. ⌜ r .terms ≡ toAt (now (records .entry)) (now (held .entry)) (length (now (records .entry))) ⌝ }
@@ -79,10 +70,10 @@ fn held_terms(records: &[[u32; 8]], held: &[u8], lengths: &[u32]) -> HeldTerms
         let r = segment::record_at(records, s);
         let n = segment::wide(r.terms);
         let end = pos + n;
-        let k = held_part(held[s], n);
+        let k = runs::unless(held[s] == 0, n);
         let to = pos + k;
         terms += k;
-        bytes += term_rows::bytes_of(&lengths[pos..to]);
+        bytes += runs::sum_of(&lengths[pos..to]);
         pos = end;
         s += 1;
     }
@@ -125,15 +116,6 @@ fn rows_of(mode: u32, rows: usize, addresses: usize) -> usize
         return rows;
     }
     addresses
-}
-
-fn ids_of(class: u32, listed: usize) -> usize
-    ensures { λ r. ⌜ r ≡ idsFor class listed ⌝ }
-{
-    if class == 0 {
-        return 0;
-    }
-    listed
 }
 
 fn offsets_of(class: u32, listed: usize) -> usize
@@ -184,7 +166,7 @@ fn shape_of(
         typ: typ,
         class: class,
         rows: rows,
-        ids: ids_of(class, c.listed),
+        ids: runs::unless(class == 0, c.listed),
         offsets: offsets_of(class, c.listed),
         values: c.values,
         map: h.terms,

@@ -6,49 +6,50 @@ use Prim.Native.Nat.{ℕ, zero, suc, _+_, _-_, _≤_, _<_, zero-le, suc-le-suc}
 use native.Mathlib.Nat.{add-zero}
 use native.Mathlib.Omega.{arith}
 use lib.Dec.{eqb}
-use lib.ListN.{length, getD, take, drop, length-drop, length-append}
-use lib.Seq.{length-take-le}
+use lib.ListN.{length, getD, take, drop, length-drop}
 use Rattle.definitions.specs.Lists.{sum, upFrom, upTo, filter, concat, sortTerms}
 use Rattle.definitions.specs.Segment.{Segment, SegmentRecord, Sections, cut, firstSegment, segmentsFrom}
 use Rattle.definitions.specs.Row.{isHeld, heldOf, hasAliveSet}
 use Rattle.definitions.specs.Join.{absent, isUsed, keptTerms, termsOf, ordinalOf, mapOf}
-use Rattle.term_rows.specs.Rows.{rankAt}
-use Rattle.term_rows.specs.Runs.{joinTo, countAt, heldAt, posAt, fromAt, toAt, textAt}
+use Rattle.term_cursors.specs.Cursors.{unmarkedAt}
+use Rattle.term_cursors.specs.Runs.{joinTo, countAt, heldAt, posAt, fromAt, toAt, textAt}
 use Rattle.term_walk.specs.Walk.{markedFrom}
 use Rattle.term_walk.proofs.Ends.{merged-same}
 use Rattle.merge_dict_column.specs.Dict.{heldDict, mergedTerms, mergedMap, Dictionary}
 use Rattle.merge_dict_column.specs.Stands.{Stands, Joins}
 use Rattle.definitions.specs.Answer.{total}
 use Rattle.segment.specs.Records.{recordsOf}
-use Rattle.segment.proofs.At.{sectionsAt}
-use Rattle.term_rows.proofs.Starts.{start-total, from-sum, segment-is}
-use Rattle.term_rows.proofs.Rows.{cut-length}
-use Rattle.term_rows.proofs.Begin.{pos-mono, from-mono}
+use Rattle.segment.proofs.At.{sectionsAt, start-total, segment-is}
+use Rattle.term_cursors.proofs.Begin.{pos-mono, from-mono, from-sum}
+use Rattle.lists.proofs.Cuts.{cut-length, cut-bytes}
+use Rattle.lists.specs.Sums.{sumBelow}
+use Rattle.lists.proofs.Sums.{below-shift}
+use Rattle.lists.proofs.Parts.{part-length}
 
 -- ---- marked terms
 
 module _ (marks : List ℕ) (all : Bool) where
-  all-marked : (l : List (List ℕ)) (pos : ℕ) → ((i : ℕ) → i < length l → eqb (rankAt marks all (pos + i)) 0 ≡ true) → markedFrom marks all pos l ≡ l
+  all-marked : (l : List (List ℕ)) (pos : ℕ) → ((i : ℕ) → i < length l → eqb (unmarkedAt marks all (pos + i)) 0 ≡ true) → markedFrom marks all pos l ≡ l
   all-marked [] pos h = refl
   all-marked (t ∷ ts) pos h =
-      let b : eqb (rankAt marks all pos) 0 ≡ true = ap (λ (z : ℕ). eqb (rankAt marks all z) 0) (sym (add-zero pos)) ∙ h 0 (suc-le-suc zero-le) in
+      let b : eqb (unmarkedAt marks all pos) 0 ≡ true = ap (λ (z : ℕ). eqb (unmarkedAt marks all z) 0) (sym (add-zero pos)) ∙ h 0 (suc-le-suc zero-le) in
       let r : markedFrom marks all (suc pos) ts ≡ ts =
-      all-marked ts (suc pos) (λ i k. ap (λ (z : ℕ). eqb (rankAt marks all z) 0) (let w : suc pos + i ≡ pos + suc i = omega arith in w) ∙ h (suc i) (suc-le-suc k)) in
+      all-marked ts (suc pos) (λ i k. ap (λ (z : ℕ). eqb (unmarkedAt marks all z) 0) (let w : suc pos + i ≡ pos + suc i = omega arith in w) ∙ h (suc i) (suc-le-suc k)) in
       ap (λ (z : Bool). cond z (t ∷ markedFrom marks all (suc pos) ts) (markedFrom marks all (suc pos) ts)) b ∙ ap (λ (z : List (List ℕ)). t ∷ z) r
 
   some-marked : (whole l : List (List ℕ)) (pos a : ℕ) → ((i : ℕ) → getD whole (a + i) [] ≡ getD l i [])
-      → markedFrom marks all (pos + a) l ≡ map (λ k. getD whole k []) (filter (λ k. eqb (rankAt marks all (pos + k)) 0) (upFrom a (length l)))
+      → markedFrom marks all (pos + a) l ≡ map (λ k. getD whole k []) (filter (λ k. eqb (unmarkedAt marks all (pos + k)) 0) (upFrom a (length l)))
   some-marked whole [] pos a h = refl
   some-marked whole (t ∷ ts) pos a h =
       let w : suc (pos + a) ≡ pos + suc a = omega arith in
-      let r : markedFrom marks all (suc (pos + a)) ts ≡ map (λ k. getD whole k []) (filter (λ k. eqb (rankAt marks all (pos + k)) 0) (upFrom (suc a) (length ts))) =
+      let r : markedFrom marks all (suc (pos + a)) ts ≡ map (λ k. getD whole k []) (filter (λ k. eqb (unmarkedAt marks all (pos + k)) 0) (upFrom (suc a) (length ts))) =
       ap (λ (z : ℕ). markedFrom marks all z ts) w
       ∙ some-marked whole ts pos (suc a) (λ i. ap (λ (z : ℕ). getD whole z []) (let v : suc a + i ≡ a + suc i = omega arith in v) ∙ h (suc i)) in
       let e : getD whole a [] ≡ t = ap (λ (z : ℕ). getD whole z []) (sym (add-zero a)) ∙ h 0 in
-      go (eqb (rankAt marks all (pos + a)) 0) r e
+      go (eqb (unmarkedAt marks all (pos + a)) 0) r e
     where
-      go : (b : Bool) → markedFrom marks all (suc (pos + a)) ts ≡ map (λ k. getD whole k []) (filter (λ k. eqb (rankAt marks all (pos + k)) 0) (upFrom (suc a) (length ts))) → getD whole a [] ≡ t
-          → cond b (t ∷ markedFrom marks all (suc (pos + a)) ts) (markedFrom marks all (suc (pos + a)) ts) ≡ map (λ k. getD whole k []) (cond b (a ∷ (filter (λ k. eqb (rankAt marks all (pos + k)) 0) (upFrom (suc a) (length ts)))) (filter (λ k. eqb (rankAt marks all (pos + k)) 0) (upFrom (suc a) (length ts))))
+      go : (b : Bool) → markedFrom marks all (suc (pos + a)) ts ≡ map (λ k. getD whole k []) (filter (λ k. eqb (unmarkedAt marks all (pos + k)) 0) (upFrom (suc a) (length ts))) → getD whole a [] ≡ t
+          → cond b (t ∷ markedFrom marks all (suc (pos + a)) ts) (markedFrom marks all (suc (pos + a)) ts) ≡ map (λ k. getD whole k []) (cond b (a ∷ (filter (λ k. eqb (unmarkedAt marks all (pos + k)) 0) (upFrom (suc a) (length ts)))) (filter (λ k. eqb (unmarkedAt marks all (pos + k)) 0) (upFrom (suc a) (length ts))))
       go true r e = ap₂ (λ (x : List ℕ) (y : List (List ℕ)). x ∷ y) (sym e) r
       go false r e = r
 
@@ -99,7 +100,7 @@ module _ {ss : List Segment} {records : List (List ℕ)} {held lengths bytes mar
           ap (λ (z : ℕ). markedFrom marks all z (getD ss s absent .terms)) (sym (add-zero (posAt records s)))
           ∙ some-marked marks all (getD ss s absent .terms) (getD ss s absent .terms) (posAt records s) 0 (λ i. ap (λ (z : ℕ). getD (getD ss s absent .terms) z []) (let w : 0 + i ≡ i = omega arith in w))
           ∙ ap (λ (z : List ℕ). map (λ k. getD (getD ss s absent .terms) k []) z)
-          (filter-same (λ k. eqb (rankAt marks all (posAt records s + k)) 0) (isUsed (getD ss s absent)) 0 (length (getD ss s absent .terms))
+          (filter-same (λ k. eqb (unmarkedAt marks all (posAt records s + k)) 0) (isUsed (getD ss s absent)) 0 (length (getD ss s absent .terms))
           (λ k a c. st .mark s k l e (omega arith) ∙ ap (λ (z : Bool). cond z (isUsed (getD ss s absent) k) true) f))
       go false f = all-marked marks all (getD ss s absent .terms) (posAt records s) (λ i c. st .mark s i l e c ∙ ap (λ (z : Bool). cond z (isUsed (getD ss s absent) i) true) f)
 
@@ -144,19 +145,11 @@ sections-dict records x s h =
 
 -- ---- the room that the walk needs is the held columns' sums
 
-abbrev sumTo : (ℕ → ℕ) → ℕ → ℕ
-sumTo g zero = 0
-sumTo g (suc n) = sumTo g n + g n
-
-sum-shift : (g : ℕ → ℕ) (n : ℕ) → sumTo g (suc n) ≡ g 0 + sumTo (λ s. g (suc s)) n
-sum-shift g zero = omega arith
-sum-shift g (suc n) = let e = sum-shift g n in omega arith
-
 sum-held : (h : Segment → ℕ) (ss : List Segment) (g : ℕ → ℕ) → ((s : ℕ) → s < length ss → g s ≡ cond (isHeld (getD ss s absent)) (h (getD ss s absent)) 0)
-    → sumTo g (length ss) ≡ sum (map h (filter isHeld ss))
+    → sumBelow g (length ss) ≡ sum (map h (filter isHeld ss))
 sum-held h [] g e = refl
 sum-held h (x ∷ xs) g e =
-    sum-shift g (length xs)
+    below-shift g (length xs)
     ∙ ap₂ (λ (a b : ℕ). a + b) (e 0 (suc-le-suc zero-le)) (sum-held h xs (λ s. g (suc s)) (λ s k. e (suc s) (suc-le-suc k)))
     ∙ go (isHeld x)
   where
@@ -164,28 +157,10 @@ sum-held h (x ∷ xs) g e =
     go true = refl
     go false = omega arith
 
-to-sum : (records : List (List ℕ)) (held : List ℕ) (n : ℕ) → toAt records held n ≡ sumTo (heldAt records held) n
-to-sum records held zero = refl
-to-sum records held (suc n) = ap (λ (z : ℕ). z + heldAt records held n) (to-sum records held n)
-
-text-sum : (records : List (List ℕ)) (held lengths : List ℕ) (n : ℕ) → textAt records held lengths n ≡ sumTo (λ s. sum (take (heldAt records held s) (drop (posAt records s) lengths))) n
-text-sum records held lengths zero = refl
-text-sum records held lengths (suc n) = ap (λ (z : ℕ). z + sum (take (heldAt records held n) (drop (posAt records n) lengths))) (text-sum records held lengths n)
-
-cut-bytes : (ls bs : List ℕ) → sum ls ≤ length bs → length (concat (cut ls bs)) ≡ sum ls
-cut-bytes [] bs h = refl
-cut-bytes (n ∷ ns) bs h =
-    let d : length (drop n bs) ≡ length bs - n = length-drop n bs in
-    let t : length (take n bs) ≡ n = length-take-le n bs (omega arith) in
-    let r : length (concat (cut ns (drop n bs))) ≡ sum ns = cut-bytes ns (drop n bs) (omega arith) in
-    length-append (take n bs) (concat (cut ns (drop n bs))) ∙ ap₂ (λ (a b : ℕ). a + b) t r
-
 module _ {ss : List Segment} {records : List (List ℕ)} {held lengths bytes marks : List ℕ} {all : Bool} (st : Stands ss records held lengths bytes marks all)
     (in-lengths : posAt records (length records) ≤ length lengths) (in-bytes : fromAt records lengths (length records) ≤ length bytes) where
   count-in : (s : ℕ) → s < length ss → length (take (countAt records s) (drop (posAt records s) lengths)) ≡ countAt records s
-  count-in s l =
-      length-take-le (countAt records s) (drop (posAt records s) lengths)
-      (rw (length-drop (posAt records s) lengths) (omega (arith, pos-mono records (suc s) (length records) (omega (arith, st .size)))))
+  count-in s l = part-length (countAt records s) (posAt records s) lengths (omega (arith, pos-mono records (suc s) (length records) (omega (arith, st .size))))
 
   count-is : (s : ℕ) → s < length ss → countAt records s ≡ length (getD ss s absent .terms)
   count-is s l =
@@ -209,14 +184,14 @@ module _ {ss : List Segment} {records : List (List ℕ)} {held lengths bytes mar
   pub terms-sum : toAt records held (length records) ≡ sum (map (λ (x : Segment). length (x .terms)) (heldOf ss))
   unfolding heldOf
   terms-sum =
-      ap (toAt records held) (st .size) ∙ to-sum records held (length ss)
+      ap (toAt records held) (st .size)
       ∙ sum-held (λ (x : Segment). length (x .terms)) ss (heldAt records held) (λ s l. held-if s l ∙ ap (λ (z : ℕ). cond (isHeld (getD ss s absent)) z 0) (count-is s l))
 
   -- and of their bytes
   pub texts-sum : textAt records held lengths (length records) ≡ sum (map (λ (x : Segment). length (concat (x .terms))) (heldOf ss))
   unfolding heldOf
   texts-sum =
-      ap (textAt records held lengths) (st .size) ∙ text-sum records held lengths (length ss)
+      ap (textAt records held lengths) (st .size)
       ∙ sum-held (λ (x : Segment). length (concat (x .terms))) ss (λ s. sum (take (heldAt records held s) (drop (posAt records s) lengths)))
       (λ s l. ap (λ (z : ℕ). sum (take z (drop (posAt records s) lengths))) (held-if s l) ∙ go s l (isHeld (getD ss s absent)))
     where

@@ -7,7 +7,7 @@ use Prim.Native.Nat.{ℕ, _+_, _≤_, _<_, zero-le, min}
 use native.Mathlib.Omega.{arith}
 use lib.Dec.{T, eqb, ltb, leb}
 use lib.Ieee.Fits.{and-l, and-r}
-use lib.ListN.{length, getD, take, drop, length-map, length-take, List·getD-eq-default}
+use lib.ListN.{length, getD, take, drop, length-take, List·getD-eq-default}
 use borrow.Author.Tests.{eqb-false}
 use Rattle.definitions.specs.Lists.{sum, all, filter, isEmpty, concat, termsAscending}
 use Rattle.definitions.specs.Segment.{Segment, segmentsFrom, recordFrom}
@@ -16,23 +16,27 @@ use Rattle.definitions.specs.Types.{hasTerms, BoolType}
 use Rattle.definitions.specs.Join.{absent, isUsed}
 use Rattle.definitions.specs.Answer.{valuesFit}
 use Rattle.segment.specs.Records.{recordsOf, sectionsIn}
-use Rattle.term_rows.specs.Rows.{rankAt}
-use Rattle.term_rows.specs.Runs.{countAt, posAt, fromAt, Runs}
-use Rattle.term_rows.proofs.Rows.{le-lt, cut-length, sum-take-le}
-use Rattle.term_rows.proofs.Starts.{from-sum}
+use Rattle.term_cursors.specs.Cursors.{unmarkedAt}
+use Rattle.term_cursors.specs.Runs.{countAt, posAt, fromAt, Runs}
 use Rattle.term_marks.specs.Marks.{marksOf}
-use Rattle.term_marks.proofs.Kept.{all-at, segments-length, mark-of}
+use Rattle.term_marks.proofs.Kept.{mark-of}
 use Rattle.merge_dict_column.specs.Dict.{heldDict, Texts}
 use Rattle.merge_dict_column.specs.Stands.{Stands, Flags}
 use Rattle.merge_dict_column.proofs.Ends.{dict-empty}
 use Rattle.merge_dict_column.proofs.Bridge.{sections-dict, dict-held, dict-none, terms-sum, texts-sum}
+use Rattle.lists.proofs.Numbers.{le-lt}
+use Rattle.lists.proofs.Cuts.{cut-length}
+use Rattle.term_cursors.proofs.Begin.{from-sum}
+use Rattle.lists.proofs.Sums.{sum-take-le}
+use Rattle.lists.proofs.Lists.{all-at}
+use Rattle.segment.proofs.At.{segments-many}
 
 module _ (records : List (List ℕ)) (held ids offsets values lengths bytes alive : List ℕ) where
   abbrev ss : List Segment
   ss = segmentsFrom (recordsOf records) (sectionsIn ids offsets values lengths bytes alive)
 
   size : length records ≡ length ss
-  size = sym (segments-length (recordsOf records) (sectionsIn ids offsets values lengths bytes alive) ∙ length-map records recordFrom)
+  size = sym (segments-many records (sectionsIn ids offsets values lengths bytes alive))
 
   terms-few : (s : ℕ) → s < length records → length (getD ss s absent .terms) ≤ countAt records s
   terms-few s h =
@@ -57,7 +61,7 @@ module _ (records : List (List ℕ)) (held ids offsets values lengths bytes aliv
 
     -- a stacked join: no segment has an alive set, and every term is kept
     pub stands-stacked : (marks : List ℕ) → ((s : ℕ) → s < length ss → hasAliveSet (getD ss s absent) ≡ false) → Stands ss records held lengths bytes marks true
-    unfolding rankAt
+    unfolding unmarkedAt
     stands-stacked marks none =
         record {
           size = size;

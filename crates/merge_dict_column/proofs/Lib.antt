@@ -1,3 +1,4 @@
 pub mod Ends
 pub mod Bridge
 pub mod Given
+pub mod Dictionary

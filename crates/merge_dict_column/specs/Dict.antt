@@ -6,7 +6,7 @@ use lib.Dec.{T}
 use lib.ListN.{length, take, drop}
 use Rattle.definitions.specs.Lists.{termsAscending}
 use Rattle.definitions.specs.Segment.{cut}
-use Rattle.term_rows.specs.Runs.{heldAt, posAt, fromAt, toAt, textAt}
+use Rattle.term_cursors.specs.Runs.{heldAt, posAt, fromAt, toAt, textAt}
 use Rattle.term_walk.specs.Walk.{termsTo, mapTo, Merged}
 
 -- the dictionary of a held segment, nothing for another

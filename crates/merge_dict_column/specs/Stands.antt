@@ -8,8 +8,8 @@ use lib.ListN.{length, take, drop, getD}
 use Rattle.definitions.specs.Segment.{Segment, cut}
 use Rattle.definitions.specs.Row.{isHeld, hasAliveSet}
 use Rattle.definitions.specs.Join.{absent, isUsed, termsOf, mapOf}
-use Rattle.term_rows.specs.Rows.{rankAt}
-use Rattle.term_rows.specs.Runs.{countAt, posAt, fromAt}
+use Rattle.term_cursors.specs.Cursors.{unmarkedAt}
+use Rattle.term_cursors.specs.Runs.{countAt, posAt, fromAt}
 use Rattle.term_walk.specs.Walk.{Merged}
 
 -- a byte for each segment, 0 where it is not held
@@ -22,7 +22,7 @@ pub record Stands (ss : List Segment) (records : List (List ℕ)) (held lengths 
   pub flag : (s : ℕ) → s < length ss → eqb (getD held s 0) 0 ≡ not (isHeld (getD ss s absent))
   pub dict : (s : ℕ) → s < length ss → cut (take (countAt records s) (drop (posAt records s) lengths)) (drop (fromAt records lengths s) bytes) ≡ getD ss s absent .terms
   pub mark : (s i : ℕ) → s < length ss → isHeld (getD ss s absent) ≡ true → i < length (getD ss s absent .terms)
-      → eqb (rankAt marks all (posAt records s + i)) 0 ≡ cond (hasAliveSet (getD ss s absent)) (isUsed (getD ss s absent) i) true
+      → eqb (unmarkedAt marks all (posAt records s + i)) 0 ≡ cond (hasAliveSet (getD ss s absent)) (isUsed (getD ss s absent) i) true
 
 -- the outputs and the counts that the definitions give
 abbrev pub Joins : List Segment → List ℕ → List ℕ → List ℕ → ℕ → ℕ → List ℕ → List ℕ → List ℕ → Type 0

@@ -1,6 +1,10 @@
 // The merged dictionary and the map from old ordinals to new ones (columnar/merge/merge_dict_column.rs, `serialize_merged_dict`).
-ghost use Rattle.term_rows.specs.Runs.{Runs};
+ghost use mathlib.Core.Path.{_≡_};
+ghost use mathlib.Core.Bool.{cond};
+ghost use lib.Dec.{eqb};
+ghost use Rattle.term_cursors.specs.Runs.{Runs};
 ghost use Rattle.merge_dict_column.specs.Dict.{Texts, Dictionary};
+ghost use Rattle.merge_dict_column.specs.Fill.{marksFor, MarksFor, DictionaryGiven, DictionaryLeft};
 use term_walk::Kept;
 
 // The held segments' dictionaries as one, and each old ordinal's new one. A segment's flag in held is 0 where it is not held; a term's mark is 0
@@ -20,12 +24,12 @@ pub fn merge_dict(
     requires { ⌜ Texts (now records) (now held) (now lengths) (now bytes) (now «out_lengths») (now «out_bytes») (now map) ⌝ }
     ensures { λ r. ⌜ Dictionary (now (records .entry)) (now (held .entry)) (now (lengths .entry)) (now (bytes .entry)) (now (marks .entry)) all (now («out_lengths» .entry)) (now («out_bytes» .entry)) (now (map .entry)) (r .terms) (r .bytes) (now («out_lengths» .exit)) (now («out_bytes» .exit)) (now (map .exit)) ⌝ }
 {
-    let mut rows = [[0usize; 6]; term_merger::Heap::CAP];
-    term_rows::fill_rows(records, held, lengths, marks, all, &mut rows);
-    let heap = term_merger::start_heap(bytes, &rows);
+    let mut cursors = [[0usize; 6]; term_merger::Heap::CAP];
+    term_cursors::fill_cursors(records, held, lengths, marks, all, &mut cursors);
+    let heap = term_merger::start_heap(bytes, &cursors);
     term_walk::merge_terms(
         heap,
-        &mut rows,
+        &mut cursors,
         lengths,
         bytes,
         marks,
@@ -34,4 +38,70 @@ pub fn merge_dict(
         out_bytes,
         map,
     )
+}
+
+// The marks of the terms that are kept; a stacked join keeps all, without marks.
+fn mark(
+    mode: u32,
+    records: &[[u32; 8]],
+    held: &[u8],
+    ids: &[u32],
+    offsets: &[u32],
+    values: &[u64],
+    alive: &[u64],
+    marks: &mut [u8],
+)
+    requires { ⌜ MarksFor mode (now records) (now held) (now ids) (now offsets) (now values) (now alive) (now marks) ⌝ }
+    ensures { λ _. ⌜ now (marks .exit) ≡ marksFor mode (now (records .entry)) (now (held .entry)) (now (ids .entry)) (now (offsets .entry)) (now (values .entry)) (now (alive .entry)) (now (marks .entry)) ⌝ }
+{
+    if mode == 0 {
+        return;
+    }
+    term_marks::mark_terms(records, held, ids, offsets, values, alive, marks);
+}
+
+// The joined terms and the map. The working bytes are zero before and after.
+pub fn fill_dictionary(
+    mode: u32,
+    records: &[[u32; 8]],
+    held: &[u8],
+    ids: &[u32],
+    offsets: &[u32],
+    values: &[u64],
+    lengths: &[u32],
+    bytes: &[u8],
+    alive: &[u64],
+    work: &mut [u8],
+    out_lengths: &mut [u32],
+    out_bytes: &mut [u8],
+    out_map: &mut [u32],
+) -> Kept
+    requires { ⌜ DictionaryGiven mode (now records) (now held) (now ids) (now offsets) (now values) (now lengths) (now bytes) (now alive) (now work) (now «out_lengths») (now «out_bytes») (now «out_map») ⌝ }
+    ensures { λ r. ⌜ DictionaryLeft (now (records .entry)) (now (ids .entry)) (now (offsets .entry)) (now (values .entry)) (now (lengths .entry)) (now (bytes .entry)) (now (alive .entry)) (now (work .entry)) (now («out_lengths» .entry)) (now («out_bytes» .entry)) (now («out_map» .entry)) (r .terms) (r .bytes) (now (work .exit)) (now («out_lengths» .exit)) (now («out_bytes» .exit)) (now («out_map» .exit)) ⌝ }
+{
+    // one mark for each term when ordered
+    let n = runs::unless(mode == 0, lengths.len());
+    mark(
+        mode,
+        records,
+        held,
+        ids,
+        offsets,
+        values,
+        alive,
+        &mut work[..n],
+    );
+    let c = merge_dict(
+        records,
+        held,
+        lengths,
+        bytes,
+        &work[..n],
+        mode == 0,
+        out_lengths,
+        out_bytes,
+        out_map,
+    );
+    runs::zero(&mut work[..n]);
+    c
 }

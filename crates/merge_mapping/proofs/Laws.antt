@@ -1,26 +1,30 @@
 -- Starts, alive rows, marks: what each says at the next segment, row or address. Assumes nothing.
 use mathlib.Core.Path.{_≡_, refl, sym, ap, ap₂, _∙_}
 use mathlib.Core.Bool.{Bool, true, false, not, _&&_}
-use mathlib.Core.List.{List, [], _∷_, _++_, map}
+use mathlib.Core.List.{List, [], _∷_}
 use Prim.Native.Nat.{ℕ, zero, suc, _+_, _-_, _≤_, _<_}
 use native.Mathlib.Nat.{le-of-suc-le-suc, zero-add}
 use native.Mathlib.Numerals.{add-one}
 use native.Mathlib.Omega.{arith}
 use lib.Dec.{eqb, ltb}
 use lib.ListN.{length, drop, take, getD, set, drop-of-length-le, length-map, List·getD-map}
-use lib.Seq.{drop-cons, getD-take, take-at}
+use lib.Seq.{drop-cons}
 use borrow.Author.Tests.{eq-eqb, ne-eqb, lt-ltb, le-ltb, ltb-true}
-use Rattle.definitions.specs.Lists.{all, upFrom, upTo}
-use Rattle.definitions.specs.Segment.{SegmentRecord, Address, aliveWords, addressFrom}
+use Rattle.definitions.specs.Lists.{all, upFrom}
+use Rattle.definitions.specs.Segment.{SegmentRecord, Address, aliveWords, addressFrom, address}
 use Rattle.definitions.specs.Answer.{total}
 use Rattle.runs.specs.Put.{put}
-use Rattle.runs.proofs.Laws.{putting, putting-next, putting-all, upFrom-length, upFrom-at}
+use Rattle.runs.proofs.Laws.{putting, putting-all, putting-first, put-at}
 use Rattle.segment.specs.declared.Record.{Record}
 use Rattle.segment.specs.Records.{structOf, recordIn, recordsOf}
-use Rattle.segment.specs.Lent.{address, addressesOf}
-use Rattle.segment.proofs.Tests.{both-true}
-use Rattle.segment.proofs.Walk.{records-long, record-is, records-end, records-step, part-is, rest-is}
+use Rattle.segment.specs.Lent.{addressesOf}
+use Rattle.segment.proofs.Walk.{records-long, record-is, records-end, records-step}
 use Rattle.merge_mapping.specs.Mapping.{noRecord, rowsIn, runStart, startsOf, Starts, Markable, rowAlive, wordsOf, aliveIn, markPlace, allNew, marked, rowListed, rowsListed, listedFrom}
+use Rattle.lists.proofs.Tests.{both-true}
+use Rattle.lists.proofs.Parts.{part-is, rest-is}
+use Rattle.definitions.proofs.Lists.{up-length, up-at}
+use Rattle.lists.proofs.Sums.{sum-suc}
+use Rattle.lists.proofs.Lists.{up-step, up-end}
 
 -- ---- starts
 
@@ -37,9 +41,7 @@ module _ (f : SegmentRecord → ℕ) where
 
   start-suc : (rs : List SegmentRecord) (k : ℕ) → k < length rs → runStart f rs (suc k) ≡ runStart f rs k + f (getD rs k noRecord)
   unfolding runStart
-  start-suc [] k h = absurd (omega arith)
-  start-suc (r ∷ rs) zero h = omega arith
-  start-suc (r ∷ rs) (suc k) h = let e = start-suc rs k (le-of-suc-le-suc h) in omega arith
+  start-suc rs k h = sum-suc f rs k noRecord h
 
   pub start-next : (records : List (List ℕ)) (i n x : ℕ) {r : Record} → i < length records → r ≡ structOf (getD records i []) → n ≡ runStart f (recordsOf records) i → x ≡ f (recordIn r)
       → n + x ≡ runStart f (recordsOf records) (i + 1)
@@ -50,14 +52,11 @@ module _ (f : SegmentRecord → ℕ) where
 
   starts-long : (rs : List SegmentRecord) → length (startsOf f rs) ≡ length rs
   unfolding startsOf
-  starts-long rs = length-map (upTo (length rs)) (runStart f rs) ∙ upFrom-length 0 (length rs)
+  starts-long rs = up-length (runStart f rs) (length rs)
 
   starts-at : (rs : List SegmentRecord) (k : ℕ) → k < length rs → runStart f rs k ≡ getD (startsOf f rs) k 0
   unfolding startsOf
-  starts-at rs k h =
-      ap (runStart f rs) (sym (zero-add k) ∙ upFrom-at 0 (length rs) k h)
-      ∙ sym (List·getD-map (runStart f rs) (upTo (length rs)) k 0)
-      ∙ ap (getD (map (runStart f rs) (upTo (length rs))) k) (start-none rs)
+  starts-at rs k h = ap (runStart f rs) (sym (zero-add k)) ∙ sym (up-at (runStart f rs) 0 0 (length rs) k h)
 
   -- the loop that writes them
   pub starts-more : (records : List (List ℕ)) (old : List ℕ) (i n : ℕ) → length records ≤ length old → i < length records → n ≡ runStart f (recordsOf records) i
@@ -65,24 +64,15 @@ module _ (f : SegmentRecord → ℕ) where
   starts-more records old i n room h e =
       let rs = recordsOf records in
       let l : length (startsOf f rs) ≡ length records = starts-long rs ∙ records-long records in
-      ap (λ (k : ℕ). set (putting 0 (startsOf f rs) old i) k n) (sym (zero-add i))
-      ∙ putting-next 0 (startsOf f rs) old i (length records) n l (omega arith) h (e ∙ starts-at rs i (rw (records-long records) h))
+      ap (set (putting 0 (startsOf f rs) old i) i) (e ∙ starts-at rs i (rw (records-long records) h)) ∙ putting-first (startsOf f rs) old i 0 (omega arith) (omega arith)
 
   pub starts-all : (records : List (List ℕ)) (old : List ℕ) (i : ℕ) → i ≤ length records → length records ≤ i
       → putting 0 (startsOf f (recordsOf records)) old i ≡ put 0 (startsOf f (recordsOf records)) old
   starts-all records old i h k = putting-all 0 (startsOf f (recordsOf records)) old i (length records) (starts-long (recordsOf records) ∙ records-long records) h k
 
   pub starts-read : (rs : List SegmentRecord) (old xs : List ℕ) → length rs ≤ length xs → xs ≡ put 0 (startsOf f rs) old → Starts f rs xs
-  unfolding put
   starts-read rs old xs h e =
-      record {
-        long = h;
-        at = λ k l.
-            ap (λ (ys : List ℕ). getD ys k 0) e
-            ∙ sym (getD-take (length (startsOf f rs)) (startsOf f rs ++ drop (0 + length (startsOf f rs)) old) k 0 (rw (starts-long rs) l))
-            ∙ ap (λ (ys : List ℕ). getD ys k 0) (take-at (startsOf f rs) (drop (0 + length (startsOf f rs)) old) (length (startsOf f rs)) refl)
-            ∙ sym (starts-at rs k l);
-      }
+      record { long = h; at = λ k l. ap (λ (ys : List ℕ). getD ys k 0) e ∙ put-at (startsOf f rs) old k 0 (rw (starts-long rs) l) ∙ sym (starts-at rs k l) }
 
 -- ---- alive rows
 
@@ -188,11 +178,11 @@ listed-start r alive marks = rw (let e : r .rows - 0 ≡ r .rows = omega arith i
 
 pub listed-step : (r : SegmentRecord) (alive marks : List ℕ) (k : ℕ) → k < r .rows → listedAfter r alive marks k ≡ rowListed r alive marks k && listedAfter r alive marks (k + 1)
 unfolding listedAfter
-listed-step r alive marks k h = rw (let e : r .rows - k ≡ suc (r .rows - (k + 1)) = omega arith in e, add-one k)
+listed-step r alive marks k h = ap (all (rowListed r alive marks)) (up-step k (r .rows) h)
 
 pub listed-end : (r : SegmentRecord) (alive marks : List ℕ) (k : ℕ) → r .rows ≤ k → true ≡ listedAfter r alive marks k
 unfolding listedAfter
-listed-end r alive marks k h = rw (let e : r .rows - k ≡ 0 = omega arith in e)
+listed-end r alive marks k h = sym (ap (all (rowListed r alive marks)) (up-end k (r .rows) h))
 
 pub row-unmarked : (r : SegmentRecord) (alive marks : List ℕ) (k : ℕ) {b : Bool} → b ≡ rowAlive r alive k → b ≡ false → true ≡ rowListed r alive marks k
 unfolding rowListed

@@ -1,5 +1,3 @@
 pub mod Laws
 pub mod Marks
-pub mod Zeros
 pub mod Own
-pub mod Answer

@@ -1,7 +1,7 @@
 -- The marks made: those of the addresses where each is new, and then no address comes twice; and a pass over the marks finds whether every alive row
 -- is listed. Assumes nothing.
 use mathlib.Core.Path.{_≡_, refl, sym, ap, ap₂, _∙_, subst}
-use mathlib.Core.Bool.{Bool, true, false, not, _&&_, _||_, cond, and-false, and-assoc}
+use mathlib.Core.Bool.{Bool, true, false, not, _&&_, _||_, cond, and-false, and-assoc, Bool·not-not, or-true, or-false}
 use mathlib.Core.List.{List, [], _∷_, _++_, map, append-assoc, append-nil}
 use Prim.Native.Nat.{ℕ, zero, suc, _+_, _≤_, _<_, zero-le, suc-le-suc}
 use native.Mathlib.Nat.{add-zero, zero-add, add-assoc, le-refl, le-of-suc-le-suc}
@@ -12,13 +12,14 @@ use lib.ListN.{length, drop, take, getD, set, replicate, length-set}
 use lib.Seq.{drop-drop, getD-take, getD-drop, getD-set-same, getD-set-other}
 use borrow.Author.Tests.{eq-eqb, eqb-true, lt-ltb}
 use Rattle.definitions.specs.Lists.{all, any, upFrom, upTo}
-use Rattle.definitions.specs.Segment.{SegmentRecord, Address, aliveWords}
+use Rattle.definitions.specs.Segment.{SegmentRecord, Address, aliveWords, address}
 use Rattle.definitions.specs.Answer.{total, sameAddress, isListed, isRepeated}
-use Rattle.segment.specs.Lent.{address}
-use Rattle.segment.proofs.Tests.{both-true, not-not}
 use Rattle.sections_fit.proofs.Walks.{eqb-same}
 use Rattle.merge_mapping.specs.Mapping.{noRecord, rowsIn, runStart, rowAlive, wordsOf, aliveIn, markPlace, allNew, marked, Marks, rowListed, rowsListed, listedFrom, stackedRows, aliveListed, eachOnce}
 use Rattle.merge_mapping.proofs.Laws.{in-range, place-within}
+use Rattle.lists.proofs.Tests.{both-true}
+use Rattle.definitions.proofs.Lists.{any-append}
+use Rattle.lists.proofs.Lists.{zeros-at}
 
 -- ---- lists
 
@@ -68,25 +69,11 @@ place-unique (r ∷ rs) (suc k) (suc k′) x x′ h h′ l l′ e =
 -- ---- a mark more
 
 listed-snoc : (a b : Address) (seen : List Address) → isListed a (seen ++ (b ∷ [])) ≡ isListed a seen || sameAddress a b
-listed-snoc a b [] = or-end (sameAddress a b)
-  where
-    or-end : (t : Bool) → t || false ≡ t
-    or-end true = refl
-    or-end false = refl
-listed-snoc a b (c ∷ seen) = ap (λ (t : Bool). sameAddress a c || t) (listed-snoc a b seen) ∙ or-assoc (sameAddress a c) (isListed a seen) (sameAddress a b)
-  where
-    or-assoc : (p q r : Bool) → p || (q || r) ≡ p || q || r
-    or-assoc true q r = refl
-    or-assoc false q r = refl
-
-getD-zeros : (n k : ℕ) → getD {A = ℕ} (replicate n 0) k 0 ≡ 0
-getD-zeros zero k = refl
-getD-zeros (suc n) zero = refl
-getD-zeros (suc n) (suc k) = getD-zeros n k
+listed-snoc a b seen = any-append (sameAddress a) seen (b ∷ []) ∙ ap (λ (t : Bool). isListed a seen || t) (or-false (sameAddress a b))
 
 marks-none : (rs : List SegmentRecord) (work : List ℕ) → work ≡ replicate (length work) 0 → Marks rs [] work
 marks-none rs work e k r h l =
-    eq-eqb (getD work (markPlace rs (address k r)) 0) 0 (ap (λ (w : List ℕ). getD w (markPlace rs (address k r)) 0) e ∙ getD-zeros (length work) (markPlace rs (address k r)))
+    eq-eqb (getD work (markPlace rs (address k r)) 0) 0 (ap (λ (w : List ℕ). getD w (markPlace rs (address k r)) 0) e ∙ zeros-at (length work) (markPlace rs (address k r)))
 
 marks-more : (rs : List SegmentRecord) (seen : List Address) (work : List ℕ) (seg row : ℕ) → Marks rs seen work → seg < length rs → row < getD rs seg noRecord .rows
     → markPlace rs (address seg row) < length work → Marks rs (seen ++ (address seg row ∷ [])) (set work (markPlace rs (address seg row)) 1)
@@ -106,14 +93,6 @@ marks-more rs seen work seg row m h l inside k x hk lx = rw (listed-snoc (addres
         pick true q =
             let b = both-true (eqb k seg) (eqb x row) q in
             absurd (n (ap₂ (λ (i j : ℕ). markPlace rs (address i j)) (eqb-true k seg (b .0)) (eqb-true x row (b .1))))
-
-    or-true : (t : Bool) → t || true ≡ true
-    or-true true = refl
-    or-true false = refl
-
-    or-false : (t : Bool) → t || false ≡ t
-    or-false true = refl
-    or-false false = refl
 
     go : Dec (markPlace rs (address k x) ≡ at) → eqb (getD (set work at 1) (markPlace rs (address k x)) 0) 0 ≡ not (isListed (address k x) seen || sameAddress (address k x) (address seg row))
     go (yes q) =
@@ -243,7 +222,7 @@ module _ (rs₀ : List SegmentRecord) (alive₀ : List ℕ) (bs : List Address) 
       (ap (λ (v : ℕ). not (eqb v 0)) (getD-take (r .rows) work x 0 l)
       ∙ ap (λ (m : ℕ). not (eqb (getD work m 0) 0)) (sym (start-first r rs x))
       ∙ ap not (t .marks 0 x (suc-le-suc zero-le) l)
-      ∙ not-not (isListed (address (n + 0) x) bs)
+      ∙ Bool·not-not (isListed (address (n + 0) x) bs)
       ∙ ap (λ (m : ℕ). isListed (address m x) bs) (add-zero n))
 
   listed-from : (n : ℕ) (rs : List SegmentRecord) (alive work : List ℕ) → Told n rs alive work → listedFrom rs alive work ≡ all Kept (stackedRows n rs)

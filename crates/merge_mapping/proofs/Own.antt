@@ -2,43 +2,35 @@
 use mathlib.Core.Path.{_≡_, refl, sym, ap, ap₂, _∙_}
 use mathlib.Core.Bool.{Bool, true, false, not, _&&_, _||_, cond, and-assoc}
 use mathlib.Core.List.{List, [], _∷_, _++_, map}
-use Prim.Native.Nat.{ℕ, zero, suc, _+_}
+use Prim.Native.Nat.{ℕ, zero, suc, _+_, _≤_}
 use native.Mathlib.Omega.{arith}
 use lib.Dec.{eqb, ltb}
 use lib.ListN.{length, getD, length-map}
-use borrow.Author.Tests.{eq-eqb, ne-eqb}
+use borrow.Author.Tests.{eq-eqb, ne-eqb, ltb-false, not-true}
 use Rattle.definitions.specs.Lists.{all, filter, upTo}
-use Rattle.definitions.specs.Segment.{SegmentRecord, Sections, Address, Input, firstSegment, afterFirst, segmentsFrom, segmentsOf, addressFrom}
+use Rattle.definitions.specs.Segment.{SegmentRecord, Sections, Address, Input, firstSegment, afterFirst, segmentsFrom, segmentsOf, addressFrom, address}
 use Rattle.definitions.specs.Row.{isAlive}
 use Rattle.definitions.specs.Join.{absent, stackedFrom}
 use Rattle.definitions.specs.Answer.{total, isListed, isRepeated, isAliveAt, aliveAddresses, listsAliveRows, addressesWrong, workingTooSmall}
-use Rattle.segment.specs.Lent.{address, addressesOf}
-use Rattle.segment.proofs.Tests.{empty-length}
+use Rattle.segment.specs.Lent.{addressesOf}
 use Rattle.sections_fit.specs.Walks.{Exact}
 use Rattle.sections_fit.proofs.Own.{rows-all, terms-sum}
 use Rattle.merge_mapping.specs.Mapping.{noRecord, rowAlive, wordsOf, aliveIn, stackedRows, aliveListed, eachOnce, addressesRight, roomEnough}
 use Rattle.merge_mapping.proofs.Marks.{words-after, words-first}
+use Rattle.lists.proofs.Lists.{empty-length, all-ext}
+use Rattle.segment.proofs.At.{segments-length}
 
 -- ---- lists
 
-module _ {A : Type 0} where
-  all-ext : (p q : A → Bool) (xs : List A) → ((x : A) → p x ≡ q x) → all p xs ≡ all q xs
-  all-ext p q [] e = refl
-  all-ext p q (x ∷ xs) e = ap₂ (λ (a b : Bool). a && b) (e x) (all-ext p q xs e)
-
-  all-filter : (p q : A → Bool) (xs : List A) → all q (filter p xs) ≡ all (λ x. not (p x) || q x) xs
-  all-filter p q [] = refl
-  all-filter p q (x ∷ xs) = go (all-filter p q xs) (p x)
-    where
-      go : all q (filter p xs) ≡ all (λ y. not (p y) || q y) xs → (b : Bool) → all q (cond b (x ∷ filter p xs) (filter p xs)) ≡ (not b || q x) && all (λ y. not (p y) || q y) xs
-      go e true = ap (λ (t : Bool). q x && t) e
-      go e false = e
+all-filter : {A : Type 0} (p q : A → Bool) (xs : List A) → all q (filter p xs) ≡ all (λ x. not (p x) || q x) xs
+all-filter p q [] = refl
+all-filter p q (x ∷ xs) = go (all-filter p q xs) (p x)
+  where
+    go : all q (filter p xs) ≡ all (λ y. not (p y) || q y) xs → (b : Bool) → all q (cond b (x ∷ filter p xs) (filter p xs)) ≡ (not b || q x) && all (λ y. not (p y) || q y) xs
+    go e true = ap (λ (t : Bool). q x && t) e
+    go e false = e
 
 -- ---- alive rows
-
-seg-long : (rs : List SegmentRecord) (s : Sections) → length (segmentsFrom rs s) ≡ length rs
-seg-long [] s = refl
-seg-long (r ∷ rs) s = ap suc (seg-long rs (afterFirst r s))
 
 seg-rows : (rs : List SegmentRecord) (s : Sections) (k : ℕ) → getD (segmentsFrom rs s) k absent .rows ≡ getD rs k noRecord .rows
 unfolding firstSegment
@@ -55,7 +47,7 @@ seg-alive (r ∷ rs) s (suc k) x = seg-alive rs (afterFirst r s) k x ∙ ap (λ 
 alive-is : (rs : List SegmentRecord) (s : Sections) (a : Address) → isAliveAt (segmentsFrom rs s) a ≡ aliveIn rs (s .alive) a
 unfolding isAliveAt aliveIn
 alive-is rs s a =
-    rw (seg-long rs s, seg-rows rs s (a .segment), seg-alive rs s (a .segment) (a .row))
+    rw (segments-length rs s, seg-rows rs s (a .segment), seg-alive rs s (a .segment) (a .row))
     (and-assoc (ltb (a .segment) (length rs)) (ltb (a .row) (getD rs (a .segment) noRecord .rows)) (rowAlive (getD rs (a .segment) noRecord) (wordsOf rs (s .alive) (a .segment)) (a .row)))
 
 -- ---- 9
@@ -103,3 +95,8 @@ unfolding workingTooSmall roomEnough segmentsOf
 input-room i x =
     rw (rows-all (i .records) (i .sections), terms-sum (i .records) (i .sections) (omega (arith, x .terms)))
     (both-not (eqb (i .mode) 1) (ltb (i .space .working) (total (λ (r : SegmentRecord). r .rows) (i .records) + total (λ (r : SegmentRecord). r .terms) (i .records))))
+
+-- an ordered join that has room has a byte for each row and each term
+pub room-both : (mode rows terms working : ℕ) → mode ≡ 1 → roomEnough mode rows terms working ≡ true → rows + terms ≤ working
+unfolding roomEnough
+room-both mode rows terms working e h = ltb-false working (rows + terms) (not-true (ltb working (rows + terms)) (rw (eq-eqb mode 1 e) at h))

@@ -7,11 +7,9 @@ use mathlib.Core.Bool.{Bool, true, _&&_, _||_, cond, not}
 use lib.ListN.{length, getD, take, drop, set, replicate}
 use lib.Dec.{eqb, ltb}
 use Rattle.definitions.specs.Lists.{all, upTo}
-use Rattle.definitions.specs.Segment.{SegmentRecord, Address, Input, aliveWords, recordFrom}
+use Rattle.definitions.specs.Segment.{SegmentRecord, Address, aliveWords, recordFrom, address}
 use Rattle.definitions.specs.Row.{bitAt}
-use Rattle.definitions.specs.Answer.{total, isListed, isRepeated, workingTooSmall, addressesWrong}
-use Rattle.segment.specs.Lent.{address}
-use Rattle.sections_fit.specs.Walks.{firstSeven}
+use Rattle.definitions.specs.Answer.{total, isListed, isRepeated}
 
 -- what stands for a record that is absent
 abbrev pub noRecord : SegmentRecord
@@ -134,8 +132,3 @@ pub record BeforeNine (mode rows : ℕ) (rs : List SegmentRecord) (alive work : 
 
 unfoldable pub roomEnough : ℕ → ℕ → ℕ → ℕ → Bool
 roomEnough mode rows terms working = not (eqb mode 1) || not (ltb working (rows + terms))
-
--- ---- the definitions' answer, cut at check 9
-
-unfoldable pub answerToNine : Input → ℕ
-answerToNine i = firstSeven i (cond (workingTooSmall i) 8 (cond (addressesWrong i) 9 0))

@@ -1,15 +1,14 @@
 // Starts of the segments' runs and the row order that addresses give, with the checks 8 and 9 (columnar/merge/merge_mapping.rs:
-// `StackMergeOrder::stack` and `offset`, `ShuffleMergeOrder`); `verdict` gives the first of the checks 1 to 9 that fails.
-use sections_fit::first_seven;
+// `StackMergeOrder::stack` and `offset`, `ShuffleMergeOrder`).
 ghost use mathlib.Core.Path.{_≡_};
 ghost use Prim.Native.Nat.{_<_, _≤_};
 ghost use lib.ListN.{length, replicate};
-ghost use Rattle.definitions.specs.Segment.{aliveWords};
+ghost use Rattle.definitions.specs.Segment.{aliveWords, address};
 ghost use Rattle.definitions.specs.Answer.{total};
 ghost use Rattle.runs.specs.Put.{put};
 ghost use Rattle.segment.specs.Records.{recordIn, recordsOf};
-ghost use Rattle.segment.specs.Lent.{address, addressesOf, lentInput};
-ghost use Rattle.merge_mapping.specs.Mapping.{rowsIn, startsOf, rowAlive, aliveIn, Found, allNew, marked, Markable, rowListed, Parts, rowsListed, listedFrom, eachOnce, Unmarked, addressesRight, BeforeNine, roomEnough, answerToNine};
+ghost use Rattle.segment.specs.Lent.{addressesOf};
+ghost use Rattle.merge_mapping.specs.Mapping.{rowsIn, startsOf, rowAlive, aliveIn, Found, allNew, marked, Markable, rowListed, Parts, rowsListed, listedFrom, eachOnce, Unmarked, addressesRight, BeforeNine, roomEnough};
 
 // The number of rows before each segment.
 pub fn row_starts(records: &[[u32; 8]], starts: &mut [usize])
@@ -52,7 +51,7 @@ pub fn row_alive(r: segment::Record, alive: &[u64], row: usize) -> bool
     if r.flag != 1 {
         return true;
     }
-    column_index::is_alive(alive, row)
+    alive_set::is_alive(alive, row)
 }
 
 // Whether the address is of an alive row. words has the starts of the segments' alive words.
@@ -169,7 +168,7 @@ fn each_once(records: &[[u32; 8]], alive: &[u64], addresses: &[[u32; 2]], marks:
 }
 
 // Check 9. work is zero at first and again on return; only the bytes of the rows are marked and cleared.
-fn addresses_fit(
+pub fn addresses_fit(
     mode: u32,
     records: &[[u32; 8]],
     alive: &[u64],
@@ -190,7 +189,7 @@ fn addresses_fit(
 }
 
 // Check 8: an ordered join has a working byte for each row and each term.
-fn room_enough(mode: u32, rows: usize, terms: usize, working: usize) -> bool
+pub fn room_enough(mode: u32, rows: usize, terms: usize, working: usize) -> bool
     requires { ⌜ rows ≤ 4294967294 ⌝ }
     requires { ⌜ terms ≤ 9223372036854775807 ⌝ }
     ensures { λ x. ⌜ x ≡ roomEnough mode rows terms working ⌝ }
@@ -199,46 +198,4 @@ fn room_enough(mode: u32, rows: usize, terms: usize, working: usize) -> bool
         return true;
     }
     rows + terms <= working
-}
-
-// The first of the checks 1 to 9 that fails, or 0. work is zero on return, whichever the answer.
-pub fn verdict(
-    mode: u32,
-    required: u32,
-    records: &[[u32; 8]],
-    ids: &[u32],
-    offsets: &[u32],
-    values: &[u64],
-    lengths: &[u32],
-    bytes: &[u8],
-    alive: &[u64],
-    addresses: &[[u32; 2]],
-    work: &mut [u8],
-) -> u32
-    ensures { λ x. ⌜ x ≡ answerToNine (lentInput mode required (now (records .entry)) (now (ids .entry)) (now (offsets .entry)) (now (values .entry)) (now (lengths .entry)) (now (bytes .entry)) (now (alive .entry)) (now (addresses .entry)) (length (now (work .entry)))) ⌝ }
-    ensures { λ _. ⌜ now (work .exit) ≡ replicate (length (now (work .entry))) 0 ⌝ }
-{
-    runs::zero(work);
-    let first = first_seven(
-        mode,
-        required,
-        records,
-        ids,
-        offsets,
-        values,
-        lengths,
-        bytes,
-        alive,
-    );
-    if first != 0 {
-        return first;
-    }
-    let t = sections_fit::totals_of(records);
-    if !room_enough(mode, t.rows, lengths.len(), work.len()) {
-        return 8;
-    }
-    if !addresses_fit(mode, records, alive, addresses, t.rows, work) {
-        return 9;
-    }
-    0
 }

@@ -7,7 +7,7 @@ use native.Mathlib.Omega.{arith}
 use lib.Dec.{ltb}
 use lib.ListN.{length, take, length-map}
 use borrow.Author.Tests.{lt-ltb, ltb-true, ltb-false}
-use Rattle.definitions.specs.Answer.{answer, tooManySegments}
+use Rattle.definitions.specs.Answer.{joinChecks, answer, tooManySegments}
 use Rattle.definitions.specs.Outcome.{Buffers, Lent, Outcome, refused, inputOf, refusedBuffers, joinOutcome, lentOf}
 use Rattle.definitions.specs.Segment.{recordFrom}
 use Rattle.segment.specs.declared.Record.{Record}
@@ -19,7 +19,7 @@ abbrev tooMany : Buffers → Outcome
 tooMany b = record { answer = refused 1; buffers = refusedBuffers b }
 
 many : (l : Lent) → 256 < length (l .records) → joinOutcome l ≡ tooMany (l .buffers)
-unfolding joinOutcome answer tooManySegments inputOf
+unfolding joinOutcome joinChecks answer tooManySegments inputOf
 many l h = rw (lt-ltb 256 (length (l .records)) h)
 
 many-rows : (mode required : ℕ) (rows : List (List ℕ)) (ids offsets values lengths bytes alive : List ℕ) (addresses : List (List ℕ)) (b : Buffers) → 256 < length rows

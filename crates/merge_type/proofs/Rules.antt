@@ -1,26 +1,24 @@
 -- The answer on parts, and that it is the definitions' for the segments that the lists stand for. Assumes nothing.
-use mathlib.Core.Path.{_≡_, refl, sym, ap, _∙_, subst}
+use mathlib.Core.Path.{_≡_, refl, sym, ap, _∙_}
 use mathlib.Core.Bool.{Bool, true, false, not, cond, _&&_, _||_}
 use mathlib.Core.List.{List, [], _∷_, _++_, map}
-use Prim.Native.Nat.{ℕ, zero, suc, _+_, _≤_, _<_}
+use Prim.Native.Nat.{ℕ, _≤_}
 use native.Mathlib.Nat.{le-of-suc-le-suc, le-of-eq}
 use native.Mathlib.Omega.{arith}
 use lib.Dec.{eqb, ltb}
-use lib.ListN.{length, take, drop, getD}
-use borrow.Author.Tests.{eq-eqb, ne-eqb, eqb-true, eqb-false, not-true, not-false}
-use Rattle.definitions.specs.Lists.{all, any, filter, isEmpty}
+use lib.ListN.{length, take, drop}
+use borrow.Author.Tests.{eq-eqb, not-true, not-false}
+use Rattle.definitions.specs.Lists.{all, any, filter}
 use Rattle.definitions.specs.Segment.{Segment, SegmentRecord, Sections, firstSegment, afterFirst, segmentsFrom, recordFrom}
-use Rattle.definitions.specs.Row.{noType, isPresent, isDropped, isHeld, heldOf}
+use Rattle.definitions.specs.Row.{noType, isDropped, isHeld, heldOf}
 use Rattle.definitions.specs.Types.{F64, U64, I64, isCoercible, hasType, everyValue, onlyType, numericalType, heldType, typeOf, greatestI64, isNegative}
 use Rattle.definitions.specs.Join.{joinedType}
 use Rattle.definitions.specs.Answer as Answer
 use Rattle.definitions.specs.Answer.{presentTypes, oneCategory, allCoercible, typesWrong}
 use Rattle.segment.specs.Records.{recordsOf}
-use Rattle.numerical.specs.Seen.{seenFrom, noneSeen, joinedSeen}
-use Rattle.numerical.proofs.Seen.{AllPresent, seen-joined}
 use Rattle.merge_type.specs.declared.TypeAnswer.{TypeAnswer}
 use Rattle.merge_type.specs.declared.TypeAnswer.the-variants.{Wrong, Joined}
-use Rattle.merge_type.specs.Parts.{Part, typeAt, countAt, isPart, partsFrom, total, Lent, asColumn, heldColumns, typesOf, recordTypes, oneAmong, typeOfParts, allBecome, typeAnswer, answerNumber}
+use Rattle.merge_type.specs.Parts.{Part, typeAt, countAt, isPart, partsFrom, Lent, asColumn, heldColumns, typesOf, recordTypes, oneAmong, typeOfParts, allBecome, typeAnswer}
 
 -- ---- the parts of lent lists
 
@@ -38,20 +36,6 @@ is-present t f h e = go (eqb f 1) (rw (eq-eqb t 255 e) at h)
     go : (b : Bool) → b && false ≡ true → ⊥
     go true k = let z : _≡_ {A = Bool} false true = k in let n : _≡_ {A = ℕ} 0 1 = cc in omega arith
     go false k = let z : _≡_ {A = Bool} false true = k in let n : _≡_ {A = ℕ} 0 1 = cc in omega arith
-
-pub held-present : (records : List (List ℕ)) (values flags : List ℕ) → AllPresent (heldColumns (partsFrom records values flags))
-unfolding heldColumns partsFrom
-held-present [] values flags = tt
-held-present (r ∷ rs) values [] = tt
-held-present (r ∷ rs) values (f ∷ fs) = go (held-present rs (drop (countAt r) values) fs) (isPart (typeAt r) f) refl
-  where
-    go : AllPresent (heldColumns (partsFrom rs (drop (countAt r) values) fs)) → (b : Bool) → isPart (typeAt r) f ≡ b → AllPresent (heldColumns (record { type = typeAt r; values = take (countAt r) values; held = b } ∷ partsFrom rs (drop (countAt r) values) fs))
-    go rest true e = (is-present (typeAt r) f e, rest)
-    go rest false e = rest
-
-pub joined-is : (required : ℕ) (records : List (List ℕ)) (values flags : List ℕ) → joinedSeen required (seenFrom noneSeen (heldColumns (partsFrom records values flags))) ≡ typeOfParts required (partsFrom records values flags)
-unfolding typeOfParts
-joined-is required records values flags = seen-joined required (heldColumns (partsFrom records values flags)) (held-present records values flags)
 
 -- ---- the answer, case by case
 
@@ -201,14 +185,9 @@ parts-of-segments (r ∷ rs) sections more =
 
 -- ---- the whole, for the sections of an input
 
-sums : (rs : List (List ℕ)) → total rs ≡ Answer.total (λ (r : SegmentRecord). r .values) (recordsOf rs)
-unfolding total
-sums [] = refl
-sums (r ∷ rs) = ap (λ (n : ℕ). countAt r + n) (sums rs)
-
 -- check 2 has passed: the values are as many as the records say, and there is a flag for each record
 pub lent-of-lengths : (rs : List (List ℕ)) (values flags : List ℕ) → Answer.total (λ (r : SegmentRecord). r .values) (recordsOf rs) ≡ length values → length rs ≤ length flags → Lent rs values flags
-lent-of-lengths rs values flags e h = record { values-fit = le-of-eq (sums rs ∙ e); flags-fit = h }
+lent-of-lengths rs values flags e h = record { values-fit = le-of-eq e; flags-fit = h }
 
 module _ (required : ℕ) (rs : List (List ℕ)) (sections : Sections) (more : List ℕ) where
   abbrev pub segmentsIn : List Segment
@@ -216,11 +195,3 @@ module _ (required : ℕ) (rs : List (List ℕ)) (sections : Sections) (more : L
 
   pub answer-of-input : typeAnswer required (partsFrom rs (sections .values) (map heldFlag segmentsIn ++ more)) ≡ cond (typesWrong required segmentsIn) Wrong (Joined (joinedType required segmentsIn))
   answer-of-input = ap (typeAnswer required) (parts-of-segments rs sections more) ∙ answer-of-segments required segmentsIn
-
-  -- the table's number
-  pub number-of-input : answerNumber (typeAnswer required (partsFrom rs (sections .values) (map heldFlag segmentsIn ++ more))) ≡ cond (typesWrong required segmentsIn) 10 0
-  number-of-input = ap answerNumber answer-of-input ∙ go (typesWrong required segmentsIn)
-    where
-      go : (b : Bool) → answerNumber (cond b Wrong (Joined (joinedType required segmentsIn))) ≡ cond b 10 0
-      go true = refl
-      go false = refl

@@ -1,45 +1,41 @@
 -- The walk over the records: where each column's values stand, and what is left. Assumes nothing.
-use mathlib.Core.Path.{_≡_, refl, sym, ap, _∙_, subst}
-use mathlib.Core.Bool.{Bool, true, false, not, cond, _&&_, _||_}
-use mathlib.Core.List.{List, [], _∷_, map}
-use Prim.Native.Nat.{ℕ, zero, suc, _+_, _-_, _≤_, _<_, zero-le}
-use native.Mathlib.Nat.{add-sub-cancel-left}
+use mathlib.Core.Path.{_≡_, refl, sym, ap, _∙_}
+use mathlib.Core.Bool.{Bool, true, false, not, cond, _&&_}
+use mathlib.Core.List.{List, [], _∷_}
+use Prim.Native.Nat.{ℕ, _+_, _≤_, _<_, zero-le}
 use native.Mathlib.Omega.{arith}
 use native.Mathlib.Numerals.{add-one}
-use lib.Dec.{eqb}
 use lib.ListN.{length, take, drop, getD, drop-of-length-le}
 use lib.Seq.{drop-cons, drop-drop}
 use borrow.Author.Tests.{not-true, not-false}
-use Rattle.definitions.specs.Lists.{filter}
+use Rattle.definitions.specs.Segment.{SegmentRecord}
+use Rattle.definitions.specs.Answer.{total}
 use Rattle.definitions.specs.Types.{isCoercible}
 use Rattle.numerical.specs.declared.Compatible.{Compatible}
-use Rattle.numerical.specs.Seen.{accepted, seenFrom, noneSeen}
+use Rattle.numerical.specs.Seen.{accepted, seenFrom}
 use Rattle.segment.specs.declared.Record.{Record}
-use Rattle.segment.specs.Records.{structOf}
+use Rattle.segment.specs.Records.{structOf, recordsOf}
+use Rattle.segment.proofs.Walk.{total-step}
 use Rattle.merge_type.specs.One.{seenWith, becomes}
-use Rattle.merge_type.specs.Parts.{Part, typeAt, countAt, isPart, partsFrom, total, Lent, heldColumns, allBecome}
+use Rattle.merge_type.specs.Parts.{Part, countAt, isPart, partsFrom, Lent, heldColumns, allBecome}
 
 pub record Walk (records : List (List ℕ)) (values flags : List ℕ) (i base : ℕ) : Type 0 where
   pub here : i ≤ length records
-  pub fits : base + total (drop i records) ≤ length values
+  pub fits : base + total (λ (r : SegmentRecord). r .values) (recordsOf (drop i records)) ≤ length values
   pub flagged : length records ≤ length flags
 
 pub walk-start : {records : List (List ℕ)} {values flags : List ℕ} → Lent records values flags → Walk records values flags 0 0
 walk-start l = record { here = zero-le; fits = omega (arith, l .values-fit); flagged = l .flags-fit }
 
-total-step : (records : List (List ℕ)) (i : ℕ) → i < length records → total (drop i records) ≡ countAt (getD records i []) + total (drop (i + 1) records)
-unfolding total
-total-step records i h = rw (add-one i, drop-cons records i [])
-
 module _ {records : List (List ℕ)} {values flags : List ℕ} {i base : ℕ} (w : Walk records values flags i base) (h : i < length records) {r : Record} (e : r ≡ structOf (getD records i [])) where
   pub walk-fits : base + r .values ≤ length values
-  walk-fits = omega (arith, w .fits, total-step records i h, ap (λ (x : Record). x .values) e)
+  walk-fits = omega (arith, w .fits, total-step records i h e (λ x. x .values))
 
   pub walk-flag : i < length flags
   walk-flag = omega (arith, w .flagged)
 
   pub walk-more : (n : ℕ) → n ≡ r .values → Walk records values flags (i + 1) (base + n)
-  walk-more n p = record { here = omega arith; fits = omega (arith, w .fits, total-step records i h, ap (λ (x : Record). x .values) e); flagged = w .flagged }
+  walk-more n p = record { here = omega arith; fits = omega (arith, w .fits, total-step records i h e (λ x. x .values)); flagged = w .flagged }
 
   -- the record's values as the code lends them, and what is left behind it
   abbrev given : List ℕ
@@ -98,10 +94,6 @@ unfolding allBecome
 become-end u records values flags i h = rw (none-left records values flags i h)
 
 -- ---- one column
-
--- what the code lends: the part from base to base + the count
-pub lent-part : (values : List ℕ) (base m n : ℕ) → m ≡ n → take (base + m - base) (drop base values) ≡ take n (drop base values)
-lent-part values base m n e = ap (λ (x : ℕ). take x (drop base values)) (add-sub-cancel-left base m ∙ e)
 
 pub seen-out : (seen : Compatible) (t : ℕ) (values : List ℕ) (b c : Bool) → b ≡ c → not b ≡ true → seen ≡ seenWith seen t values c
 unfolding seenWith

@@ -1,14 +1,15 @@
 -- What check 10 and the joined type read of the lent lists: each column's type, its stored values, and whether it is held. Assumes nothing.
-use Prim.Native.Nat.{ℕ, zero, suc, _+_, _≤_}
+use Prim.Native.Nat.{ℕ, _≤_}
 use mathlib.Core.List.{List, [], _∷_, map}
-use mathlib.Core.Bool.{Bool, true, false, _&&_, _||_, cond, not}
+use mathlib.Core.Bool.{Bool, true, _&&_, _||_, cond, not}
 use lib.Dec.{eqb}
 use lib.ListN.{length, take, drop}
-use Rattle.definitions.specs.Lists.{all, filter}
-use Rattle.definitions.specs.Segment.{Segment, recordFrom}
+use Rattle.definitions.specs.Lists.{filter}
+use Rattle.definitions.specs.Segment.{Segment, SegmentRecord, recordFrom}
 use Rattle.definitions.specs.Row.{noType}
 use Rattle.definitions.specs.Types.{isCoercible, typeOf}
-use Rattle.definitions.specs.Answer.{oneCategory}
+use Rattle.definitions.specs.Answer.{total, oneCategory}
+use Rattle.segment.specs.Records.{recordsOf}
 use Rattle.column_type.specs.Codes.{category}
 use Rattle.numerical.specs.Seen.{firstOf}
 use Rattle.merge_type.specs.declared.TypeAnswer.{TypeAnswer}
@@ -35,13 +36,9 @@ partsFrom [] values flags = []
 partsFrom (r ∷ rs) values [] = []
 partsFrom (r ∷ rs) values (f ∷ fs) = record { type = typeAt r; values = take (countAt r) values; held = isPart (typeAt r) f } ∷ partsFrom rs (drop (countAt r) values) fs
 
-unfoldable pub total : List (List ℕ) → ℕ
-total [] = 0
-total (r ∷ rs) = countAt r + total rs
-
 -- the lent lists are long enough
 pub record Lent (records : List (List ℕ)) (values flags : List ℕ) : Type 0 where
-  pub values-fit : total records ≤ length values
+  pub values-fit : total (λ (r : SegmentRecord). r .values) (recordsOf records) ≤ length values
   pub flags-fit : length records ≤ length flags
 
 -- ---- the rules, on parts
@@ -73,11 +70,6 @@ allBecome u (p ∷ ps) = (not (p .held) || isCoercible (p .type) u (p .values)) 
 unfoldable pub typeAnswer : ℕ → List Part → TypeAnswer
 typeAnswer required ps =
     cond (oneAmong required (typesOf ps) && allBecome (typeOfParts required ps) ps) (Joined (typeOfParts required ps)) Wrong
-
--- the paper's number for each answer, and the joined type that comes with it
-abbrev pub answerNumber : TypeAnswer → ℕ
-answerNumber Wrong = 10
-answerNumber (Joined u) = 0
 
 -- ---- one type after another
 

@@ -3,7 +3,6 @@
 ghost use mathlib.Core.Path.{_≡_};
 ghost use Prim.Native.Nat.{_+_, _≤_};
 ghost use lib.ListN.{length, take, drop};
-ghost use lib.Dec.{eqb};
 ghost use Rattle.numerical.specs.Seen.{noneSeen, seenFrom};
 ghost use Rattle.merge_type.specs.Parts.{isPart, partsFrom, Lent, heldColumns, recordTypes, oneAmong, typeOfParts, allBecome, typeAnswer, fitsFirst};
 ghost use Rattle.merge_type.specs.Only.{isSecond, nextFirst, typesFrom};
@@ -174,7 +173,7 @@ pub fn type_after_merge(required: u32, records: &[[u32; 8]], values: &[u64], hel
     }
     match held_types(records, held) {
         HeldTypes::Only(t) => t,
-        HeldTypes::Several => seen_columns(records, values, held).joined_type(required),
+        HeldTypes::Several => seen_columns(records, values, held).joined_type(),
     }
 }
 

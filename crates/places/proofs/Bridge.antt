@@ -1,9 +1,8 @@
 -- Where a place says where a segment stands, its rows are the segment's. Assumes nothing.
 use Prim.Native.Nat.{ℕ, suc, _-_, _≤_, _<_}
-use native.Mathlib.Omega.{arith}
 use mathlib.Core.Path.{_≡_, refl, sym, ap, _∙_, subst}
 use mathlib.Core.List.{List, [], map}
-use lib.ListN.{length, getD, drop, length-map}
+use lib.ListN.{length, getD, length-map}
 use lib.Seq.{slice}
 use lib.Dec.{T}
 use mathlib.Core.Bool.{cond}
@@ -16,6 +15,7 @@ use Rattle.column_index.proofs.Walk.{fits-sound, sound-inside}
 use Rattle.places.specs.Place.{kindAt, rowsAt, idsAt, offsetsAt, valuesAt, endIn, widthIn, segmentAt, cellIn, Inside}
 use Rattle.places.specs.Stack.{SoundAt}
 use Rattle.places.proofs.Cells.{sound-within, cell-length}
+use Rattle.lists.proofs.Parts.{run-length}
 
 -- the runs at a place are those of the segment
 pub record Stands (place ids offsets values : List ℕ) (s : Segment) : Type 0 where
@@ -49,7 +49,7 @@ module _ {place ids offsets values : List ℕ} {s : Segment} (st : Stands place 
       ∙ sym (row-from s r)
 
   pub count-stands : length (s .values) ≡ getD place 7 0 - getD place 6 0
-  count-stands = ap length (sym (st .values-are)) ∙ lib.Seq.length-take-le (getD place 7 0 - getD place 6 0) (drop (getD place 6 0) values) (rw (lib.ListN.length-drop (getD place 6 0) values) (omega (arith, st .values-end)))
+  count-stands = ap length (sym (st .values-are)) ∙ run-length (getD place 6 0) (getD place 7 0) values (st .values-end)
 
   module _ (fit : T (listsFit s)) where
     pub sound-stands : SoundAt place ids offsets

@@ -6,27 +6,29 @@ use native.Mathlib.Omega.{arith}
 use mathlib.Core.Path.{_≡_, refl, sym, ap, ap₂, _∙_}
 use mathlib.Core.List.{List, [], _∷_, _++_, map}
 use mathlib.Core.Bool.{Bool, true, false}
-use lib.ListN.{length, getD, take, drop, length-map, length-drop, drop-of-length-le}
-use lib.Seq.{drop-cons, drop-drop, length-take-le}
+use lib.ListN.{length, getD, take, drop, drop-of-length-le}
+use lib.Seq.{drop-cons, drop-drop}
 use lib.Dec.{T, eqb, ltb, ltb→lt}
-use lib.Ieee.Fits.{and-l, and-r}
 use borrow.Author.Tests.{eqb-true, eqb-false}
 use Rattle.definitions.specs.Lists.{elem, all, notFalling, upFrom, upTo, sum}
 use Rattle.definitions.specs.Row.{rank}
 use Rattle.definitions.proofs.Fit.{rank-lt}
-use Rattle.segment.proofs.At.{sum-append}
 use Rattle.runs.specs.Put.{put, shifted, Below}
-use Rattle.runs.proofs.Laws.{Filling, fill-room, fill-more, upFrom-length, shifted-length, shifted-at}
+use Rattle.runs.proofs.Laws.{Filling, fill-room, fill-more, shifted-length, shifted-at}
 use Rattle.column_index.specs.Lookup.{widthOf, Sound}
 use Rattle.column_index.proofs.Laws.{four-le}
-use Rattle.column_index.proofs.Sound.{asc-step, rank-first, fall-step}
+use Rattle.column_index.proofs.Sound.{asc-step, fall-step}
 use Rattle.column_index.proofs.Walk.{walk-widths}
 use Rattle.places.specs.Width.{idPart, idsOf, totalsOf}
 use Rattle.places.specs.Place.{run, kindAt, rowsAt, idsAt, offsetsAt, startIn, endIn, widthIn}
 use Rattle.places.specs.Stack.{diffs, segmentWidths, stackedWidths, allRows, SoundAt, AllSound}
-use Rattle.places.proofs.Cells.{drop-take}
 use Rattle.places.proofs.Laws.{ids-cons, totals-cons}
 use Rattle.places.proofs.Stack.{width-empty, width-full, width-old, width-none, width-optional, width-new, ids-none, totals-none, ids-every, totals-every, ids-walk, totals-ones, totals-walk, diffs-walk, diffs-step, diffs-end, ids-append, totals-append}
+use Rattle.lists.proofs.Sums.{sum-append}
+use Rattle.definitions.proofs.Lists.{up-length}
+use Rattle.definitions.proofs.Decode.{rank-zero}
+use Rattle.lists.proofs.Parts.{drop-take, run-length}
+use Rattle.lists.proofs.Lists.{all-at}
 
 module _ {kind rows n : ℕ} {ids offsets : List ℕ} (s : Sound kind rows n ids offsets) where
   w : ℕ → ℕ
@@ -56,37 +58,37 @@ module _ {kind rows n : ℕ} {ids offsets : List ℕ} (s : Sound kind rows n ids
   bulk-ids-listed a b d f =
       ap (λ (m : ℕ). idsOf m (map (widthOf kind ids offsets) (upTo rows))) (sym (add-zero f))
       ∙ ids-walk (widthOf kind ids offsets) ids (s .ascends) (some a b d) (λ r e. width-none kind ids offsets r a b d e) f 0 rows (rw (zero-add rows) (below a b d))
-      ∙ ap (λ (m : ℕ). shifted f (drop m ids)) (rank-first ids)
+      ∙ ap (λ (m : ℕ). shifted f (drop m ids)) (rank-zero ids)
 
   pub bulk-totals-optional : kind ≡ 2 → (t : ℕ) → totalsOf t (map (widthOf kind ids offsets) (upTo rows)) ≡ upFrom (suc t) (length ids)
   bulk-totals-optional e t =
       let a : kind ≡ 0 → ⊥ = λ q. omega arith in
       let b : kind ≡ 1 → ⊥ = λ q. omega arith in
       let d : kind ≡ 3 → ⊥ = λ q. omega arith in
-      let z : length ids - rank 0 ids ≡ length ids = omega (arith, rank-first ids) in
+      let z : length ids - rank 0 ids ≡ length ids = omega (arith, rank-zero ids) in
       totals-ones (widthOf kind ids offsets) ids (s .ascends) (some a b d) (λ r f. width-none kind ids offsets r a b d f) (λ r f. width-optional kind ids offsets r e f) t 0 rows (rw (zero-add rows) (below a b d))
       ∙ ap (upFrom (suc t)) z
 
   pub bulk-totals-new : (kind ≡ 0 → ⊥) → (kind ≡ 1 → ⊥) → (kind ≡ 2 → ⊥) → (kind ≡ 3 → ⊥) → (t : ℕ) → totalsOf t (map (widthOf kind ids offsets) (upTo rows)) ≡ shifted t (drop 1 offsets)
   bulk-totals-new a b c d t =
       let q = s .new (four-le kind a b c d) in
-      let z : t ≡ t + getD offsets (rank 0 ids) 0 = omega (arith, q .2, ap (λ (m : ℕ). getD offsets m 0) (rank-first ids)) in
+      let z : t ≡ t + getD offsets (rank 0 ids) 0 = omega (arith, q .2, ap (λ (m : ℕ). getD offsets m 0) (rank-zero ids)) in
       ap (λ (m : ℕ). totalsOf m (map (widthOf kind ids offsets) (upTo rows))) z
       ∙ totals-walk (widthOf kind ids offsets) ids (s .ascends) (some a b d) (λ r f. width-none kind ids offsets r a b d f) offsets (q .1) (q .4) (λ r f. width-new kind ids offsets r a b c d f) t 0 rows (rw (zero-add rows) (q .0))
-      ∙ ap (λ (m : ℕ). shifted t (drop (suc m) offsets)) (rank-first ids)
+      ∙ ap (λ (m : ℕ). shifted t (drop (suc m) offsets)) (rank-zero ids)
 
 -- ---- a placed segment
 
 module _ {place ids offsets : List ℕ} (sa : SoundAt place ids offsets) where
   pub ids-length : length (idsAt place ids) ≡ getD place 3 0 - getD place 2 0
-  ids-length = length-take-le (getD place 3 0 - getD place 2 0) (drop (getD place 2 0) ids) (rw (length-drop (getD place 2 0) ids) (omega (arith, sa .ids-end)))
+  ids-length = run-length (getD place 2 0) (getD place 3 0) ids (sa .ids-end)
 
   pub offsets-length : length (offsetsAt place offsets) ≡ getD place 5 0 - getD place 4 0
-  offsets-length = length-take-le (getD place 5 0 - getD place 4 0) (drop (getD place 4 0) offsets) (rw (length-drop (getD place 4 0) offsets) (omega (arith, sa .offsets-end)))
+  offsets-length = run-length (getD place 4 0) (getD place 5 0) offsets (sa .offsets-end)
 
   pub seg-length : length (segmentWidths place ids offsets) ≡ rowsAt place
   unfolding segmentWidths
-  seg-length = length-map (upTo (rowsAt place)) (widthIn place ids offsets) ∙ upFrom-length 0 (rowsAt place)
+  seg-length = up-length (widthIn place ids offsets) (rowsAt place)
 
   pub seg-sum : sum (segmentWidths place ids offsets) ≡ getD place 7 0 - getD place 6 0
   unfolding segmentWidths widthIn startIn endIn widthOf
@@ -139,19 +141,14 @@ module _ {place ids offsets : List ℕ} (sa : SoundAt place ids offsets) where
     seg-totals-new t = bulk-totals-new (sa .sound) a b c d t ∙ ap (shifted t) (sym behind)
 
     pub seg-new-length : length (run (getD place 4 0 + 1) (getD place 5 0) offsets) ≡ getD place 5 0 - (getD place 4 0 + 1)
-    seg-new-length = length-take-le (getD place 5 0 - (getD place 4 0 + 1)) (drop (getD place 4 0 + 1) offsets) (rw (length-drop (getD place 4 0 + 1) offsets) (omega (arith, sa .offsets-end)))
+    seg-new-length = run-length (getD place 4 0 + 1) (getD place 5 0) offsets (sa .offsets-end)
 
 -- ---- every number written fits
-
-all-at : (rows : ℕ) (ids : List ℕ) → T (all (λ i. ltb i rows) ids) → (k : ℕ) → k < length ids → getD ids k 0 < rows
-all-at rows [] h k l = absurd (not-suc-le-zero l)
-all-at rows (i ∷ is) h zero l = ltb→lt i rows (and-l (ltb i rows) (all (λ n. ltb n rows) is) h)
-all-at rows (i ∷ is) h (suc k) l = all-at rows is (and-r (ltb i rows) (all (λ n. ltb n rows) is) h) k (le-of-suc-le-suc l)
 
 pub shift-below : (m f rows : ℕ) (ids : List ℕ) → T (all (λ i. ltb i rows) ids) → f + rows ≤ m → Below m (shifted f ids)
 shift-below m f rows ids h l k q =
     let r : k < length ids = rw (shifted-length f ids) at q in
-    let p = all-at rows ids h k r in
+    let p = ltb→lt (getD ids k 0) rows (all-at (λ i. ltb i rows) ids k 0 h r) in
     rw (← shifted-at f ids k r) (omega arith)
 
 totals-below : (t : ℕ) (ws : List ℕ) (k : ℕ) → k < length (totalsOf t ws) → getD (totalsOf t ws) k 0 ≤ t + sum ws

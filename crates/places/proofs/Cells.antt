@@ -1,17 +1,17 @@
 -- From flat runs to a row's values: what the code lends is the cell, and its length is the width. Assumes nothing.
-use Prim.Native.Nat.{ℕ, zero, suc, _+_, _-_, _<_}
+use Prim.Native.Nat.{ℕ, suc, _+_, _-_, _<_}
 use native.Mathlib.Omega.{arith}
 use mathlib.Core.Path.{_≡_, refl, sym, ap, ap₂, _∙_}
 use mathlib.Core.List.{List, [], _∷_, map}
-use lib.ListN.{length, getD, take, drop, length-drop, length-append}
-use lib.Seq.{drop-drop, take-take, take-nil, slice, length-slice, length-take-le}
-use Rattle.definitions.specs.Lists.{sum, concat}
+use lib.ListN.{length, getD, take, drop}
+use lib.Seq.{drop-drop, take-take, slice, length-slice}
 use Rattle.definitions.specs.Join.{idsFrom, totalsFrom}
 use Rattle.column_index.proofs.Laws.{row-slice}
 use Rattle.column_index.proofs.Walk.{sound-readable, sound-rises}
 use Rattle.places.specs.Width.{idsOf, totalsOf}
 use Rattle.places.specs.Place.{run, valuesAt, startIn, endIn, widthIn, rowsAt, segmentAt, cellIn, Within, Inside}
 use Rattle.places.specs.Stack.{SoundAt}
+use Rattle.lists.proofs.Parts.{run-length, drop-take}
 
 -- every row of a sound segment can be looked up
 pub sound-within : {place ids offsets : List ℕ} → SoundAt place ids offsets → (r : ℕ) → r < rowsAt place → Within place ids offsets r
@@ -26,24 +26,12 @@ sound-within sa r h =
       rises = sound-rises (sa .sound) h;
     }
 
-pub drop-take : (s e : ℕ) (l : List ℕ) → drop s (take e l) ≡ take (e - s) (drop s l)
-drop-take zero e l = ap (λ (n : ℕ). take n l) (let k : e ≡ e - 0 = omega arith in k)
-drop-take (suc s) zero l = ap (λ (n : ℕ). take n (drop (suc s) l)) (let k : 0 ≡ 0 - suc s = omega arith in k)
-drop-take (suc s) (suc e) [] = sym (take-nil {A = ℕ} (suc e - suc s))
-drop-take (suc s) (suc e) (x ∷ l) = drop-take s e l ∙ ap (λ (n : ℕ). take n (drop s l)) (let k : e - s ≡ suc e - suc s = omega arith in k)
-
 module _ (place ids offsets values : List ℕ) (row : ℕ) where
   pub cell-slice : cellIn place ids offsets values row ≡ slice (startIn place ids offsets row) (endIn place ids offsets row) (valuesAt place values)
   unfolding cellIn segmentAt startIn endIn
   cell-slice = row-slice (segmentAt place ids offsets values) row
 
   module _ (i : Inside place ids offsets values row) where
-    b : ℕ
-    b = getD place 6 0
-
-    n : ℕ
-    n = getD place 7 0 - getD place 6 0
-
     -- the values from b + start to b + end of the section are the row's
     pub cell-run : run (getD place 6 0 + startIn place ids offsets row) (getD place 6 0 + endIn place ids offsets row) values ≡ cellIn place ids offsets values row
     cell-run =
@@ -54,12 +42,9 @@ module _ (place ids offsets values : List ℕ) (row : ℕ) where
         ∙ ap (drop (startIn place ids offsets row)) (sym (take-take (endIn place ids offsets row) (getD place 7 0 - getD place 6 0) (drop (getD place 6 0) values) (i .inside)))
         ∙ sym cell-slice
 
-    run-length : length (valuesAt place values) ≡ getD place 7 0 - getD place 6 0
-    run-length = length-take-le (getD place 7 0 - getD place 6 0) (drop (getD place 6 0) values) (rw (length-drop (getD place 6 0) values) (omega (arith, i .values-end, i .values-run)))
-
     pub cell-length : length (cellIn place ids offsets values row) ≡ widthIn place ids offsets row
     unfolding widthIn
-    cell-length = ap length cell-slice ∙ length-slice (startIn place ids offsets row) (endIn place ids offsets row) (valuesAt place values) (rw run-length (i .inside))
+    cell-length = ap length cell-slice ∙ length-slice (startIn place ids offsets row) (endIn place ids offsets row) (valuesAt place values) (rw (run-length (getD place 6 0) (getD place 7 0) values (i .values-end)) (i .inside))
 
 -- ---- the definitions' row ids and offsets, from the widths
 
@@ -74,7 +59,3 @@ unfolding totalsOf
 totals-widths t [] = refl
 totals-widths t ([] ∷ cs) = totals-widths t cs
 totals-widths t ((v ∷ vs) ∷ cs) = ap (λ (l : List ℕ). (t + suc (length vs)) ∷ l) (totals-widths (t + suc (length vs)) cs)
-
-pub concat-widths : (cs : List (List ℕ)) → length (concat cs) ≡ sum (map length cs)
-concat-widths [] = refl
-concat-widths (c ∷ cs) = length-append c (concat cs) ∙ ap (λ (n : ℕ). length c + n) (concat-widths cs)

@@ -1,35 +1,32 @@
 -- A turn of the loops that fill places, alive sets and sources. Assumes nothing.
-use Prim.Native.Nat.{ℕ, zero, suc, _+_, _≤_, _<_}
-use native.Mathlib.Nat.{zero-add, le-of-suc-le-suc}
+use Prim.Native.Nat.{ℕ, _+_, _≤_, _<_}
+use native.Mathlib.Nat.{zero-add}
 use native.Mathlib.Numerals.{add-one}
 use native.Mathlib.Omega.{arith}
 use mathlib.Core.Path.{_≡_, refl, sym, ap, ap₂, _∙_}
-use mathlib.Core.List.{List, [], _∷_, _++_, map, append-nil}
+use mathlib.Core.List.{List, [], _∷_, _++_, append-nil}
 use mathlib.Core.Bool.{cond}
-use lib.ListN.{length, getD, set, length-map, drop-of-length-le}
+use lib.ListN.{length, getD, set, drop-of-length-le}
 use lib.Seq.{getD-drop, drop-paste}
 use borrow.Author.Tests.{eq-eqb, ne-eqb}
-use Rattle.definitions.specs.Lists.{upFrom, upTo}
 use Rattle.definitions.specs.Segment.{aliveWords}
 use Rattle.runs.specs.Put.{put}
-use Rattle.runs.proofs.Laws.{putting, putting-more, putting-all, upFrom-length}
-use Rattle.places.specs.Places.{table, sumBelow, isSet, recordAt, idsBefore, offsetsBefore, valuesBefore, wordsBefore, termsIf, termsBefore, rawAt, placeIf, keptAt, aliveAt, sourceAt}
+use Rattle.runs.proofs.Laws.{putting, putting-more, putting-all}
+use Rattle.places.specs.Places.{table, isSet, idsBefore, offsetsBefore, valuesBefore, wordsBefore, termsIf, termsBefore, rawAt, placeIf, keptAt, aliveAt, sourceAt}
+use Rattle.definitions.proofs.Lists.{up-at, up-length}
+use Rattle.lists.specs.Sums.{sumBelow}
+use Rattle.segment.specs.Records.{recordAt}
 
 -- ---- tables
 
 module _ {A : Type 0} (f : ℕ → A) where
   pub table-length : (n : ℕ) → length (table f n) ≡ n
   unfolding table
-  table-length n = length-map (upTo n) f ∙ upFrom-length 0 n
-
-  at-from : (d : A) (a n k : ℕ) → k < n → getD (map f (upFrom a n)) k d ≡ f (a + k)
-  at-from d a zero k h = absurd (omega arith)
-  at-from d a (suc n) zero h = ap f (omega arith)
-  at-from d a (suc n) (suc k) h = at-from d (suc a) n k (le-of-suc-le-suc h) ∙ ap f (omega arith)
+  table-length n = up-length f n
 
   pub table-at : (d : A) (n k : ℕ) → k < n → getD (table f n) k d ≡ f k
   unfolding table
-  table-at d n k h = at-from d 0 n k h ∙ ap f (zero-add k)
+  table-at d n k h = up-at f d 0 n k h ∙ ap f (zero-add k)
 
   -- element s is written, x is what the code has for it
   pub table-more : (n : ℕ) (old : List A) (s : ℕ) (x : A) → n ≤ length old → s < n → x ≡ f s → set (putting 0 (table f n) old s) s x ≡ putting 0 (table f n) old (s + 1)
@@ -123,9 +120,3 @@ kept-now held places s e = e
 pub terms-now : (records : List (List ℕ)) (held : List ℕ) (s : ℕ) {n t : ℕ} → n ≡ cond (isSet (getD held s 0)) t 0 → t ≡ recordAt records s .terms → n ≡ termsIf records held s
 unfolding termsIf
 terms-now records held s p q = p ∙ ap (λ (m : ℕ). cond (isSet (getD held s 0)) m 0) q
-
-pub held-all : (h t : ℕ) {n : ℕ} → h ≡ 1 → n ≡ t → n ≡ cond (isSet h) t 0
-held-all h t e p = rw (eq-eqb h 1 e) p
-
-pub held-none : (h t : ℕ) → (h ≡ 1 → ⊥) → 0 ≡ cond (isSet h) t 0
-held-none h t e = rw (ne-eqb h 1 e)

@@ -6,16 +6,11 @@ use native.Mathlib.Omega.{arith}
 use mathlib.Core.Path.{_≡_, refl, sym, ap, _∙_}
 use mathlib.Core.List.{List, [], _∷_, _++_}
 use lib.ListN.{length, getD, set, drop, drop-of-length-le, length-set}
-use lib.Seq.{drop-cons, set-split, set-set, drop-set-lt}
+use lib.Seq.{drop-cons, set-set, drop-set-lt}
 use Rattle.runs.specs.Put.{put}
-use Rattle.runs.proofs.Laws.{Filling, fill-start, fill-more}
+use Rattle.runs.proofs.Laws.{Filling, fill-start, fill-more, put-one}
 use Rattle.places.specs.Width.{idPart, idsOf, totalsOf}
 use Rattle.places.specs.Place.{widthIn, widths, placeAt, rowOf}
-
--- one element put
-pub put-one : (at x : ℕ) (old : List ℕ) → at < length old → set old at x ≡ put at (x ∷ []) old
-unfolding put
-put-one at x old h = set-split old at x h ∙ rw (add-one at)
 
 -- a list whose first element stands already
 pub first-set : (x : ℕ) (vs old : List ℕ) → put 0 (x ∷ vs) (set old 0 x) ≡ put 0 (x ∷ vs) old

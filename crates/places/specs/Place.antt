@@ -1,6 +1,6 @@
 -- Where a segment's runs stand in the sections: a place has eight numbers, the kind and the rows of the segment as it counts
 -- (a dropped one is Empty, without runs), then start and end of its ids, offsets and values. Assumes nothing.
-use Prim.Native.Nat.{ℕ, _-_, _≤_, _<_}
+use Prim.Native.Nat.{ℕ, _-_, _≤_}
 use mathlib.Core.List.{List, [], _∷_}
 use lib.ListN.{length, getD, take, drop}
 use Rattle.definitions.specs.Segment.{Segment}

@@ -1,40 +1,34 @@
 -- Places, alive sets and sources of the lent records' segments, by running sums. Assumes nothing.
-use Prim.Native.Nat.{ℕ, zero, suc, _+_}
+use Prim.Native.Nat.{ℕ, _+_}
 use mathlib.Core.List.{List, [], _∷_, map}
 use mathlib.Core.Bool.{Bool, cond}
-use lib.ListN.{getD}
+use lib.ListN.{length, getD}
 use lib.Dec.{eqb}
 use Rattle.definitions.specs.Lists.{upTo}
-use Rattle.definitions.specs.Segment.{SegmentRecord, aliveWords, recordFrom}
+use Rattle.definitions.specs.Segment.{aliveWords}
+use Rattle.lists.specs.Sums.{sumBelow}
+use Rattle.segment.specs.Records.{recordAt, startAt}
 
 -- f 0, f 1, .., n elements in all
 unfoldable pub table : {A : Type 0} → (ℕ → A) → ℕ → List A
 table f n = map f (upTo n)
 
--- f 0 + f 1 + .., n numbers in all
-abbrev pub sumBelow : (ℕ → ℕ) → ℕ → ℕ
-sumBelow f zero = 0
-sumBelow f (suc n) = sumBelow f n + f n
-
 -- a byte that says of a segment that it is held
 abbrev pub isSet : ℕ → Bool
 isSet h = eqb h 1
 
-abbrev pub recordAt : List (List ℕ) → ℕ → SegmentRecord
-recordAt records k = recordFrom (getD records k [])
-
 -- where segment k's ids, offsets, values and alive words start
 unfoldable pub idsBefore : List (List ℕ) → ℕ → ℕ
-idsBefore records k = sumBelow (λ j. recordAt records j .ids) k
+idsBefore records k = startAt (λ r. r .ids) records k
 
 unfoldable pub offsetsBefore : List (List ℕ) → ℕ → ℕ
-offsetsBefore records k = sumBelow (λ j. recordAt records j .offsets) k
+offsetsBefore records k = startAt (λ r. r .offsets) records k
 
 unfoldable pub valuesBefore : List (List ℕ) → ℕ → ℕ
-valuesBefore records k = sumBelow (λ j. recordAt records j .values) k
+valuesBefore records k = startAt (λ r. r .values) records k
 
 unfoldable pub wordsBefore : List (List ℕ) → ℕ → ℕ
-wordsBefore records k = sumBelow (λ j. aliveWords (recordAt records j)) k
+wordsBefore records k = startAt aliveWords records k
 
 -- how many terms segment k gives to the map, and where its part starts
 unfoldable pub termsIf : List (List ℕ) → List ℕ → ℕ → ℕ
@@ -70,3 +64,18 @@ aliveAt records k = recordAt records k .flag ∷ wordsBefore records k ∷ (word
 -- the type, then start and end of segment k's part of the map
 unfoldable pub sourceAt : List (List ℕ) → List ℕ → ℕ → List ℕ
 sourceAt records held k = recordAt records k .type ∷ termsBefore records held k ∷ (termsBefore records held k + termsIf records held k) ∷ []
+
+-- ---- the tables of all records
+
+-- places as if every segment were held, and as they count; alive sets; sources of the words
+abbrev pub rawPlaces : List (List ℕ) → List (List ℕ)
+rawPlaces records = table (rawAt records) (length records)
+
+abbrev pub placesOf : List (List ℕ) → List ℕ → List (List ℕ)
+placesOf records held = table (keptAt held (rawPlaces records)) (length (rawPlaces records))
+
+abbrev pub alivesOf : List (List ℕ) → List (List ℕ)
+alivesOf records = table (aliveAt records) (length records)
+
+abbrev pub sourcesOf : List (List ℕ) → List ℕ → List (List ℕ)
+sourcesOf records held = table (sourceAt records held) (length records)

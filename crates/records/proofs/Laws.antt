@@ -12,6 +12,7 @@ use borrow.Author.Tests.{ltb-true, ltb-false}
 use Rattle.segment.specs.declared.Record.{Record}
 use Rattle.segment.specs.Records.{structOf}
 use Rattle.records.specs.Rows.{none, numbersOf, rowsOf, countOf, blank, laidTo}
+use Rattle.definitions.proofs.Lists.{getD-in}
 
 -- the row of a record stands for it
 pub row-back : (r : Record) → structOf (numbersOf r) ≡ r
@@ -49,11 +50,6 @@ laid-size rs (suc i) = length-set (laidTo rs i) i (numbersOf (getD rs i none)) �
 pub rows-size : (rs : List Record) → length (rowsOf rs) ≡ length rs
 rows-size rs = length-map rs numbersOf
 
-row-at : (rs : List Record) (i : ℕ) → i < length rs → getD (rowsOf rs) i [] ≡ numbersOf (getD rs i none)
-row-at (r ∷ rs) zero h = refl
-row-at (r ∷ rs) (suc i) h = row-at rs i (omega (arith, h))
-row-at [] i h = absurd (omega (arith, h))
-
 -- what is laid out is the records' rows
 pub laid-take : (rs : List Record) (i : ℕ) → i ≤ length rs → i ≤ 257 → take i (laidTo rs i) ≡ take i (rowsOf rs)
 unfolding laidTo
@@ -64,7 +60,7 @@ laid-take rs (suc i) h k =
     let n : i < length rs = omega (arith, h) in
     take-suc-set (laidTo rs i) i (numbersOf (getD rs i none)) l
     ∙ ap (λ (x : List (List ℕ)). x ++ (numbersOf (getD rs i none) ∷ [])) (laid-take rs i (omega (arith, h)) (omega (arith, k)))
-    ∙ ap (λ (x : List ℕ). take i (rowsOf rs) ++ (x ∷ [])) (sym (row-at rs i n))
+    ∙ ap (λ (x : List ℕ). take i (rowsOf rs) ++ (x ∷ [])) (sym (getD-in numbersOf rs i [] none n))
     ∙ sym (take-suc (rowsOf rs) i [] m)
 
 -- the table's rows: all of them where they are at most 256, and else 257

@@ -1,23 +1,25 @@
 -- The checks of all segments as the code walks them are the definitions' own. Assumes nothing.
 use mathlib.Core.Path.{_≡_, refl, sym, ap, ap₂, _∙_}
-use mathlib.Core.Bool.{Bool, true, false, not, _&&_, _||_}
+use mathlib.Core.Bool.{Bool, true, false, not, _&&_, _||_, Bool·not-not, and-false}
 use mathlib.Core.List.{List, [], _∷_}
 use Prim.Native.Nat.{ℕ, _+_, _≤_}
 use native.Mathlib.Omega.{arith}
 use lib.Dec.{eqb, ltb, leb}
-use lib.ListN.{length, drop, take, length-drop, length-append}
+use lib.ListN.{length, drop, take, length-drop}
 use lib.Seq.{length-take-le}
 use borrow.Author.Tests.{eqb-true}
-use Rattle.definitions.specs.Lists.{sum, all, any, concat}
-use Rattle.definitions.specs.Segment.{SegmentRecord, Sections, Input, segmentsOf, cut, aliveWords, firstSegment, afterFirst, segmentsFrom}
+use Rattle.definitions.specs.Lists.{sum, all, any}
+use Rattle.definitions.specs.Segment.{SegmentRecord, Sections, Input, segmentsOf, aliveWords, firstSegment, afterFirst, segmentsFrom}
 use Rattle.definitions.specs.Row.{hasAliveSet}
 use Rattle.definitions.specs.Types.{isKnownType}
 use Rattle.definitions.specs.Answer.{total, codesWrong, aliveWrong, lengthsWrong, codesKnown, noColumnIsBare, segmentCodesWrong, listsFit, listsWrong, valuesFit, valuesWrong, bitPastRows, sumOver, bytesIn, termsIn, sumsTooLarge, greatestSum}
-use Rattle.segment.proofs.Tests.{both-true, not-not, not-ltb}
 use Rattle.segment_fit.specs.Fits.{pastRows, fitsAlive}
-use Rattle.segment_fit.proofs.Own.{assoc5, length-cut, codes-first, lists-first, values-first, past-first, flag-first}
+use Rattle.segment_fit.proofs.Own.{assoc5, codes-first, lists-first, values-first, past-first, flag-first}
 use Rattle.sections_fit.specs.Walks.{lengthsRight, Exact, codesFrom, knownCodes, listsFrom, valuesFrom, aliveFitsFrom, sumsRight}
-use Rattle.sections_fit.proofs.Walks.{sum-split}
+use Rattle.lists.proofs.Tests.{both-true}
+use Rattle.lists.proofs.Numbers.{not-ltb}
+use Rattle.lists.proofs.Cuts.{cut-length, cut-bytes}
+use Rattle.lists.proofs.Sums.{sum-split}
 
 -- ---- 2
 
@@ -111,15 +113,11 @@ alive-step true false false false false = refl
 
 alive-all : (mode : ℕ) (rs : List SegmentRecord) (s : Sections) → any bitPastRows (segmentsFrom rs s) || (eqb mode 0 && any hasAliveSet (segmentsFrom rs s)) ≡ not (aliveFitsFrom mode rs (s .alive))
 unfolding aliveFitsFrom fitsAlive afterFirst
-alive-all mode [] s = go (eqb mode 0)
-  where
-    go : (b : Bool) → b && false ≡ false
-    go true = refl
-    go false = refl
+alive-all mode [] s = and-false (eqb mode 0)
 alive-all mode (r ∷ rs) s =
     let q = any bitPastRows (segmentsFrom rs (afterFirst r s)) in
     let g = any hasAliveSet (segmentsFrom rs (afterFirst r s)) in
-    let e : not (q || (eqb mode 0 && g)) ≡ aliveFitsFrom mode rs (drop (aliveWords r) (s .alive)) = ap not (alive-all mode rs (afterFirst r s)) ∙ not-not (aliveFitsFrom mode rs (drop (aliveWords r) (s .alive))) in
+    let e : not (q || (eqb mode 0 && g)) ≡ aliveFitsFrom mode rs (drop (aliveWords r) (s .alive)) = ap not (alive-all mode rs (afterFirst r s)) ∙ Bool·not-not (aliveFitsFrom mode rs (drop (aliveWords r) (s .alive))) in
     rw (past-first r s, flag-first r s) (alive-step (eqb mode 0) (pastRows (r .rows) (take (aliveWords r) (s .alive))) q (eqb (r .flag) 1) g ∙ ap (λ (b : Bool). not ((not (eqb mode 0 && eqb (r .flag) 1) && not (pastRows (r .rows) (take (aliveWords r) (s .alive)))) && b)) e)
 
 -- ---- 7
@@ -142,14 +140,8 @@ pub terms-sum : (rs : List SegmentRecord) (s : Sections) → total (λ (r : Segm
 unfolding firstSegment afterFirst
 terms-sum [] s h = refl
 terms-sum (r ∷ rs) s h =
-    ap₂ (λ (a b : ℕ). a + b) (length-cut (take (r .terms) (s .termLengths)) (s .termBytes) ∙ length-take-le (r .terms) (s .termLengths) (omega arith))
+    ap₂ (λ (a b : ℕ). a + b) (cut-length (take (r .terms) (s .termLengths)) (s .termBytes) ∙ length-take-le (r .terms) (s .termLengths) (omega arith))
     (terms-sum rs (afterFirst r s) (rw (length-drop (r .terms) (s .termLengths)) (omega arith)))
-
-cut-bytes : (ns bytes : List ℕ) → sum ns ≤ length bytes → length (concat (cut ns bytes)) ≡ sum ns
-cut-bytes [] bytes h = refl
-cut-bytes (n ∷ ns) bytes h =
-    length-append (take n bytes) (concat (cut ns (drop n bytes)))
-    ∙ ap₂ (λ (a b : ℕ). a + b) (length-take-le n bytes (omega arith)) (cut-bytes ns (drop n bytes) (rw (length-drop n bytes) (omega arith)))
 
 pub bytes-sum : (rs : List SegmentRecord) (s : Sections) → total (λ (r : SegmentRecord). r .terms) rs ≡ length (s .termLengths) → sum (s .termLengths) ≤ length (s .termBytes)
     → sumOver bytesIn (segmentsFrom rs s) ≡ sum (s .termLengths)
@@ -207,18 +199,6 @@ input-codes i x =
     ap (λ (b : Bool). not (ltb (i .mode) 2 && isKnownType (i .required)) || b) (codes-wrong (i .records) (i .sections) x)
     ∙ known-wrong (ltb (i .mode) 2) (isKnownType (i .required)) (codesFrom (i .records))
 
-pub input-lists : (i : Input) → Exact (i .records) (i .sections) → listsWrong (segmentsOf i) ≡ not (listsFrom (i .records) (i .sections .ids) (i .sections .offsets))
-unfolding segmentsOf
-input-lists i x = lists-wrong (i .records) (i .sections) x
-
-pub input-values : (i : Input) → Exact (i .records) (i .sections) → valuesWrong (segmentsOf i) ≡ not (valuesFrom (i .records) (i .sections .values) (i .sections .termLengths) (i .sections .termBytes))
-unfolding segmentsOf
-input-values i x = values-wrong (i .records) (i .sections) x
-
 pub input-alive : (i : Input) → aliveWrong i ≡ not (aliveFitsFrom (i .mode) (i .records) (i .sections .alive))
 unfolding aliveWrong segmentsOf
 input-alive i = alive-all (i .mode) (i .records) (i .sections)
-
-pub input-sums : (i : Input) → Exact (i .records) (i .sections) → sumsTooLarge (segmentsOf i) ≡ not (sumsRight (total (λ (r : SegmentRecord). r .rows) (i .records)) (length (i .sections .values)) (length (i .sections .termBytes)))
-unfolding segmentsOf
-input-sums i x = sums-large (i .records) (i .sections) x

@@ -2,7 +2,7 @@
 use mathlib.Core.Path.{_≡_, refl, sym, _∙_}
 use mathlib.Core.Bool.{Bool, true, false, _&&_}
 use mathlib.Core.List.{List, [], _∷_}
-use Prim.Native.Nat.{ℕ, zero, suc, _+_, _-_, _≤_, _<_}
+use Prim.Native.Nat.{ℕ, _+_, _-_, _≤_, _<_}
 use native.Mathlib.Nat.{add-zero, zero-add, add-assoc}
 use native.Mathlib.Omega.{arith}
 use lib.Dec.{eqb}
@@ -13,11 +13,12 @@ use Rattle.definitions.specs.Segment.{SegmentRecord, aliveWords}
 use Rattle.definitions.specs.Answer.{total}
 use Rattle.segment.specs.declared.Record.{Record}
 use Rattle.segment.specs.Records.{structOf, recordIn, recordsOf}
-use Rattle.segment.proofs.Walk.{part-rest, part-is, rest-is, records-end, records-step}
+use Rattle.segment.proofs.Walk.{records-end, records-step}
 use Rattle.segment_fit.specs.Fits.{fitsCodes, fitsLists, fitsValues, fitsAlive}
-use Rattle.segment_fit.proofs.Laws.{sum-step}
 use Rattle.sections_fit.specs.declared.Totals.{Totals}
 use Rattle.sections_fit.specs.Walks.{codesFrom, listsFrom, valuesFrom, aliveFitsFrom, totalsOf, addTo}
+use Rattle.lists.proofs.Parts.{part-rest, part-is, rest-is}
+use Rattle.lists.proofs.Sums.{sum-step}
 
 -- ---- sums
 
@@ -39,11 +40,6 @@ sum-next xs i x left h e k =
 
 pub sum-end : (xs : List ℕ) (i left : ℕ) → length xs ≤ i → eqb left 0 ≡ eqb (sum (drop i xs)) left
 sum-end xs i left h = rw (drop-of-length-le xs h) (eqb-same left 0 0 left (λ p. sym p) (λ p. sym p))
-
-pub sum-split : (n : ℕ) (xs : List ℕ) → sum (take n xs) + sum (drop n xs) ≡ sum xs
-sum-split zero xs = omega arith
-sum-split (suc n) [] = refl
-sum-split (suc n) (x ∷ xs) = let e = sum-split n xs in omega arith
 
 -- ---- the records' sums
 

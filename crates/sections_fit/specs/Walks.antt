@@ -2,12 +2,12 @@
 use Prim.Native.Nat.{ℕ, _+_, _≤_}
 use mathlib.Core.Path.{_≡_}
 use mathlib.Core.List.{List, [], _∷_}
-use mathlib.Core.Bool.{Bool, true, _&&_, cond}
+use mathlib.Core.Bool.{Bool, true, _&&_}
 use lib.ListN.{length, take, drop}
 use lib.Dec.{eqb, ltb, leb}
 use Rattle.definitions.specs.Lists.{sum}
-use Rattle.definitions.specs.Segment.{SegmentRecord, Sections, Input, aliveWords, segmentsOf}
-use Rattle.definitions.specs.Answer.{total, greatestSum, tooManySegments, lengthsWrong, codesWrong, listsWrong, valuesWrong, aliveWrong, sumsTooLarge}
+use Rattle.definitions.specs.Segment.{SegmentRecord, Sections, aliveWords}
+use Rattle.definitions.specs.Answer.{total, greatestSum}
 use Rattle.definitions.specs.Types.{isKnownType}
 use Rattle.segment_fit.specs.Fits.{fitsCodes, fitsLists, fitsValues, fitsAlive}
 use Rattle.sections_fit.specs.declared.Totals.{Totals}
@@ -105,16 +105,3 @@ aliveFitsFrom mode (r ∷ rs) alive = fitsAlive mode r (take (aliveWords r) aliv
 
 unfoldable pub sumsRight : ℕ → ℕ → ℕ → Bool
 sumsRight rows values bytes = leb rows greatestSum && (leb values greatestSum && leb bytes greatestSum)
-
--- ---- the definitions' answer, cut at check 7: rest stands for what the later checks answer
-
-unfoldable pub firstSeven : Input → ℕ → ℕ
-firstSeven i rest =
-    cond (tooManySegments (i .records)) 1
-    (cond (lengthsWrong (i .records) (i .sections)) 2
-    (cond (codesWrong i) 3
-    (cond (listsWrong (segmentsOf i)) 4
-    (cond (valuesWrong (segmentsOf i)) 5
-    (cond (aliveWrong i) 6
-    (cond (sumsTooLarge (segmentsOf i)) 7
-    rest))))))

@@ -7,10 +7,11 @@ ghost use lib.ListN.{length};
 ghost use lib.Dec.{eqb};
 ghost use Rattle.definitions.specs.Lists.{sum};
 ghost use Rattle.definitions.specs.Segment.{aliveWords};
-ghost use Rattle.definitions.specs.Answer.{total};
+ghost use Rattle.definitions.specs.Checks.{firstOf};
+ghost use Rattle.definitions.specs.Answer.{total, sevenChecks};
 ghost use Rattle.segment.specs.Records.{recordIn, recordsOf, sectionsIn};
 ghost use Rattle.segment.specs.Lent.{lentInput};
-ghost use Rattle.sections_fit.specs.Walks.{totalsOf, addTo, Below, Grown, lengthsRight, codesFrom, knownCodes, HoldsLists, listsFrom, HoldsValues, valuesFrom, aliveFitsFrom, sumsRight, firstSeven};
+ghost use Rattle.sections_fit.specs.Walks.{totalsOf, addTo, Below, Grown, lengthsRight, codesFrom, knownCodes, HoldsLists, listsFrom, HoldsValues, valuesFrom, aliveFitsFrom, sumsRight};
 
 // ---- sums
 
@@ -29,20 +30,6 @@ fn adds_up(xs: &[u32], n: usize) -> bool
         i += 1;
     }
     left == 0
-}
-
-// The sum of the numbers, which fits.
-fn sum_of(xs: &[u32]) -> usize
-    requires { ⌜ sum (now xs) < 18446744073709551616 ⌝ }
-    ensures { λ r. ⌜ r ≡ sum (now (xs .entry)) ⌝ }
-{
-    let mut n: usize = 0;
-    let mut i: usize = 0;
-    while i < xs.len() {
-        n += segment::wide(xs[i]);
-        i += 1;
-    }
-    n
 }
 
 // The sums of the records' counts.
@@ -200,7 +187,7 @@ fn all_values_fit(records: &[[u32; 8]], values: &[u64], lengths: &[u32], bytes: 
         if !segment_fit::values_fit(r, &values[v..v_end], &lengths[t..t_end], &bytes[b..]) {
             return false;
         }
-        b += sum_of(&lengths[t..t_end]);
+        b += runs::sum_of(&lengths[t..t_end]);
         v = v_end;
         t = t_end;
         s += 1;
@@ -256,7 +243,7 @@ pub fn first_seven(
     bytes: &[u8],
     alive: &[u64],
 ) -> u32
-    ensures { λ x. ⌜ x ≡ firstSeven (lentInput mode required (now (records .entry)) (now (ids .entry)) (now (offsets .entry)) (now (values .entry)) (now (lengths .entry)) (now (bytes .entry)) (now (alive .entry)) [] 0) 0 ⌝ }
+    ensures { λ x. ⌜ x ≡ firstOf (sevenChecks (lentInput mode required (now (records .entry)) (now (ids .entry)) (now (offsets .entry)) (now (values .entry)) (now (lengths .entry)) (now (bytes .entry)) (now (alive .entry)) [] 0)) ⌝ }
 {
     if 256 < records.len() {
         return 1;

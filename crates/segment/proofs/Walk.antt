@@ -1,30 +1,16 @@
--- The laws of a walk over the records: the next record, and each section's part for it. Assumes nothing.
+-- The laws of a walk over the records. Assumes nothing.
 use mathlib.Core.Path.{_≡_, sym, ap, _∙_}
 use mathlib.Core.List.{List, [], _∷_}
-use Prim.Native.Nat.{ℕ, _+_, _-_, _/_, _≤_, _<_}
+use Prim.Native.Nat.{ℕ, _+_, _/_, _≤_, _<_, _*_}
 use native.Mathlib.Numerals.{add-one}
-use native.Mathlib.Omega.{arith}
-use lib.ListN.{length, drop, take, getD, drop-of-length-le, length-drop, length-map, List·getD-map}
-use lib.Seq.{drop-cons, drop-drop, take-all, length-take-le}
+use lib.ListN.{length, drop, getD, drop-of-length-le, length-map, List·getD-map}
+use lib.Seq.{drop-cons}
 use borrow.Author.Tests.{eq-eqb, ne-eqb}
 use Rattle.definitions.specs.Segment.{SegmentRecord, aliveWords, recordFrom}
 use Rattle.definitions.specs.Answer.{total}
 use Rattle.segment.specs.declared.Record.{Record}
 use Rattle.segment.specs.Records.{structOf, recordIn, recordsOf}
-
--- ---- parts of a section
-
-pub part-rest : (b : ℕ) (xs : List ℕ) → take (length xs - b) (drop b xs) ≡ drop b xs
-part-rest b xs = take-all (length xs - b) (drop b xs) (rw (length-drop b xs) (omega arith))
-
-pub part-is : (n a e : ℕ) (xs : List ℕ) → e ≡ a + n → take (e - a) (drop a xs) ≡ take n (drop a xs)
-part-is n a e xs p = ap (λ (k : ℕ). take k (drop a xs)) (let z : e - a ≡ n = omega arith in z)
-
-pub part-long : (n a : ℕ) (xs : List ℕ) → a + n ≤ length xs → length (take (a + n - a) (drop a xs)) ≡ n
-part-long n a xs h = ap (λ (k : ℕ). length (take k (drop a xs))) (let z : a + n - a ≡ n = omega arith in z) ∙ length-take-le n (drop a xs) (rw (length-drop a xs) (omega arith))
-
-pub rest-is : (n a e : ℕ) (xs : List ℕ) → e ≡ a + n → drop e xs ≡ drop n (drop a xs)
-rest-is n a e xs p = ap (λ (k : ℕ). drop k xs) p ∙ sym (drop-drop n a xs)
+use native.Mathlib.Omega.{arith}
 
 -- ---- records
 
@@ -53,3 +39,6 @@ words-some r e = rw (eq-eqb (r .flag) 1 e)
 pub words-none : (r : SegmentRecord) → (r .flag ≡ 1 → ⊥) → aliveWords r ≡ 0
 unfolding aliveWords
 words-none r n = rw (ne-eqb (r .flag) 1 n)
+
+pub words-enough : (r : SegmentRecord) → r .flag ≡ 1 → r .rows ≤ 64 * aliveWords r
+words-enough r e = let k = words-some r e in omega arith

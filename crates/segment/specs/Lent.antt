@@ -2,13 +2,16 @@
 use Prim.Native.Nat.{ℕ}
 use mathlib.Core.List.{List, map}
 use Rattle.definitions.specs.Segment.{Address, Space, Input, addressFrom}
+use Rattle.definitions.specs.Checks.{Passed}
+use Rattle.definitions.specs.Answer.{plainChecks}
 use Rattle.segment.specs.Records.{recordsOf, sectionsIn}
-
-abbrev pub address : ℕ → ℕ → Address
-address segment row = record { segment = segment; row = row }
 
 abbrev pub addressesOf : List (List ℕ) → List Address
 addressesOf l = map addressFrom l
+
+-- the lent segments have passed 1 to 7, as the time order asks them and a join too
+pub record Checked (records : List (List ℕ)) (ids offsets values lengths bytes alive : List ℕ) : Type 0 where
+  pub passed : Passed (plainChecks (recordsOf records) (sectionsIn ids offsets values lengths bytes alive))
 
 -- so many working bytes and no outputs: what the checks up to 9 read of the space
 abbrev pub workingOnly : ℕ → Space

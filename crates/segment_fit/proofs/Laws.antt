@@ -2,17 +2,17 @@
 use mathlib.Core.Path.{_≡_, refl, sym, ap, _∙_}
 use mathlib.Core.Bool.{Bool, true, false, _&&_, _||_, and-true, and-false}
 use mathlib.Core.List.{List, [], _∷_}
-use Prim.Native.Nat.{ℕ, zero, suc, _+_, _-_, _*_, _≤_, _<_, zero-le, suc-le-suc}
+use Prim.Native.Nat.{ℕ, zero, suc, _+_, _-_, _*_, _≤_, _<_}
 use native.Mathlib.Numerals.{add-one}
 use native.Mathlib.Omega.{arith}
 use lib.Dec.{eqb, ltb, leb}
 use lib.ListN.{length, drop, getD, drop-of-length-le}
 use lib.Seq.{drop-cons}
-use borrow.Author.Tests.{eq-eqb, ne-eqb, lt-ltb, le-ltb, ltb-true, ltb-false, le-leb, lt-leb, leb-true}
+use borrow.Author.Tests.{eq-eqb, ne-eqb, lt-ltb, ltb-true, ltb-false, le-leb, lt-leb, leb-true}
 use Rattle.definitions.specs.Lists.{all, any, last, upFrom, allBelow}
 use Rattle.definitions.specs.Row.{bitAt}
-use Rattle.segment.proofs.Tests.{both-true}
-pub use Rattle.term_reader.proofs.Laws.{sum-step}
+use Rattle.lists.proofs.Tests.{both-true}
+use Rattle.lists.proofs.Lists.{up-step, up-end}
 use Rattle.segment_fit.specs.Fits.{risesFrom, rises, lastOf, pastRows, fitsOffsets}
 
 -- ---- rises
@@ -44,15 +44,6 @@ rises-end step m xs i h = rw (drop-of-length-le xs h)
 
 -- ---- the last
 
-pub last-at : (xs : List ℕ) → 0 < length xs → lastOf xs ≡ getD xs (length xs - 1) 0
-unfolding lastOf
-last-at [] h = absurd (omega arith)
-last-at (x ∷ []) h = refl
-last-at (x ∷ y ∷ xs) h =
-    last-at (y ∷ xs) (suc-le-suc zero-le)
-    ∙ ap (λ (n : ℕ). getD (y ∷ xs) n 0) (let e : length (y ∷ xs) - 1 ≡ length xs = omega arith in e)
-    ∙ ap (λ (n : ℕ). getD (x ∷ y ∷ xs) n 0) (let e : suc (length xs) ≡ length (x ∷ y ∷ xs) - 1 = omega arith in e)
-
 -- of numbers that rise, the last is the greatest
 rising-below : (rows m : ℕ) (ns : List ℕ) → risesFrom 1 m ns ≡ true → ltb (last (m ∷ ns)) rows ≡ ltb m rows && all (λ n. ltb n rows) ns
 unfolding risesFrom
@@ -74,23 +65,6 @@ pub below-none : (rows : ℕ) (xs : List ℕ) → length xs ≡ 0 → true ≡ a
 unfolding allBelow
 below-none rows [] h = refl
 below-none rows (x ∷ xs) h = absurd (omega arith)
-
--- ---- all below a limit
-
-module _ (limit : ℕ) (xs : List ℕ) (i : ℕ) (h : i < length xs) where
-  below-step : allBelow limit (drop i xs) ≡ ltb (getD xs i 0) limit && allBelow limit (drop (i + 1) xs)
-  unfolding allBelow
-  below-step = rw (add-one i, drop-cons xs i 0 h)
-
-  pub below-high : limit ≤ getD xs i 0 → false ≡ allBelow limit (drop i xs)
-  below-high k = rw (below-step, le-ltb (getD xs i 0) limit k)
-
-  pub below-next : getD xs i 0 < limit → allBelow limit (drop (i + 1) xs) ≡ allBelow limit (drop i xs)
-  below-next k = rw (below-step, lt-ltb (getD xs i 0) limit k)
-
-pub below-end : (limit : ℕ) (xs : List ℕ) (i : ℕ) → length xs ≤ i → true ≡ allBelow limit (drop i xs)
-unfolding allBelow
-below-end limit xs i h = rw (drop-of-length-le xs h)
 
 -- ---- offsets
 
@@ -121,16 +95,13 @@ module _ (values : ℕ) (xs : List ℕ) (n : length xs ≡ 0 → ⊥) where
 unfoldable pub pastFrom : ℕ → List ℕ → ℕ → Bool
 pastFrom rows alive row = any (λ r. leb rows r && bitAt alive r) (upFrom row (64 * length alive - row))
 
-up-step : (row n : ℕ) → row < n → upFrom row (n - row) ≡ row ∷ upFrom (suc row) (n - (row + 1))
-up-step row n h = rw (let e : n - row ≡ suc (n - (row + 1)) = omega arith in e)
-
 past-step : (rows : ℕ) (alive : List ℕ) (row : ℕ) → row < 64 * length alive → pastFrom rows alive row ≡ (leb rows row && bitAt alive row) || pastFrom rows alive (row + 1)
 unfolding pastFrom
-past-step rows alive row h = rw (up-step row (64 * length alive) h, add-one row)
+past-step rows alive row h = rw (up-step row (64 * length alive) h)
 
 past-over : (rows : ℕ) (alive : List ℕ) (row : ℕ) → 64 * length alive ≤ row → pastFrom rows alive row ≡ false
 unfolding pastFrom
-past-over rows alive row h = rw (let e : 64 * length alive - row ≡ 0 = omega arith in e)
+past-over rows alive row h = rw (up-end row (64 * length alive) h)
 
 past-skip : (rows : ℕ) (alive : List ℕ) (k : ℕ) → k ≤ rows → pastFrom rows alive k ≡ pastFrom rows alive 0
 past-skip rows alive zero h = refl

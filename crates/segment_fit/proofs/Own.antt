@@ -5,8 +5,8 @@ use mathlib.Core.List.{List, [], _∷_}
 use Prim.Native.Nat.{ℕ, suc, _+_, _≤_}
 use native.Mathlib.Nat.{add-zero}
 use native.Mathlib.Numerals.{add-one}
-use lib.Dec.{eqb, ltb, leb, eqb·suc-zero, leb·suc-suc}
-use lib.ListN.{length, drop, take, getD}
+use lib.Dec.{eqb, ltb, leb, eqb·suc-zero}
+use lib.ListN.{length, take, getD}
 use lib.Seq.{length-take-le}
 use borrow.Author.Tests.{eqb-true}
 use Rattle.definitions.specs.Lists.{all, isEmpty, last, ascending, ascendingFrom, notFalling, notFallingFrom, termsAscending, allBelow}
@@ -14,21 +14,19 @@ use Rattle.definitions.specs.Segment.{SegmentRecord, Sections, byKind, cut, ali
 use Rattle.definitions.specs.Row.{hasAliveSet, noType}
 use Rattle.definitions.specs.Types.{isKnownType, hasTerms, BoolType}
 use Rattle.definitions.specs.Answer.{codesKnown, noColumnIsBare, idsFit, offsetsFit, emptyFits, fullFits, optionalFits, oldFits, newFits, listsFit, valuesFit, bitPastRows}
-use Rattle.segment.proofs.Tests.{empty-length}
+use Rattle.lists.proofs.Numbers.{leb-suc}
+use Rattle.lists.proofs.Lists.{empty-length, all-ext}
+use Rattle.lists.proofs.Cuts.{cut-length}
 use Rattle.term_reader.specs.Read.{termsRise}
 use Rattle.segment_fit.specs.Fits.{risesFrom, rises, lastOf, bareCounts, fitsCodes, fitsIds, fitsOffsets, fitsEmpty, fitsFull, fitsOptional, fitsOld, fitsNew, fitsLists, fitsWords, fitsTerms, fitsValues, pastRows}
 
 -- ---- lists
 
-pub length-cut : (ns bytes : List ℕ) → length (cut ns bytes) ≡ length ns
-length-cut [] bytes = refl
-length-cut (n ∷ ns) bytes = ap suc (length-cut ns (drop n bytes))
-
 empty-take : (n : ℕ) (xs : List ℕ) → n ≤ length xs → isEmpty (take n xs) ≡ eqb n 0
 empty-take n xs h = empty-length (take n xs) ∙ ap (λ (k : ℕ). eqb k 0) (length-take-le n xs h)
 
 empty-cut : (n : ℕ) (xs bytes : List ℕ) → n ≤ length xs → isEmpty (cut (take n xs) bytes) ≡ eqb n 0
-empty-cut n xs bytes h = empty-length (cut (take n xs) bytes) ∙ ap (λ (k : ℕ). eqb k 0) (length-cut (take n xs) bytes ∙ length-take-le n xs h)
+empty-cut n xs bytes h = empty-length (cut (take n xs) bytes) ∙ ap (λ (k : ℕ). eqb k 0) (cut-length (take n xs) bytes ∙ length-take-le n xs h)
 
 rises-from : (m : ℕ) (ns : List ℕ) → risesFrom 1 m ns ≡ ascendingFrom m ns
 unfolding risesFrom
@@ -129,10 +127,6 @@ lists-first r s h =
 
 -- ---- 5
 
-all-two : (xs : List ℕ) → all (λ w. leb w 1) xs ≡ all (λ w. ltb w 2) xs
-all-two [] = refl
-all-two (x ∷ xs) = ap₂ (λ (a b : Bool). a && b) (sym (leb·suc-suc x 1)) (all-two xs)
-
 terms-of-bool : (t : ℕ) → eqb t BoolType ≡ true → hasTerms t ≡ false
 unfolding hasTerms
 terms-of-bool t e = rw (eqb-true t 5 e)
@@ -142,7 +136,7 @@ unfolding fitsWords allBelow
 words-is t n vs = go (eqb t BoolType) refl
   where
     go : (b : Bool) → eqb t BoolType ≡ b → (not b || all (λ w. leb w 1) vs) && (not (hasTerms t) || all (λ w. ltb w n) vs) ≡ cond b (all (λ w. ltb w 2) vs) (cond (hasTerms t) (all (λ w. ltb w n) vs) true)
-    go true e = rw (terms-of-bool t e, and-true (all (λ w. leb w 1) vs)) (all-two vs)
+    go true e = rw (terms-of-bool t e, and-true (all (λ w. leb w 1) vs)) (all-ext (λ w. leb w 1) (λ w. ltb w 2) vs (λ w. leb-suc w 1))
     go false e = pick (hasTerms t)
       where
         pick : (h : Bool) → not h || all (λ w. ltb w n) vs ≡ cond h (all (λ w. ltb w n) vs) true
@@ -157,16 +151,13 @@ terms-is t k (n ∷ ns) bs = rw (eqb·suc-zero (length ns)) (swap (termsAscendin
     swap : (a b c : Bool) → a && (b && c) ≡ b && (c && a)
     swap a b c = sym (and-assoc a b c) ∙ rotate3 a b c
 
-assoc22 : (a b c d : Bool) → a && b && c && d ≡ (a && b) && (c && d)
-assoc22 a b c d = and-assoc (a && b) c d
-
 pub values-first : (r : SegmentRecord) (s : Sections) → valuesFit (firstSegment r s) ≡ fitsValues r (take (r .values) (s .values)) (take (r .terms) (s .termLengths)) (s .termBytes)
 unfolding firstSegment fitsValues valuesFit
 values-first r s =
     let ls = take (r .terms) (s .termLengths) in
     let vs = take (r .values) (s .values) in
-    rw (length-cut ls (s .termBytes))
-    (assoc22 (not (eqb (r .type) BoolType) || all (λ w. leb w 1) vs) (not (hasTerms (r .type)) || all (λ w. ltb w (length ls)) vs) (termsAscending (cut ls (s .termBytes))) (isEmpty (cut ls (s .termBytes)) || (hasTerms (r .type) && not (eqb (r .kind) 0)))
+    rw (cut-length ls (s .termBytes))
+    (and-assoc ((not (eqb (r .type) BoolType) || all (λ w. leb w 1) vs) && (not (hasTerms (r .type)) || all (λ w. ltb w (length ls)) vs)) (termsAscending (cut ls (s .termBytes))) (isEmpty (cut ls (s .termBytes)) || (hasTerms (r .type) && not (eqb (r .kind) 0)))
     ∙ ap₂ (λ (a b : Bool). a && b) (words-is (r .type) (length ls) vs) (terms-is (r .type) (r .kind) ls (s .termBytes)))
 
 -- ---- 6

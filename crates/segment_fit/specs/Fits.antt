@@ -5,7 +5,7 @@ use mathlib.Core.List.{List, [], _∷_}
 use mathlib.Core.Bool.{Bool, true, _&&_, _||_, cond, not}
 use lib.ListN.{length, getD}
 use lib.Dec.{eqb, ltb, leb}
-use Rattle.definitions.specs.Lists.{all, any, allBelow, last, upTo}
+use Rattle.definitions.specs.Lists.{any, allBelow, last, upTo}
 use Rattle.definitions.specs.Segment.{SegmentRecord, byKind}
 use Rattle.definitions.specs.Row.{bitAt, noType}
 use Rattle.definitions.specs.Types.{isKnownType, hasTerms, BoolType}

@@ -5,8 +5,7 @@ ghost use mathlib.Core.Bool.{_&&_};
 ghost use Prim.Native.Nat.{_<_, _≤_};
 ghost use lib.ListN.{length};
 ghost use lib.Dec.{eqb};
-ghost use Rattle.definitions.specs.Lists.{sum, allBelow};
-ghost use Rattle.definitions.specs.Types.{hasTerms};
+ghost use Rattle.definitions.specs.Lists.{sum};
 ghost use Rattle.segment.specs.Records.{recordIn};
 ghost use Rattle.segment_fit.specs.Fits.{rises, lastOf, fitsCodes, bareCounts, fitsIds, fitsOffsets, fitsEmpty, fitsFull, fitsOptional, fitsOld, fitsNew, fitsLists, fitsWords, fitsTerms, fitsValues, pastRows, fitsAlive};
 
@@ -40,20 +39,6 @@ fn last_of(xs: &[u32]) -> usize
 {
     let n = xs.len() - 1;
     segment::wide(xs[n])
-}
-
-// Whether each word is below the limit.
-fn all_below(xs: &[u64], limit: u64) -> bool
-    ensures { λ r. ⌜ r ≡ allBelow limit (now (xs .entry)) ⌝ }
-{
-    let mut i: usize = 0;
-    while i < xs.len() {
-        if limit <= xs[i] {
-            return false;
-        }
-        i += 1;
-    }
-    true
 }
 
 // ---- 3
@@ -216,10 +201,10 @@ fn words_fit(t: u32, terms: usize, values: &[u64]) -> bool
     ensures { λ r. ⌜ r ≡ fitsWords t terms (now (values .entry)) ⌝ }
 {
     if t == 5 {
-        return all_below(values, 2);
+        return runs::all_below(values, 2);
     }
     if column_type::has_terms(t) {
-        return all_below(values, terms as u64);
+        return runs::all_below(values, terms as u64);
     }
     true
 }
@@ -262,7 +247,7 @@ fn past_rows(rows: u32, alive: &[u64]) -> bool
     let end = alive.len() * 64;
     let mut row = segment::wide(rows);
     while row < end {
-        if column_index::is_alive(alive, row) {
+        if alive_set::is_alive(alive, row) {
             return true;
         }
         row += 1;

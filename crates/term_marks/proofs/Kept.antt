@@ -3,32 +3,35 @@ use mathlib.Core.Path.{_≡_, refl, sym, ap, _∙_, subst}
 use mathlib.Core.Logic.{_⊎_, inl, inr}
 use mathlib.Core.Bool.{Bool, true, false, cond, not, _&&_, _||_}
 use mathlib.Core.List.{List, [], _∷_, _++_}
-use Prim.Native.Nat.{ℕ, zero, suc, _+_, _*_, _/_, _≤_, _<_}
-use native.Mathlib.Nat.{le-of-suc-le-suc, zero-add}
+use Prim.Native.Nat.{ℕ, zero, suc, _+_, _*_, _≤_, _<_}
+use native.Mathlib.Nat.{zero-add}
 use native.Mathlib.Omega.{arith}
 use lib.Dec.{T, eqb, ltb, leb, ltb→lt}
 use lib.Ieee.Fits.{and-l, and-r}
-use lib.ListN.{length, getD, take, drop, length-append, length-drop, length-map, List·getD-append}
-use lib.Seq.{getD-append-add, length-take-le}
-use borrow.Author.Tests.{eq-eqb, ne-eqb}
+use lib.ListN.{length, getD, take, drop, length-append, List·getD-append}
+use lib.Seq.{getD-append-add}
+use borrow.Author.Tests.{ne-eqb}
 use Rattle.definitions.specs.Lists.{sum, all, isEmpty, termsAscending}
-use Rattle.definitions.specs.Segment.{Segment, SegmentRecord, Sections, aliveWords, firstSegment, afterFirst, segmentsFrom, recordFrom}
+use Rattle.definitions.specs.Segment.{Segment, SegmentRecord, Sections, aliveWords, firstSegment, segmentsFrom}
 use Rattle.definitions.specs.Row.{rowValues, hasAliveSet, isAlive, aliveRows}
 use Rattle.definitions.specs.Types.{hasTerms, BoolType}
 use Rattle.definitions.specs.Join.{absent, isUsed}
 use Rattle.definitions.specs.Answer.{total, listsFit, valuesFit}
-use Rattle.segment.specs.Records.{recordsOf, sectionsIn}
-use Rattle.segment.proofs.At.{sectionsAt}
+use Rattle.segment.specs.Records.{recordsOf, sectionsIn, startAt, recordAt}
+use Rattle.segment.proofs.At.{sectionsAt, start-mono, start-total, segment-is, segments-many}
 use Rattle.runs.specs.Put.{Below}
 use Rattle.column_index.proofs.Walk.{fits-sound}
-use Rattle.term_rows.specs.Rows.{rankAt}
-use Rattle.term_rows.specs.Runs.{joinTo, countAt, startAt, posAt}
-use Rattle.term_rows.proofs.Rows.{le-lt, cut-length}
-use Rattle.term_rows.proofs.Begin.{start-mono}
-use Rattle.term_rows.proofs.Starts.{start-total, segment-is}
+use Rattle.term_cursors.specs.Cursors.{unmarkedAt}
+use Rattle.term_cursors.specs.Runs.{joinTo, countAt, posAt}
 use Rattle.term_marks.specs.Marks.{bit, isKept, marksIn, columnsOf, marksOf, Marking, Columns}
-use Rattle.term_marks.proofs.Laws.{up-at, marks-length}
+use Rattle.term_marks.proofs.Laws.{marks-length}
 use Rattle.term_marks.proofs.Walk.{part, join-size}
+use Rattle.lists.proofs.Numbers.{le-lt}
+use Rattle.lists.proofs.Cuts.{cut-length}
+use Rattle.definitions.proofs.Lists.{up-at}
+use Rattle.lists.proofs.Parts.{part-length}
+use Rattle.lists.proofs.Lists.{all-at}
+use Rattle.segment.proofs.Walk.{words-enough}
 
 -- ---- an element of lists one after another
 
@@ -51,9 +54,9 @@ join-at f (suc k) s i h l = go (le-lt s k) (λ (m : s < k). join-at f k s i m l)
 
 -- ---- a mark
 
-rank-bit : (marks : List ℕ) (at : ℕ) (b : Bool) → getD marks at 0 ≡ bit b → eqb (rankAt marks false at) 0 ≡ b
-unfolding rankAt
-rank-bit marks at b e = ap (λ (n : ℕ). eqb (cond (eqb n 0) 1 0) 0) e ∙ go b
+unmarked-bit : (marks : List ℕ) (at : ℕ) (b : Bool) → getD marks at 0 ≡ bit b → eqb (unmarkedAt marks false at) 0 ≡ b
+unfolding unmarkedAt
+unmarked-bit marks at b e = ap (λ (n : ℕ). eqb (cond (eqb n 0) 1 0) 0) e ∙ go b
   where
     go : (b : Bool) → eqb (cond (eqb (bit b) 0) 1 0) 0 ≡ b
     go true = refl
@@ -79,14 +82,14 @@ module _ (records : List (List ℕ)) (ids offsets values lengths bytes alive : L
         ∙ same
         ∙ ap (λ (z : Segment). cond (hasAliveSet z) (isUsed z i) true) (sym (segment-is records (sectionsIn ids offsets values lengths bytes alive) s h))
       where
-        same : isKept (firstSegment (recordFrom (getD records s [])) (sectionsAt s (recordsOf records) (sectionsIn ids offsets values [] [] alive))) i
-            ≡ cond (hasAliveSet (firstSegment (recordFrom (getD records s [])) (sectionsAt s (recordsOf records) (sectionsIn ids offsets values lengths bytes alive))))
-            (isUsed (firstSegment (recordFrom (getD records s [])) (sectionsAt s (recordsOf records) (sectionsIn ids offsets values lengths bytes alive))) i) true
-        same = kept-first (recordFrom (getD records s [])) (recordsOf records) s i ids offsets values lengths bytes alive
+        same : isKept (firstSegment (recordAt records s) (sectionsAt s (recordsOf records) (sectionsIn ids offsets values [] [] alive))) i
+            ≡ cond (hasAliveSet (firstSegment (recordAt records s) (sectionsAt s (recordsOf records) (sectionsIn ids offsets values lengths bytes alive))))
+            (isUsed (firstSegment (recordAt records s) (sectionsAt s (recordsOf records) (sectionsIn ids offsets values lengths bytes alive))) i) true
+        same = kept-first (recordAt records s) (recordsOf records) s i ids offsets values lengths bytes alive
 
     -- the mark of a held segment's term tells whether the segment keeps it
     pub mark-of : (held : List ℕ) (i : ℕ) → (getD held s 0 ≡ 0 → ⊥) → i < countAt records s
-        → eqb (rankAt (marksOf records held ids offsets values alive) false (posAt records s + i)) 0 ≡ cond (hasAliveSet (getD segments s absent)) (isUsed (getD segments s absent) i) true
+        → eqb (unmarkedAt (marksOf records held ids offsets values alive) false (posAt records s + i)) 0 ≡ cond (hasAliveSet (getD segments s absent)) (isUsed (getD segments s absent) i) true
     unfolding marksOf marksIn
     mark-of held i d l =
         let f : ℕ → List ℕ = part records held ids offsets values alive in
@@ -94,17 +97,12 @@ module _ (records : List (List ℕ)) (ids offsets values lengths bytes alive : L
         let m : getD (joinTo f (length records)) (posAt records s + i) 0 ≡ getD (f s) i 0 =
         ap (λ (z : ℕ). getD (joinTo f (length records)) (z + i) 0) (sym (join-size records held ids offsets values alive s)) ∙ join-at f (length records) s i h (omega arith) .0 in
         let g : getD (f s) i 0 ≡ bit (isKept (getD bare s absent) i) =
-        up-at (λ k. cond (eqb (getD held s 0) 0) 0 (bit (isKept (getD bare s absent) k))) 0 (countAt records s) i l
+        up-at (λ k. cond (eqb (getD held s 0) 0) 0 (bit (isKept (getD bare s absent) k))) 0 0 (countAt records s) i l
         ∙ ap (λ (z : ℕ). cond (eqb (getD held s 0) 0) 0 (bit (isKept (getD bare s absent) z))) (zero-add i)
         ∙ ap (λ (b : Bool). cond b 0 (bit (isKept (getD bare s absent) i))) (ne-eqb (getD held s 0) 0 d) in
-        rank-bit (joinTo f (length records)) (posAt records s + i) (isKept (getD bare s absent) i) (m ∙ g) ∙ kept-same i
+        unmarked-bit (joinTo f (length records)) (posAt records s + i) (isKept (getD bare s absent) i) (m ∙ g) ∙ kept-same i
 
 -- ---- what the checks give the marks pass
-
-pub all-at : {A : Type 0} (p : A → Bool) (l : List A) (k : ℕ) (d : A) → T (all p l) → k < length l → T (p (getD l k d))
-all-at p [] k d h n = absurd (omega arith)
-all-at p (x ∷ xs) zero d h n = and-l (p x) (all p xs) h
-all-at p (x ∷ xs) (suc k) d h n = all-at p xs k d (and-r (p x) (all p xs) h) (le-of-suc-le-suc n)
 
 -- an ordinal is below the number of terms, where there are terms
 ordinals-below : (s : Segment) (n : ℕ) → T (valuesFit s) → 0 < n → length (s .terms) ≡ n → Below n (s .values)
@@ -153,14 +151,8 @@ marking-first q rs s ids offsets values lengths bytes alive lists ords size room
     n : ℕ
     n = total aliveWords (take s rs)
 
-    many : aliveWords q ≡ (q .rows + 63) / 64
-    many = ap (λ (b : Bool). cond b ((q .rows + 63) / 64) 0) (eq-eqb (q .flag) 1 flag)
-
     words : q .rows ≤ 64 * length (take (aliveWords q) (drop n alive))
-    words =
-        let l : length (take (aliveWords q) (drop n alive)) ≡ aliveWords q = length-take-le (aliveWords q) (drop n alive) (subst (λ (m : ℕ). aliveWords q ≤ m) (sym (length-drop n alive)) (omega arith)) in
-        let k : length (take (aliveWords q) (drop n alive)) ≡ (q .rows + 63) / 64 = l ∙ many in
-        omega arith
+    words = rw (part-length (aliveWords q) n alive room) (words-enough q flag)
 
 flag-first : (q : SegmentRecord) (x : Sections) → firstSegment q x .flag ≡ 1 → q .flag ≡ 1
 unfolding firstSegment
@@ -172,11 +164,7 @@ unfolding firstSegment sectionsAt
 terms-first q rs s x h =
     let n : ℕ = total (λ (r : SegmentRecord). r .terms) (take s rs) in
     cut-length (take (q .terms) (drop n (x .termLengths))) (drop (sum (take n (x .termLengths))) (x .termBytes))
-    ∙ length-take-le (q .terms) (drop n (x .termLengths)) (subst (λ (m : ℕ). q .terms ≤ m) (sym (length-drop n (x .termLengths))) (omega arith))
-
-pub segments-length : (rs : List SegmentRecord) (x : Sections) → length (segmentsFrom rs x) ≡ length rs
-segments-length [] x = refl
-segments-length (r ∷ rs) x = ap suc (segments-length rs (afterFirst r x))
+    ∙ part-length (q .terms) n (x .termLengths) h
 
 -- checks 2, 4 and 5
 pub columns-of : (records : List (List ℕ)) (held ids offsets values lengths bytes alive : List ℕ) → length records ≤ length held
@@ -194,22 +182,22 @@ columns-of records held ids offsets values lengths bytes alive f i o v w t lists
     x : Sections
     x = sectionsIn ids offsets values lengths bytes alive
 
-    bare-is : (s : ℕ) → s < length records → getD (columnsOf records ids offsets values alive) s absent ≡ firstSegment (recordFrom (getD records s [])) (sectionsAt s (recordsOf records) (sectionsIn ids offsets values [] [] alive))
+    bare-is : (s : ℕ) → s < length records → getD (columnsOf records ids offsets values alive) s absent ≡ firstSegment (recordAt records s) (sectionsAt s (recordsOf records) (sectionsIn ids offsets values [] [] alive))
     bare-is s h = segment-is records (sectionsIn ids offsets values [] [] alive) s h
 
-    flag-is : (s : ℕ) → s < length records → getD (columnsOf records ids offsets values alive) s absent .flag ≡ 1 → recordFrom (getD records s []) .flag ≡ 1
-    flag-is s h e = flag-first (recordFrom (getD records s [])) (sectionsAt s (recordsOf records) (sectionsIn ids offsets values [] [] alive)) (sym (ap (λ (z : Segment). z .flag) (bare-is s h)) ∙ e)
+    flag-is : (s : ℕ) → s < length records → getD (columnsOf records ids offsets values alive) s absent .flag ≡ 1 → recordAt records s .flag ≡ 1
+    flag-is s h e = flag-first (recordAt records s) (sectionsAt s (recordsOf records) (sectionsIn ids offsets values [] [] alive)) (sym (ap (λ (z : Segment). z .flag) (bare-is s h)) ∙ e)
 
     inside : (s : ℕ) → s < length records → s < length (segmentsFrom (recordsOf records) x)
-    inside s h = subst (λ (n : ℕ). s < n) (sym (segments-length (recordsOf records) x ∙ length-map records recordFrom)) h
+    inside s h = subst (λ (n : ℕ). s < n) (sym (segments-many records x)) h
 
-    at : (p : Segment → Bool) → T (all p (segmentsFrom (recordsOf records) x)) → (s : ℕ) → s < length records → T (p (firstSegment (recordFrom (getD records s [])) (sectionsAt s (recordsOf records) x)))
+    at : (p : Segment → Bool) → T (all p (segmentsFrom (recordsOf records) x)) → (s : ℕ) → s < length records → T (p (firstSegment (recordAt records s) (sectionsAt s (recordsOf records) x)))
     at p h s l = subst (λ (z : Segment). T (p z)) (segment-is records x s l) (all-at p (segmentsFrom (recordsOf records) x) s absent h (inside s l))
 
-    usable : (s : ℕ) → s < length records → recordFrom (getD records s []) .flag ≡ 1 → 0 < countAt records s
+    usable : (s : ℕ) → s < length records → recordAt records s .flag ≡ 1 → 0 < countAt records s
         → Marking (getD (columnsOf records ids offsets values alive) s absent .kind) (getD (columnsOf records ids offsets values alive) s absent .rows) (getD (columnsOf records ids offsets values alive) s absent .ids) (getD (columnsOf records ids offsets values alive) s absent .offsets) (getD (columnsOf records ids offsets values alive) s absent .values) (getD (columnsOf records ids offsets values alive) s absent .alive) (countAt records s)
     usable s h e pos =
-        marking-first (recordFrom (getD records s [])) (recordsOf records) s ids offsets values lengths bytes alive (at listsFit lists s h) (at valuesFit ords s h)
-        (terms-first (recordFrom (getD records s [])) (recordsOf records) s x (subst (λ (n : ℕ). n + countAt records s ≤ length lengths) (start-total (λ r. r .terms) records s (omega arith)) (omega (arith, t, start-mono (λ r. r .terms) records (suc s) (length records) h))))
-        (subst (λ (n : ℕ). n + aliveWords (recordFrom (getD records s [])) ≤ length alive) (start-total aliveWords records s (omega arith)) (omega (arith, w, start-mono aliveWords records (suc s) (length records) h)))
+        marking-first (recordAt records s) (recordsOf records) s ids offsets values lengths bytes alive (at listsFit lists s h) (at valuesFit ords s h)
+        (terms-first (recordAt records s) (recordsOf records) s x (subst (λ (n : ℕ). n + countAt records s ≤ length lengths) (start-total (λ r. r .terms) records s (omega arith)) (omega (arith, t, start-mono (λ r. r .terms) records (suc s) (length records) h))))
+        (subst (λ (n : ℕ). n + aliveWords (recordAt records s) ≤ length alive) (start-total aliveWords records s (omega arith)) (omega (arith, w, start-mono aliveWords records (suc s) (length records) h)))
         e pos (getD (columnsOf records ids offsets values alive) s absent) (bare-is s h)

@@ -2,24 +2,22 @@
 use mathlib.Core.Path.{_≡_, refl, sym, ap, ap₂, _∙_, subst}
 use mathlib.Core.Bool.{Bool, true, false, cond, _||_}
 use mathlib.Core.List.{List, [], _∷_, _++_, map}
-use Prim.Native.Nat.{ℕ, zero, suc, _+_, _-_, _≤_, _<_, min}
-use native.Mathlib.Nat.{add-zero, le-of-suc-le-suc}
+use Prim.Native.Nat.{ℕ, zero, suc, _+_, _-_, _≤_, _<_}
 use native.Mathlib.Numerals.{add-one}
 use native.Mathlib.Omega.{arith}
 use lib.Dec.{eqb}
-use lib.ListN.{length-take, length-drop, length, getD, set, take, drop, replicate, length-set, length-map, getD-replicate, replicate-append-replicate, drop-of-length-le}
-use lib.Seq.{getD-take, getD-drop, slice, drop-cons, take-nil, take-length, take-suc-set, getD-set-same, getD-set-other, ext-getD}
+use lib.ListN.{length, getD, set, take, drop, replicate, length-set, getD-replicate, replicate-append-replicate, drop-of-length-le}
+use lib.Seq.{slice, drop-cons, take-length, take-suc-set, getD-set-same, getD-set-other, ext-getD}
 use borrow.Author.Tests.{eqb-true, eqb-false, eq-eqb, ne-eqb}
 use Rattle.definitions.specs.Lists.{upFrom, upTo, any, elem, filter}
 use Rattle.definitions.specs.Segment.{Segment}
 use Rattle.definitions.specs.Row.{rowValues, bitAt, hasAliveSet, isAlive, aliveRows}
 use Rattle.definitions.specs.Join.{isUsed}
-use Rattle.definitions.proofs.Summary.{any-append}
-use Rattle.runs.specs.Put.{Below}
-use Rattle.runs.proofs.Laws.{upFrom-length}
 use Rattle.column_index.specs.Lookup.{startOf, endOf}
 use Rattle.column_index.proofs.Laws.{row-slice}
 use Rattle.term_marks.specs.Marks.{isKept, bit, marksIn, setAll, usedBy, usedFrom, Marking}
+use Rattle.definitions.proofs.Lists.{any-append, up-at, up-length}
+use Rattle.lists.proofs.Parts.{drop-take}
 
 -- ---- every place
 
@@ -70,17 +68,6 @@ set-at (v ∷ vs) m k h = set-at vs (set m v 1) k (rw (length-set m v 1) h) ∙ 
 
 -- ---- a row's values, and those of the rows behind it
 
-pub part-slice : (a e : ℕ) (l : List ℕ) → a ≤ e → take (e - a) (drop a l) ≡ slice a e l
-part-slice zero e l h = ap (λ (n : ℕ). take n l) (let w : e - 0 ≡ e = omega arith in w)
-part-slice (suc a) zero l h = absurd (omega arith)
-part-slice (suc a) (suc e) [] h = take-nil (suc e - suc a)
-part-slice (suc a) (suc e) (x ∷ xs) h = ap (λ (n : ℕ). take n (drop a xs)) (let w : suc e - suc a ≡ e - a = omega arith in w) ∙ part-slice a e xs (le-of-suc-le-suc h)
-
-pub below-part : (n a m : ℕ) (vs : List ℕ) → Below n vs → Below n (take m (drop a vs))
-below-part n a m vs h k l =
-    let p : length (take m (drop a vs)) ≡ min m (length vs - a) = length-take m (drop a vs) ∙ ap (min m) (length-drop a vs) in
-    subst (λ (z : ℕ). z < n) (sym (getD-take m (drop a vs) k 0 (omega arith) ∙ getD-drop a vs k 0)) (h (a + k) (omega arith))
-
 module _ (kind : ℕ) (ids offsets values alive : List ℕ) (row w : ℕ) (m : List ℕ) (r : w ≡ row) where
   pub by-dead : false ≡ bitAt alive w → m ≡ setAll (usedBy kind ids offsets values alive row) m
   unfolding usedBy setAll
@@ -91,7 +78,7 @@ module _ (kind : ℕ) (ids offsets values alive : List ℕ) (row w : ℕ) (m : L
       → setAll (take (e - a) (drop a values)) m ≡ setAll (usedBy kind ids offsets values alive row) m
   unfolding usedBy
   by-alive a e t p q h =
-      ap (λ (l : List ℕ). setAll l m) (part-slice a e values h ∙ ap₂ (λ (x y : ℕ). slice x y values) p q)
+      ap (λ (l : List ℕ). setAll l m) (sym (drop-take a e values) ∙ ap₂ (λ (x y : ℕ). slice x y values) p q)
       ∙ ap (λ (b : Bool). setAll (cond b (slice (startOf kind ids offsets row) (endOf kind ids offsets row) values) []) m) (t ∙ ap (bitAt alive) r)
 
 module _ (kind : ℕ) (ids offsets values alive : List ℕ) where
@@ -138,14 +125,6 @@ used-elem s k row (suc n) h =
 
 -- ---- a segment's marks
 
-up-length : (f : ℕ → ℕ) (n : ℕ) → length (map f (upTo n)) ≡ n
-up-length f n = length-map (upTo n) f ∙ upFrom-length 0 n
-
-pub up-at : (f : ℕ → ℕ) (a n k : ℕ) → k < n → getD (map f (upFrom a n)) k 0 ≡ f (a + k)
-up-at f a zero k h = absurd (omega arith)
-up-at f a (suc n) zero h = ap f (sym (add-zero a))
-up-at f a (suc n) (suc k) h = up-at f (suc a) n k (le-of-suc-le-suc h) ∙ ap f (let w : suc a + k ≡ a + suc k = omega arith in w)
-
 up-same : (f : ℕ → ℕ) (x a n : ℕ) → ((k : ℕ) → f k ≡ x) → replicate n x ≡ map f (upFrom a n)
 up-same f x a zero h = refl
 up-same f x a (suc n) h = ap₂ (λ (y : ℕ) (l : List ℕ). y ∷ l) (sym (h a)) (up-same f x (suc a) n h)
@@ -171,11 +150,10 @@ module _ (held : ℕ) (s : Segment) (m : List ℕ) (z : m ≡ replicate (length 
       let l : k < length m = subst (λ (n : ℕ). k < n) (set-length us m) h in
       set-at us m k l
       ∙ ap (cond (elem k us) 1) (ap (λ (x : List ℕ). getD x k 0) z ∙ getD-replicate (length m) k 0 0 l)
-      ∙ bit-is (elem k us)
       ∙ ap bit (used-elem s k 0 (s .rows) has)
       ∙ sym (kept k)
       ∙ ap f (let w : k ≡ 0 + k = omega arith in w)
-      ∙ sym (up-at f 0 (length m) k l))
+      ∙ sym (up-at f 0 0 (length m) k l))
     where
       us : List ℕ
       us = usedFrom (s .kind) (s .ids) (s .offsets) (s .values) (s .alive) 0 (s .rows)
@@ -185,10 +163,6 @@ module _ (held : ℕ) (s : Segment) (m : List ℕ) (z : m ≡ replicate (length 
 
       has : hasAliveSet s ≡ true
       has = eq-eqb (s .flag) 1 e
-
-      bit-is : (b : Bool) → cond b 1 0 ≡ bit b
-      bit-is true = refl
-      bit-is false = refl
 
       kept : (k : ℕ) → f k ≡ bit (any (λ r. elem k (rowValues s r)) (filter (isAlive s) (upTo (s .rows))))
       kept k =

@@ -1,47 +1,33 @@
 -- The marks of all segments being written, segment after segment. Assumes nothing.
 use mathlib.Core.Path.{_≡_, refl, sym, ap, ap₂, _∙_, subst}
-use mathlib.Core.List.{List, [], _∷_, _++_, append-assoc, append-nil}
+use mathlib.Core.List.{List, [], _++_, append-assoc, append-nil}
 use Prim.Native.Nat.{ℕ, zero, suc, _+_, _-_, _≤_, _<_, zero-le}
-use native.Mathlib.Nat.{le-of-suc-le-suc}
 use native.Mathlib.Numerals.{add-one}
 use native.Mathlib.Omega.{arith}
 use lib.ListN.{length, getD, take, drop, replicate, length-append, length-replicate}
 use lib.Seq.{take-nil, drop-nil, take-at, drop-at}
 use Rattle.definitions.specs.Lists.{sum}
-use Rattle.definitions.specs.Segment.{Segment, SegmentRecord, aliveWords, cut, firstSegment, recordFrom}
+use Rattle.definitions.specs.Segment.{Segment, SegmentRecord, aliveWords, cut, firstSegment}
 use Rattle.definitions.specs.Answer.{total}
 use Rattle.definitions.specs.Join.{absent}
 use Rattle.segment.specs.declared.Record.{Record}
-use Rattle.segment.specs.Records.{structOf, recordIn, recordsOf, sectionsIn}
-use Rattle.segment.proofs.At.{sectionsAt}
-use Rattle.term_rows.specs.Runs.{joinTo, countAt, startAt, posAt}
-use Rattle.term_rows.proofs.Begin.{start-mono}
-use Rattle.term_rows.proofs.Starts.{start-total, segment-is}
+use Rattle.segment.specs.Records.{structOf, recordIn, recordsOf, sectionsIn, startAt, recordAt}
+use Rattle.segment.proofs.At.{sectionsAt, start-mono, start-total, segment-is}
+use Rattle.term_cursors.specs.Runs.{joinTo, countAt, posAt}
 use Rattle.term_marks.specs.Marks.{columnOf, marksIn, columnsOf, marksOf, Usable, Columns}
 use Rattle.term_marks.proofs.Laws.{marks-length}
-
--- ---- zeros
-
-take-zeros : (n m : ℕ) → n ≤ m → take n (replicate {A = ℕ} m 0) ≡ replicate n 0
-take-zeros zero m h = refl
-take-zeros (suc n) zero h = absurd (omega arith)
-take-zeros (suc n) (suc m) h = ap (λ (l : List ℕ). 0 ∷ l) (take-zeros n m (le-of-suc-le-suc h))
-
-drop-zeros : (n m : ℕ) → drop n (replicate {A = ℕ} m 0) ≡ replicate (m - n) 0
-drop-zeros zero m = ap (λ (k : ℕ). replicate k 0) (let w : m ≡ m - 0 = omega arith in w)
-drop-zeros (suc n) zero = ap (λ (k : ℕ). replicate k 0) (let w : 0 ≡ 0 - suc n = omega arith in w)
-drop-zeros (suc n) (suc m) = drop-zeros n m ∙ ap (λ (k : ℕ). replicate k 0) (let w : m - n ≡ suc m - suc n = omega arith in w)
+use Rattle.lists.proofs.Lists.{take-zeros, drop-zeros}
 
 -- ---- a segment's part of a section
 
-pub run-in : (f : SegmentRecord → ℕ) (records : List (List ℕ)) (s i n m : ℕ) → i ≡ startAt f records s → s < length records → n ≡ f (recordFrom (getD records s []))
+pub run-in : (f : SegmentRecord → ℕ) (records : List (List ℕ)) (s i n m : ℕ) → i ≡ startAt f records s → s < length records → n ≡ f (recordAt records s)
     → startAt f records (length records) ≤ m → i + n ≤ m
 run-in f records s i n m p h q k = omega (arith, start-mono f records (suc s) (length records) h)
 
-run-is : (f : SegmentRecord → ℕ) (records : List (List ℕ)) (s : ℕ) (l : List ℕ) (i i′ : ℕ) → s < length records → i ≡ startAt f records s → i′ ≡ i + f (recordFrom (getD records s []))
-    → take (i′ - i) (drop i l) ≡ take (f (recordFrom (getD records s []))) (drop (total f (take s (recordsOf records))) l)
+run-is : (f : SegmentRecord → ℕ) (records : List (List ℕ)) (s : ℕ) (l : List ℕ) (i i′ : ℕ) → s < length records → i ≡ startAt f records s → i′ ≡ i + f (recordAt records s)
+    → take (i′ - i) (drop i l) ≡ take (f (recordAt records s)) (drop (total f (take s (recordsOf records))) l)
 run-is f records s l i i′ h p q =
-    let n : i′ - i ≡ f (recordFrom (getD records s [])) = omega arith in
+    let n : i′ - i ≡ f (recordAt records s) = omega arith in
     ap₂ (λ (a b : ℕ). take a (drop b l)) n (p ∙ start-total f records s (omega arith))
 
 no-terms : (n k m : ℕ) → [] ≡ cut (take n (drop k [])) (drop m [])
@@ -101,10 +87,10 @@ module _ (records : List (List ℕ)) (held ids offsets values alive : List ℕ) 
     pub going : Going marks s i o v w t
     pub less : s < length records
     pub r-is : r ≡ structOf (getD records s [])
-    pub i-end : i′ ≡ i + recordFrom (getD records s []) .ids
-    pub o-end : o′ ≡ o + recordFrom (getD records s []) .offsets
-    pub v-end : v′ ≡ v + recordFrom (getD records s []) .values
-    pub w-end : w′ ≡ w + aliveWords (recordFrom (getD records s []))
+    pub i-end : i′ ≡ i + recordAt records s .ids
+    pub o-end : o′ ≡ o + recordAt records s .offsets
+    pub v-end : v′ ≡ v + recordAt records s .values
+    pub w-end : w′ ≡ w + aliveWords (recordAt records s)
     pub t-end : t′ ≡ t + countAt records s
 
 module _ {records : List (List ℕ)} {held ids offsets values alive marks : List ℕ} {s i o v w t : ℕ} {r : Record} {i′ o′ v′ w′ t′ : ℕ}
@@ -119,7 +105,7 @@ module _ {records : List (List ℕ)} {held ids offsets values alive marks : List
       ≡ getD (columnsOf records ids offsets values alive) s absent
   unfolding firstSegment sectionsAt
   column-is =
-      let q : SegmentRecord = recordFrom (getD records s []) in
+      let q : SegmentRecord = recordAt records s in
       let rs : List SegmentRecord = take s (recordsOf records) in
       ap (λ (z : Record). columnOf (recordIn z) (take (i′ - i) (drop i ids)) (take (o′ - o) (drop o offsets)) (take (v′ - v) (drop v values)) (take (w′ - w) (drop w alive))) (x .r-is)
       ∙ (λ j.
@@ -174,10 +160,10 @@ module _ {records : List (List ℕ)} {held ids offsets values alive marks : List
       let n : left - countAt records s ≡ posAt records (length records) - posAt records (suc s) = omega arith in
       record {
         most = omega (arith, x .less);
-        i-is = x .i-end ∙ ap (λ (z : ℕ). z + recordFrom (getD records s []) .ids) (x .going .i-is) ∙ ap (startAt (λ z. z .ids) records) (sym (add-one s));
-        o-is = x .o-end ∙ ap (λ (z : ℕ). z + recordFrom (getD records s []) .offsets) (x .going .o-is) ∙ ap (startAt (λ z. z .offsets) records) (sym (add-one s));
-        v-is = x .v-end ∙ ap (λ (z : ℕ). z + recordFrom (getD records s []) .values) (x .going .v-is) ∙ ap (startAt (λ z. z .values) records) (sym (add-one s));
-        w-is = x .w-end ∙ ap (λ (z : ℕ). z + aliveWords (recordFrom (getD records s []))) (x .going .w-is) ∙ ap (startAt aliveWords records) (sym (add-one s));
+        i-is = x .i-end ∙ ap (λ (z : ℕ). z + recordAt records s .ids) (x .going .i-is) ∙ ap (startAt (λ z. z .ids) records) (sym (add-one s));
+        o-is = x .o-end ∙ ap (λ (z : ℕ). z + recordAt records s .offsets) (x .going .o-is) ∙ ap (startAt (λ z. z .offsets) records) (sym (add-one s));
+        v-is = x .v-end ∙ ap (λ (z : ℕ). z + recordAt records s .values) (x .going .v-is) ∙ ap (startAt (λ z. z .values) records) (sym (add-one s));
+        w-is = x .w-end ∙ ap (λ (z : ℕ). z + aliveWords (recordAt records s)) (x .going .w-is) ∙ ap (startAt aliveWords records) (sym (add-one s));
         t-is = x .t-end ∙ ap (λ (z : ℕ). z + countAt records s) (x .going .t-is) ∙ ap (posAt records) (sym (add-one s));
         marks-is =
             ap₂ (λ (p q : List ℕ). p ++ (q ++ drop (t′ - t) (drop t marks))) a y

@@ -1,6 +1,6 @@
 -- The marks of the terms that the held segments keep: one byte for each term of all segments. Assumes nothing.
 use Prim.Native.Nat.{ℕ, zero, suc, _*_, _≤_, _<_}
-use mathlib.Core.Bool.{Bool, true, false, cond}
+use mathlib.Core.Bool.{Bool, true, cond}
 use mathlib.Core.List.{List, [], _∷_, _++_, map}
 use mathlib.Core.Path.{_≡_}
 use lib.Dec.{eqb}
@@ -10,10 +10,10 @@ use Rattle.definitions.specs.Lists.{upTo}
 use Rattle.definitions.specs.Segment.{Segment, SegmentRecord, aliveWords, segmentsFrom}
 use Rattle.definitions.specs.Row.{hasAliveSet, bitAt}
 use Rattle.definitions.specs.Join.{absent, isUsed}
-use Rattle.segment.specs.Records.{recordsOf, sectionsIn}
+use Rattle.segment.specs.Records.{recordsOf, sectionsIn, startAt}
 use Rattle.runs.specs.Put.{Below}
 use Rattle.column_index.specs.Lookup.{startOf, endOf, Sound}
-use Rattle.term_rows.specs.Runs.{joinTo, countAt, startAt}
+use Rattle.term_cursors.specs.Runs.{joinTo, countAt}
 
 -- ---- one segment
 
@@ -27,8 +27,7 @@ unfoldable pub isKept : Segment → ℕ → Bool
 isKept s k = cond (hasAliveSet s) (isUsed s k) true
 
 abbrev pub bit : Bool → ℕ
-bit true = 1
-bit false = 0
+bit b = cond b 1 0
 
 -- the marks of its n terms: 1 where it keeps the term, and 0 everywhere if it is not held
 unfoldable pub marksIn : ℕ → Segment → ℕ → List ℕ

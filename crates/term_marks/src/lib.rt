@@ -4,7 +4,7 @@ ghost use Prim.Native.Nat.{_<_};
 ghost use lib.ListN.{length, replicate};
 ghost use Rattle.runs.specs.Put.{Below};
 ghost use Rattle.segment.specs.Records.{recordIn};
-ghost use Rattle.term_rows.specs.Runs.{posAt};
+ghost use Rattle.term_cursors.specs.Runs.{posAt};
 ghost use Rattle.term_marks.specs.Marks.{columnOf, marksIn, marksOf, setAll, usedBy, usedFrom, Marking, Usable, Columns};
 use segment::Record;
 
@@ -36,7 +36,7 @@ fn mark_row(
     requires { ⌜ row < rows ⌝ }
     ensures { λ _. ⌜ now (marks .exit) ≡ setAll (usedBy kind (now (ids .entry)) (now (offsets .entry)) (now (values .entry)) (now (alive .entry)) row) (now (marks .entry)) ⌝ }
 {
-    if !column_index::is_alive(alive, segment::wide(row)) {
+    if !alive_set::is_alive(alive, segment::wide(row)) {
         return;
     }
     let at = column_index::value_range(kind, ids, offsets, row, ids.len());

@@ -4,7 +4,6 @@ use mathlib.Core.Logic.{_⊎_, inl, inr, _≢_}
 use mathlib.Core.Bool.{Bool, true, false, false≢true, true≢false}
 use mathlib.Core.List.{List, [], _∷_, _++_}
 use Prim.Native.Nat.{ℕ, zero, suc, _+_, _-_, _/_, _≤_, _<_, compare, Ordering, Ordering·lt, Ordering·eq, Ordering·gt}
-use native.Mathlib.Decide.{ℕ-discrete}
 use native.Mathlib.Nat.{le-of-suc-le-suc}
 use native.Mathlib.Numerals.{add-one}
 use native.Mathlib.Omega.{arith}
@@ -21,6 +20,7 @@ use Rattle.term_order.proofs.Laws.{told-lt, told-eq, told-gt}
 use Rattle.term_merger.specs.Order.{cell, keyOf, tieOf, orderAt, comesBefore, TermsInside}
 use Rattle.term_merger.specs.Heap.{one, count, Ordered, Sinking, FirstChild, Risen, Pushed, Out}
 use Rattle.term_merger.specs.declared.Heap.{Heap}
+use Rattle.lists.proofs.Numbers.{same?}
 
 -- ---- the order of segments: by k, then by t
 
@@ -69,28 +69,28 @@ of-below k t k′ t′ h = go (compareBytes k k′) (cmp-bytes k k′) (compareB
 
 -- a stands at or before b
 abbrev pub AtMost : List ℕ → List (List ℕ) → ℕ → ℕ → Type 0
-AtMost bytes rows a b = comesBefore bytes rows b a ≡ false
+AtMost bytes cursors a b = comesBefore bytes cursors b a ≡ false
 
-module _ (bytes : List ℕ) (rows : List (List ℕ)) where
-  pub at-most-le : (a b : ℕ) → AtMost bytes rows a b → LE (keyOf bytes rows a) (tieOf rows a) (keyOf bytes rows b) (tieOf rows b)
+module _ (bytes : List ℕ) (cursors : List (List ℕ)) where
+  pub at-most-le : (a b : ℕ) → AtMost bytes cursors a b → LE (keyOf bytes cursors a) (tieOf cursors a) (keyOf bytes cursors b) (tieOf cursors b)
   unfolding comesBefore orderAt
   at-most-le a b h = le-of _ _ _ _ h
 
-  le-at-most : (a b : ℕ) → LE (keyOf bytes rows a) (tieOf rows a) (keyOf bytes rows b) (tieOf rows b) → AtMost bytes rows a b
+  le-at-most : (a b : ℕ) → LE (keyOf bytes cursors a) (tieOf cursors a) (keyOf bytes cursors b) (tieOf cursors b) → AtMost bytes cursors a b
   unfolding comesBefore orderAt
   le-at-most a b h = of-le _ _ _ _ h
 
-  pub at-most-refl : (a : ℕ) → AtMost bytes rows a a
+  pub at-most-refl : (a : ℕ) → AtMost bytes cursors a a
   at-most-refl a = le-at-most a a (inr (refl, inr refl))
 
-  pub at-most-trans : (a b c : ℕ) → AtMost bytes rows a b → AtMost bytes rows b c → AtMost bytes rows a c
+  pub at-most-trans : (a b c : ℕ) → AtMost bytes cursors a b → AtMost bytes cursors b c → AtMost bytes cursors a c
   at-most-trans a b c h k = le-at-most a c (le-trans _ _ _ _ _ _ (at-most-le a b h) (at-most-le b c k))
 
-  before-le : (a b : ℕ) → comesBefore bytes rows a b ≡ true → LE (keyOf bytes rows a) (tieOf rows a) (keyOf bytes rows b) (tieOf rows b)
+  before-le : (a b : ℕ) → comesBefore bytes cursors a b ≡ true → LE (keyOf bytes cursors a) (tieOf cursors a) (keyOf bytes cursors b) (tieOf cursors b)
   unfolding comesBefore orderAt
   before-le a b h = of-below _ _ _ _ h
 
-  pub before-at-most : (a b : ℕ) → comesBefore bytes rows a b ≡ true → AtMost bytes rows a b
+  pub before-at-most : (a b : ℕ) → comesBefore bytes cursors a b ≡ true → AtMost bytes cursors a b
   before-at-most a b h = le-at-most a b (before-le a b h)
 
 -- ---- what a list holds
@@ -126,13 +126,6 @@ count-swap seg n i p h hi hp d x =
     omega arith
 
 -- ---- order kept while a number goes up or down. g j is the number at place j
-
-pub same? : (a b : ℕ) → (a ≡ b) ⊎ (a ≡ b → ⊥)
-same? a b = go (ℕ-discrete a b)
-  where
-    go : Dec (a ≡ b) → (a ≡ b) ⊎ (a ≡ b → ⊥)
-    go (yes e) = inl e
-    go (no n) = inr n
 
 move : (le : ℕ → ℕ → Type 0) {a a′ b b′ : ℕ} → a′ ≡ a → b′ ≡ b → le a b → le a′ b′
 move le {a} {a′} {b} {b′} p q h = subst (λ (x : ℕ). le x b′) (sym p) (subst (λ (y : ℕ). le a y) (sym q) h)
@@ -210,32 +203,32 @@ root-least le rf tr g n o (suc m) j h l = go (same? j 0) (λ (k : 0 < j). root-l
 
 -- ---- the same over the heap's array
 
-module _ (bytes : List ℕ) (rows : List (List ℕ)) where
+module _ (bytes : List ℕ) (cursors : List (List ℕ)) where
   abbrev pub Up : List ℕ → ℕ → ℕ → Type 0
-  Up seg i n = Rising (AtMost bytes rows) (λ j. getD seg j 0) i n
+  Up seg i n = Rising (AtMost bytes cursors) (λ j. getD seg j 0) i n
 
-  pub up-start : (seg : List ℕ) (n : ℕ) → Ordered bytes rows seg n → Up seg n (n + 1)
+  pub up-start : (seg : List ℕ) (n : ℕ) → Ordered bytes cursors seg n → Up seg n (n + 1)
   unfolding Ordered
-  up-start seg n o = rising-start (AtMost bytes rows) (λ j. getD seg j 0) n o
+  up-start seg n o = rising-start (AtMost bytes cursors) (λ j. getD seg j 0) n o
 
-  pub up-end : (seg : List ℕ) (i n : ℕ) → Up seg i n → (0 < i → AtMost bytes rows (getD seg ((i - 1) / 2) 0) (getD seg i 0)) → Ordered bytes rows seg n
+  pub up-end : (seg : List ℕ) (i n : ℕ) → Up seg i n → (0 < i → AtMost bytes cursors (getD seg ((i - 1) / 2) 0) (getD seg i 0)) → Ordered bytes cursors seg n
   unfolding Ordered
-  up-end seg i n r h = rising-end (AtMost bytes rows) (λ j. getD seg j 0) i n r h
+  up-end seg i n r h = rising-end (AtMost bytes cursors) (λ j. getD seg j 0) i n r h
 
-  pub up-swap : (seg : List ℕ) (i n : ℕ) → 0 < i → i < n → i < length seg → AtMost bytes rows (getD seg i 0) (getD seg ((i - 1) / 2) 0) → Up seg i n
+  pub up-swap : (seg : List ℕ) (i n : ℕ) → 0 < i → i < n → i < length seg → AtMost bytes cursors (getD seg i 0) (getD seg ((i - 1) / 2) 0) → Up seg i n
       → Up (set (set seg i (getD seg ((i - 1) / 2) 0)) ((i - 1) / 2) (getD seg i 0)) ((i - 1) / 2) n
   up-swap seg i n pos inside len less r =
       let q : ℕ = (i - 1) / 2 in
       let s₁ : List ℕ = set seg i (getD seg q 0) in
       let s₂ : List ℕ = set s₁ q (getD seg i 0) in
-      rising-swap (AtMost bytes rows) (at-most-trans bytes rows) (λ j. getD seg j 0) (λ j. getD s₂ j 0) i n r pos inside less
+      rising-swap (AtMost bytes cursors) (at-most-trans bytes cursors) (λ j. getD seg j 0) (λ j. getD s₂ j 0) i n r pos inside less
       (getD-set-same s₁ q (getD seg i 0) 0 (rw length-set (omega arith)))
       (getD-set-other s₁ q i (getD seg i 0) 0 (λ e. omega arith) ∙ getD-set-same seg i (getD seg q 0) 0 len)
       (λ j d e. getD-set-other s₁ q j (getD seg i 0) 0 d ∙ getD-set-other seg i j (getD seg q 0) 0 e)
 
-  pub down-swap : (seg : List ℕ) (i c n : ℕ) → (c - 1) / 2 ≡ i → 0 < c → c < n → c < length seg → AtMost bytes rows (getD seg c 0) (getD seg i 0)
-      → ((j : ℕ) → 0 < j → j < n → (j - 1) / 2 ≡ i → AtMost bytes rows (getD seg c 0) (getD seg j 0)) → Sinking bytes rows seg i n
-      → Sinking bytes rows (set (set seg c (getD seg i 0)) i (getD seg c 0)) c n
+  pub down-swap : (seg : List ℕ) (i c n : ℕ) → (c - 1) / 2 ≡ i → 0 < c → c < n → c < length seg → AtMost bytes cursors (getD seg c 0) (getD seg i 0)
+      → ((j : ℕ) → 0 < j → j < n → (j - 1) / 2 ≡ i → AtMost bytes cursors (getD seg c 0) (getD seg j 0)) → Sinking bytes cursors seg i n
+      → Sinking bytes cursors (set (set seg c (getD seg i 0)) i (getD seg c 0)) c n
   down-swap seg i c n child pos inside len less least r =
       let s₁ : List ℕ = set seg c (getD seg i 0) in
       let s₂ : List ℕ = set s₁ i (getD seg c 0) in
@@ -243,46 +236,46 @@ module _ (bytes : List ℕ) (rows : List (List ℕ)) where
       let ai : getD s₂ i 0 ≡ getD seg c 0 = getD-set-same s₁ i (getD seg c 0) 0 (rw length-set (omega arith)) in
       let rs : (j : ℕ) → (j ≡ i → ⊥) → (j ≡ c → ⊥) → getD s₂ j 0 ≡ getD seg j 0 = λ j d e. getD-set-other s₁ i j (getD seg c 0) 0 d ∙ getD-set-other seg c j (getD seg i 0) 0 e in
       record {
-        others = down-others (AtMost bytes rows) (λ j. getD seg j 0) (λ j. getD s₂ j 0) i c n (r .others) (r .under) child pos inside less least ac ai rs;
-        under = down-under (AtMost bytes rows) (λ j. getD seg j 0) (λ j. getD s₂ j 0) i c n (r .others) (r .under) child pos inside less least ac ai rs;
+        others = down-others (AtMost bytes cursors) (λ j. getD seg j 0) (λ j. getD s₂ j 0) i c n (r .others) (r .under) child pos inside less least ac ai rs;
+        under = down-under (AtMost bytes cursors) (λ j. getD seg j 0) (λ j. getD s₂ j 0) i c n (r .others) (r .under) child pos inside less least ac ai rs;
       }
 
-  pub down-end : (seg : List ℕ) (i n : ℕ) → Sinking bytes rows seg i n → ((j : ℕ) → 0 < j → j < n → (j - 1) / 2 ≡ i → AtMost bytes rows (getD seg i 0) (getD seg j 0)) → Ordered bytes rows seg n
+  pub down-end : (seg : List ℕ) (i n : ℕ) → Sinking bytes cursors seg i n → ((j : ℕ) → 0 < j → j < n → (j - 1) / 2 ≡ i → AtMost bytes cursors (getD seg i 0) (getD seg j 0)) → Ordered bytes cursors seg n
   unfolding Ordered
   down-end seg i n r h j p l = go (same? ((j - 1) / 2) i)
     where
-      go : ((j - 1) / 2 ≡ i) ⊎ ((j - 1) / 2 ≡ i → ⊥) → AtMost bytes rows (getD seg ((j - 1) / 2) 0) (getD seg j 0)
-      go (inl e) = subst (λ (x : ℕ). AtMost bytes rows (getD seg x 0) (getD seg j 0)) (sym e) (h j p l e)
+      go : ((j - 1) / 2 ≡ i) ⊎ ((j - 1) / 2 ≡ i → ⊥) → AtMost bytes cursors (getD seg ((j - 1) / 2) 0) (getD seg j 0)
+      go (inl e) = subst (λ (x : ℕ). AtMost bytes cursors (getD seg x 0) (getD seg j 0)) (sym e) (h j p l e)
       go (inr d) = r .others j p l d
 
   -- the last number goes to the first place
-  pub down-start : (seg : List ℕ) (v n : ℕ) → Ordered bytes rows seg (n + 1) → Sinking bytes rows (set seg 0 v) 0 n
+  pub down-start : (seg : List ℕ) (v n : ℕ) → Ordered bytes cursors seg (n + 1) → Sinking bytes cursors (set seg 0 v) 0 n
   unfolding Ordered
   down-start seg v n o =
       record {
-        others = λ j p l d. move (AtMost bytes rows) (getD-set-other seg 0 ((j - 1) / 2) v 0 d) (getD-set-other seg 0 j v 0 (λ e. omega arith)) (o j p (omega arith));
+        others = λ j p l d. move (AtMost bytes cursors) (getD-set-other seg 0 ((j - 1) / 2) v 0 d) (getD-set-other seg 0 j v 0 (λ e. omega arith)) (o j p (omega arith));
         under = λ j p l e q. absurd (omega arith);
       }
 
-  pub top-least : (seg : List ℕ) (n j : ℕ) → Ordered bytes rows seg n → j < n → AtMost bytes rows (getD seg 0 0) (getD seg j 0)
+  pub top-least : (seg : List ℕ) (n j : ℕ) → Ordered bytes cursors seg n → j < n → AtMost bytes cursors (getD seg 0 0) (getD seg j 0)
   unfolding Ordered
-  top-least seg n j o l = root-least (AtMost bytes rows) (at-most-refl bytes rows) (at-most-trans bytes rows) (λ j. getD seg j 0) n o j j (omega arith) l
+  top-least seg n j o l = root-least (AtMost bytes cursors) (at-most-refl bytes cursors) (at-most-trans bytes cursors) (λ j. getD seg j 0) n o j j (omega arith) l
 
 -- ---- what the code's comparison says
 
-pub readable-at : (bytes : List ℕ) (rows : List (List ℕ)) (s : ℕ) → TermsInside bytes rows → s < 256 → (cell rows s 0 ≤ cell rows s 1) × (cell rows s 1 ≤ length bytes)
+pub readable-at : (bytes : List ℕ) (cursors : List (List ℕ)) (s : ℕ) → TermsInside bytes cursors → s < 256 → (cell cursors s 0 ≤ cell cursors s 1) × (cell cursors s 1 ≤ length bytes)
 unfolding TermsInside
-readable-at bytes rows s r h = r s h
+readable-at bytes cursors s r h = r s h
 
-module _ (bytes : List ℕ) (rows : List (List ℕ)) (a b : ℕ) where
+module _ (bytes : List ℕ) (cursors : List (List ℕ)) (a b : ℕ) where
   abbrev part : ℕ → List ℕ
-  part s = take (cell rows s 1 - cell rows s 0) (drop (cell rows s 0) bytes)
+  part s = take (cell cursors s 1 - cell cursors s 0) (drop (cell cursors s 0) bytes)
 
-  pub before-lt : TermOrder.Before ≡ orderOf (compareBytes (part a) (part b)) → true ≡ comesBefore bytes rows a b
+  pub before-lt : TermOrder.Before ≡ orderOf (compareBytes (part a) (part b)) → true ≡ comesBefore bytes cursors a b
   unfolding comesBefore orderAt keyOf
   before-lt e = rw (told-lt (compareBytes (part a) (part b)) e)
 
-  pub before-gt : TermOrder.After ≡ orderOf (compareBytes (part a) (part b)) → false ≡ comesBefore bytes rows a b
+  pub before-gt : TermOrder.After ≡ orderOf (compareBytes (part a) (part b)) → false ≡ comesBefore bytes cursors a b
   unfolding comesBefore orderAt keyOf
   before-gt e = rw (told-gt (compareBytes (part a) (part b)) e)
 
@@ -294,55 +287,55 @@ module _ (bytes : List ℕ) (rows : List (List ℕ)) (a b : ℕ) where
       go Ordering·eq h = le-ltb x y (omega arith)
       go Ordering·gt h = le-ltb x y (omega arith)
 
-  pub before-tie : TermOrder.Same ≡ orderOf (compareBytes (part a) (part b)) → (cell rows a 2 ≡ cell rows b 2 → ⊥) → ltb (cell rows a 2) (cell rows b 2) ≡ comesBefore bytes rows a b
+  pub before-tie : TermOrder.Same ≡ orderOf (compareBytes (part a) (part b)) → (cell cursors a 2 ≡ cell cursors b 2 → ⊥) → ltb (cell cursors a 2) (cell cursors b 2) ≡ comesBefore bytes cursors a b
   unfolding comesBefore orderAt keyOf
-  before-tie e d = rw (told-eq (compareBytes (part a) (part b)) e) (go (compare (cell rows a 2) (cell rows b 2)) (cmp (cell rows a 2) (cell rows b 2)))
+  before-tie e d = rw (told-eq (compareBytes (part a) (part b)) e) (go (compare (cell cursors a 2) (cell cursors b 2)) (cmp (cell cursors a 2) (cell cursors b 2)))
     where
-      go : (o : Ordering) → Cmp o (cell rows a 2) (cell rows b 2) → ltb (cell rows a 2) (cell rows b 2) ≡ isBelow (andThen o (andThen (compare a b) Ordering·eq))
-      go Ordering·lt h = lt-ltb (cell rows a 2) (cell rows b 2) h
+      go : (o : Ordering) → Cmp o (cell cursors a 2) (cell cursors b 2) → ltb (cell cursors a 2) (cell cursors b 2) ≡ isBelow (andThen o (andThen (compare a b) Ordering·eq))
+      go Ordering·lt h = lt-ltb (cell cursors a 2) (cell cursors b 2) h
       go Ordering·eq h = absurd (d h)
-      go Ordering·gt h = le-ltb (cell rows a 2) (cell rows b 2) (omega arith)
+      go Ordering·gt h = le-ltb (cell cursors a 2) (cell cursors b 2) (omega arith)
 
-  pub before-number : TermOrder.Same ≡ orderOf (compareBytes (part a) (part b)) → cell rows a 2 ≡ cell rows b 2 → ltb a b ≡ comesBefore bytes rows a b
+  pub before-number : TermOrder.Same ≡ orderOf (compareBytes (part a) (part b)) → cell cursors a 2 ≡ cell cursors b 2 → ltb a b ≡ comesBefore bytes cursors a b
   unfolding comesBefore orderAt keyOf
-  before-number e d = rw (told-eq (compareBytes (part a) (part b)) e, d, is-eq (cell rows b 2)) (ltb-below a b)
+  before-number e d = rw (told-eq (compareBytes (part a) (part b)) e, d, is-eq (cell cursors b 2)) (ltb-below a b)
 
 -- ---- the first child
 
-module _ (bytes : List ℕ) (rows : List (List ℕ)) (seg : List ℕ) (l n : ℕ) where
-  pub child-last : l < n → n ≤ l + 1 → FirstChild bytes rows seg l n l
+module _ (bytes : List ℕ) (cursors : List (List ℕ)) (seg : List ℕ) (l n : ℕ) where
+  pub child-last : l < n → n ≤ l + 1 → FirstChild bytes cursors seg l n l
   child-last h k =
       record {
         low = omega arith;
         high = omega arith;
         inside = h;
-        least = λ j p q r. subst (λ (x : ℕ). AtMost bytes rows (getD seg l 0) (getD seg x 0)) (let e : l ≡ j = omega arith in e) (at-most-refl bytes rows (getD seg l 0));
+        least = λ j p q r. subst (λ (x : ℕ). AtMost bytes cursors (getD seg l 0) (getD seg x 0)) (let e : l ≡ j = omega arith in e) (at-most-refl bytes cursors (getD seg l 0));
       }
 
-  pub child-first : l < n → AtMost bytes rows (getD seg l 0) (getD seg (l + 1) 0) → FirstChild bytes rows seg l n l
+  pub child-first : l < n → AtMost bytes cursors (getD seg l 0) (getD seg (l + 1) 0) → FirstChild bytes cursors seg l n l
   child-first h k = record { low = omega arith; high = omega arith; inside = h; least = λ j p q r. go j p q (same? j l) }
     where
-      go : (j : ℕ) → l ≤ j → j ≤ l + 1 → (j ≡ l) ⊎ (j ≡ l → ⊥) → AtMost bytes rows (getD seg l 0) (getD seg j 0)
-      go j p q (inl e) = subst (λ (x : ℕ). AtMost bytes rows (getD seg l 0) (getD seg x 0)) (sym e) (at-most-refl bytes rows (getD seg l 0))
-      go j p q (inr d) = subst (λ (x : ℕ). AtMost bytes rows (getD seg l 0) (getD seg x 0)) (let x : j ≢ l = d in let e : l + 1 ≡ j = omega arith in e) k
+      go : (j : ℕ) → l ≤ j → j ≤ l + 1 → (j ≡ l) ⊎ (j ≡ l → ⊥) → AtMost bytes cursors (getD seg l 0) (getD seg j 0)
+      go j p q (inl e) = subst (λ (x : ℕ). AtMost bytes cursors (getD seg l 0) (getD seg x 0)) (sym e) (at-most-refl bytes cursors (getD seg l 0))
+      go j p q (inr d) = subst (λ (x : ℕ). AtMost bytes cursors (getD seg l 0) (getD seg x 0)) (let x : j ≢ l = d in let e : l + 1 ≡ j = omega arith in e) k
 
-  pub child-second : l + 1 < n → comesBefore bytes rows (getD seg (l + 1) 0) (getD seg l 0) ≡ true → FirstChild bytes rows seg l n (l + 1)
+  pub child-second : l + 1 < n → comesBefore bytes cursors (getD seg (l + 1) 0) (getD seg l 0) ≡ true → FirstChild bytes cursors seg l n (l + 1)
   child-second h k = record { low = omega arith; high = omega arith; inside = h; least = λ j p q r. go j p q (same? j l) }
     where
-      go : (j : ℕ) → l ≤ j → j ≤ l + 1 → (j ≡ l) ⊎ (j ≡ l → ⊥) → AtMost bytes rows (getD seg (l + 1) 0) (getD seg j 0)
-      go j p q (inl e) = subst (λ (x : ℕ). AtMost bytes rows (getD seg (l + 1) 0) (getD seg x 0)) (sym e) (before-at-most bytes rows (getD seg (l + 1) 0) (getD seg l 0) k)
+      go : (j : ℕ) → l ≤ j → j ≤ l + 1 → (j ≡ l) ⊎ (j ≡ l → ⊥) → AtMost bytes cursors (getD seg (l + 1) 0) (getD seg j 0)
+      go j p q (inl e) = subst (λ (x : ℕ). AtMost bytes cursors (getD seg (l + 1) 0) (getD seg x 0)) (sym e) (before-at-most bytes cursors (getD seg (l + 1) 0) (getD seg l 0) k)
       go j p q (inr d) =
-          subst (λ (x : ℕ). AtMost bytes rows (getD seg (l + 1) 0) (getD seg x 0)) (let x : j ≢ l = d in let e : l + 1 ≡ j = omega arith in e) (at-most-refl bytes rows (getD seg (l + 1) 0))
+          subst (λ (x : ℕ). AtMost bytes cursors (getD seg (l + 1) 0) (getD seg x 0)) (let x : j ≢ l = d in let e : l + 1 ≡ j = omega arith in e) (at-most-refl bytes cursors (getD seg (l + 1) 0))
 
 -- ---- push and pop
 
-module _ (bytes : List ℕ) (rows : List (List ℕ)) where
-  pub ordered-set : (seg : List ℕ) (n v : ℕ) → Ordered bytes rows seg n → Ordered bytes rows (set seg n v) n
+module _ (bytes : List ℕ) (cursors : List (List ℕ)) where
+  pub ordered-set : (seg : List ℕ) (n v : ℕ) → Ordered bytes cursors seg n → Ordered bytes cursors (set seg n v) n
   unfolding Ordered
-  ordered-set seg n v o j p l = move (AtMost bytes rows) (getD-set-other seg n ((j - 1) / 2) v 0 (λ e. omega arith)) (getD-set-other seg n j v 0 (λ e. omega arith)) (o j p l)
+  ordered-set seg n v o j p l = move (AtMost bytes cursors) (getD-set-other seg n ((j - 1) / 2) v 0 (λ e. omega arith)) (getD-set-other seg n j v 0 (λ e. omega arith)) (o j p l)
 
-  pub ordered-at : (seg : List ℕ) (n m : ℕ) → n ≡ m → Ordered bytes rows seg n → Ordered bytes rows seg m
-  ordered-at seg n m e o = subst (λ (x : ℕ). Ordered bytes rows seg x) e o
+  pub ordered-at : (seg : List ℕ) (n m : ℕ) → n ≡ m → Ordered bytes cursors seg n → Ordered bytes cursors seg m
+  ordered-at seg n m e o = subst (λ (x : ℕ). Ordered bytes cursors seg x) e o
 
 count-one : (x v : ℕ) → count x (v ∷ []) ≡ one (eqb x v)
 unfolding count
@@ -371,28 +364,28 @@ count-drop seg (suc n) x h =
     let m : count x (take (suc n) (set seg 0 v)) ≡ count x (set l 0 v) = ap (count x) e in
     omega arith
 
-module _ (bytes : List ℕ) (rows : List (List ℕ)) where
+module _ (bytes : List ℕ) (cursors : List (List ℕ)) where
   pub pushed : (h m r : Heap) (s : ℕ) → length (h .seg) ≡ 256 → h .len < 256 → m .len ≡ h .len + 1 → m .seg ≡ set (h .seg) (h .len) s
-      → Risen bytes rows m (h .len + 1) r → Pushed bytes rows h s r
+      → Risen bytes cursors m (h .len + 1) r → Pushed bytes cursors h s r
   pushed h m r s l k e f g =
       let n : r .len ≡ h .len + 1 = g .len ∙ e in
       record {
         len = n;
-        inHeapOrder = ordered-at bytes rows (r .seg) (h .len + 1) (r .len) (sym n) (g .inHeapOrder);
+        inHeapOrder = ordered-at bytes cursors (r .seg) (h .len + 1) (r .len) (sym n) (g .inHeapOrder);
         holds = λ x.
             ap (λ (z : ℕ). count x (take z (r .seg))) n ∙ g .holds x ∙ ap (λ (z : List ℕ). count x (take (h .len + 1) z)) f
             ∙ count-put (h .seg) (h .len) s x (omega arith);
       }
 
   pub popped : (h m r : Heap) (n : ℕ) → length (h .seg) ≡ 256 → h .len ≤ 256 → h .len ≡ n + 1 → m .len ≡ n → m .seg ≡ set (h .seg) 0 (getD (h .seg) n 0)
-      → Ordered bytes rows (h .seg) (h .len) → Risen bytes rows m n r → Out bytes rows h r (getD (h .seg) 0 0)
+      → Ordered bytes cursors (h .seg) (h .len) → Risen bytes cursors m n r → Out bytes cursors h r (getD (h .seg) 0 0)
   popped h m r n l k z e f o g =
       let q : r .len ≡ n = g .len ∙ e in
       record {
         len = omega arith;
-        inHeapOrder = ordered-at bytes rows (r .seg) n (r .len) (sym q) (g .inHeapOrder);
+        inHeapOrder = ordered-at bytes cursors (r .seg) n (r .len) (sym q) (g .inHeapOrder);
         holds = λ x.
             ap (λ (y : ℕ). y + one (eqb x (getD (h .seg) 0 0))) (ap (λ (y : ℕ). count x (take y (r .seg))) q ∙ g .holds x ∙ ap (λ (y : List ℕ). count x (take n y)) f)
             ∙ count-drop (h .seg) n x (omega arith) ∙ ap (λ (y : ℕ). count x (take y (h .seg))) (sym z);
-        least = λ j i. top-least bytes rows (h .seg) (h .len) j o i;
+        least = λ j i. top-least bytes cursors (h .seg) (h .len) j o i;
       }

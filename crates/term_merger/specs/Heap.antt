@@ -26,39 +26,39 @@ count x (y ∷ ys) = one (eqb x y) + count x ys
 
 -- none of the first n comes before the one above it
 unfoldable pub Ordered : List ℕ → List (List ℕ) → List ℕ → ℕ → Type 0
-Ordered bytes rows seg n = (j : ℕ) → 0 < j → j < n → comesBefore bytes rows (getD seg j 0) (getD seg ((j - 1) / 2) 0) ≡ false
+Ordered bytes cursors seg n = (j : ℕ) → 0 < j → j < n → comesBefore bytes cursors (getD seg j 0) (getD seg ((j - 1) / 2) 0) ≡ false
 
-pub record Pushed (bytes : List ℕ) (rows : List (List ℕ)) (h : Heap) (s : ℕ) (r : Heap) : Type 0 where
+pub record Pushed (bytes : List ℕ) (cursors : List (List ℕ)) (h : Heap) (s : ℕ) (r : Heap) : Type 0 where
   pub len : r .len ≡ h .len + 1
-  pub inHeapOrder : Ordered bytes rows (r .seg) (r .len)
+  pub inHeapOrder : Ordered bytes cursors (r .seg) (r .len)
   pub holds : (x : ℕ) → count x (held r) ≡ count x (held h) + one (eqb x s)
 
 -- a full heap stays as it is
-pub record PushedIfRoom (bytes : List ℕ) (rows : List (List ℕ)) (h : Heap) (s : ℕ) (r : Heap) : Type 0 where
-  pub room : h .len < 256 → Pushed bytes rows h s r
+pub record PushedIfRoom (bytes : List ℕ) (cursors : List (List ℕ)) (h : Heap) (s : ℕ) (r : Heap) : Type 0 where
+  pub room : h .len < 256 → Pushed bytes cursors h s r
   pub full : 256 ≤ h .len → r ≡ h
 
 -- the top is out, it was the least, and the rest is a heap
-pub record Out (bytes : List ℕ) (rows : List (List ℕ)) (h : Heap) (r : Heap) (top : ℕ) : Type 0 where
+pub record Out (bytes : List ℕ) (cursors : List (List ℕ)) (h : Heap) (r : Heap) (top : ℕ) : Type 0 where
   pub len : r .len + 1 ≡ h .len
-  pub inHeapOrder : Ordered bytes rows (r .seg) (r .len)
+  pub inHeapOrder : Ordered bytes cursors (r .seg) (r .len)
   pub holds : (x : ℕ) → count x (held r) + one (eqb x top) ≡ count x (held h)
-  pub least : (j : ℕ) → j < h .len → comesBefore bytes rows (getD (h .seg) j 0) top ≡ false
+  pub least : (j : ℕ) → j < h .len → comesBefore bytes cursors (getD (h .seg) j 0) top ≡ false
 
 -- the first n are in order, and are the same numbers as before, each as often
-pub record Risen (bytes : List ℕ) (rows : List (List ℕ)) (h : Heap) (n : ℕ) (r : Heap) : Type 0 where
+pub record Risen (bytes : List ℕ) (cursors : List (List ℕ)) (h : Heap) (n : ℕ) (r : Heap) : Type 0 where
   pub len : r .len ≡ h .len
-  pub inHeapOrder : Ordered bytes rows (r .seg) n
+  pub inHeapOrder : Ordered bytes cursors (r .seg) n
   pub holds : (x : ℕ) → count x (take n (r .seg)) ≡ count x (take n (h .seg))
 
 -- c is l or the place after it, and neither of the two comes before the one at c
-pub record FirstChild (bytes : List ℕ) (rows : List (List ℕ)) (seg : List ℕ) (l n c : ℕ) : Type 0 where
+pub record FirstChild (bytes : List ℕ) (cursors : List (List ℕ)) (seg : List ℕ) (l n c : ℕ) : Type 0 where
   pub low : l ≤ c
   pub high : c ≤ l + 1
   pub inside : c < n
-  pub least : (j : ℕ) → l ≤ j → j ≤ l + 1 → j < n → comesBefore bytes rows (getD seg j 0) (getD seg c 0) ≡ false
+  pub least : (j : ℕ) → l ≤ j → j ≤ l + 1 → j < n → comesBefore bytes cursors (getD seg j 0) (getD seg c 0) ≡ false
 
 -- the first n are in order but for the one at i, which may belong further down
-pub record Sinking (bytes : List ℕ) (rows : List (List ℕ)) (seg : List ℕ) (i n : ℕ) : Type 0 where
-  pub others : (j : ℕ) → 0 < j → j < n → ((j - 1) / 2 ≡ i → ⊥) → comesBefore bytes rows (getD seg j 0) (getD seg ((j - 1) / 2) 0) ≡ false
-  pub under : (j : ℕ) → 0 < j → j < n → (j - 1) / 2 ≡ i → 0 < i → comesBefore bytes rows (getD seg j 0) (getD seg ((i - 1) / 2) 0) ≡ false
+pub record Sinking (bytes : List ℕ) (cursors : List (List ℕ)) (seg : List ℕ) (i n : ℕ) : Type 0 where
+  pub others : (j : ℕ) → 0 < j → j < n → ((j - 1) / 2 ≡ i → ⊥) → comesBefore bytes cursors (getD seg j 0) (getD seg ((j - 1) / 2) 0) ≡ false
+  pub under : (j : ℕ) → 0 < j → j < n → (j - 1) / 2 ≡ i → 0 < i → comesBefore bytes cursors (getD seg j 0) (getD seg ((i - 1) / 2) 0) ≡ false

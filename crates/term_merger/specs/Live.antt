@@ -1,4 +1,4 @@
--- Segments that go back into the heap: those whose row (Order) has something left. Assumes nothing.
+-- Segments that go back into the heap: those whose cursor (Order) has something left. Assumes nothing.
 use Prim.Native.Nat.{ℕ, _-_, _≤_, _<_}
 use mathlib.Core.List.{List}
 use mathlib.Core.Path.{_≡_}
@@ -7,17 +7,17 @@ use Rattle.term_merger.specs.declared.Heap.{Heap}
 use Rattle.term_merger.specs.Order.{cell}
 use Rattle.term_merger.specs.Heap.{Pushed, Ordered, held, count, one}
 
--- how much the segment's row has left
+-- how much the segment's cursor has left
 abbrev pub leftOf : List (List ℕ) → ℕ → ℕ
-leftOf rows s = cell rows s 4 - cell rows s 3
+leftOf cursors s = cell cursors s 4 - cell cursors s 3
 
 -- a segment with something left is pushed
-pub record Back (bytes : List ℕ) (rows : List (List ℕ)) (h : Heap) (s : ℕ) (r : Heap) : Type 0 where
-  pub live : cell rows s 3 < cell rows s 4 → Pushed bytes rows h s r
-  pub done : cell rows s 4 ≤ cell rows s 3 → r ≡ h
+pub record Back (bytes : List ℕ) (cursors : List (List ℕ)) (h : Heap) (s : ℕ) (r : Heap) : Type 0 where
+  pub live : cell cursors s 3 < cell cursors s 4 → Pushed bytes cursors h s r
+  pub done : cell cursors s 4 ≤ cell cursors s 3 → r ≡ h
 
 -- the heap holds each segment with something left, once
-pub record Started (bytes : List ℕ) (rows : List (List ℕ)) (h : Heap) : Type 0 where
+pub record Started (bytes : List ℕ) (cursors : List (List ℕ)) (h : Heap) : Type 0 where
   pub len : h .len ≤ 256
-  pub inHeapOrder : Ordered bytes rows (h .seg) (h .len)
-  pub holds : (x : ℕ) → count x (held h) ≡ one (ltb 0 (leftOf rows x))
+  pub inHeapOrder : Ordered bytes cursors (h .seg) (h .len)
+  pub holds : (x : ℕ) → count x (held h) ≡ one (ltb 0 (leftOf cursors x))

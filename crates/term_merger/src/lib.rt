@@ -9,6 +9,9 @@ ghost use Rattle.term_merger.specs.Heap.{emptyHeap, held, Ordered, Pushe
 ghost use Rattle.term_merger.specs.Live.{Back, Started};
 use term_order::TermOrder;
 
+// A segment's place in the walk, in six numbers (specs/Order).
+pub type Cursor = [usize; 6];
+
 // Segment numbers in an array, each not before the one above it.
 pub struct Heap {
     pub seg: [u8; Heap::CAP],
@@ -40,22 +43,15 @@ impl Heap {
     }
 }
 
-// A byte as an index: asks nothing of where the byte came from.
-pub fn wide(b: u8) -> usize
-    ensures { λ r. ⌜ (r ≡ b) × (r < 256) ⌝ }
-{
-    b as usize
-}
-
 // Whether segment a leaves the heap before segment b: by term, then marked terms first, then by number.
-pub fn comes_before(bytes: &[u8], rows: &[[usize; 6]], a: u8, b: u8) -> bool
-    requires { ⌜ (256 ≤ length (now rows)) × TermsInside (now bytes) (now rows) ⌝ }
-    ensures { λ r. ⌜ r ≡ comesBefore (now (bytes .entry)) (now (rows .entry)) a b ⌝ }
+pub fn comes_before(bytes: &[u8], cursors: &[Cursor], a: u8, b: u8) -> bool
+    requires { ⌜ (256 ≤ length (now cursors)) × TermsInside (now bytes) (now cursors) ⌝ }
+    ensures { λ r. ⌜ r ≡ comesBefore (now (bytes .entry)) (now (cursors .entry)) a b ⌝ }
 {
-    let p = wide(a);
-    let q = wide(b);
-    let x = rows[p];
-    let y = rows[q];
+    let p = runs::byte(a);
+    let q = runs::byte(b);
+    let x = cursors[p];
+    let y = cursors[q];
     let xs = x[0];
     let xe = x[1];
     let ys = y[0];
@@ -74,10 +70,10 @@ pub fn comes_before(bytes: &[u8], rows: &[[usize; 6]], a: u8, b: u8) -> bool
 }
 
 // The number at the last place goes up to its place.
-fn sift_up(heap: Heap, bytes: &[u8], rows: &[[usize; 6]], from: usize) -> Heap
-    requires { ⌜ (256 ≤ length (now rows)) × TermsInside (now bytes) (now rows) ⌝ }
-    requires { ⌜ (from < 256) × Ordered (now bytes) (now rows) (heap .seg) from ⌝ }
-    ensures { λ h. ⌜ Risen (now (bytes .entry)) (now (rows .entry)) heap (from + 1) h ⌝ }
+fn sift_up(heap: Heap, bytes: &[u8], cursors: &[Cursor], from: usize) -> Heap
+    requires { ⌜ (256 ≤ length (now cursors)) × TermsInside (now bytes) (now cursors) ⌝ }
+    requires { ⌜ (from < 256) × Ordered (now bytes) (now cursors) (heap .seg) from ⌝ }
+    ensures { λ h. ⌜ Risen (now (bytes .entry)) (now (cursors .entry)) heap (from + 1) h ⌝ }
 {
     let mut h = heap;
     let mut i = from;
@@ -85,7 +81,7 @@ fn sift_up(heap: Heap, bytes: &[u8], rows: &[[usize; 6]], from: usize) -> Heap
         let p = (i - 1) / 2;
         let a = h.seg[i];
         let b = h.seg[p];
-        if !comes_before(bytes, rows, a, b) {
+        if !comes_before(bytes, cursors, a, b) {
             return h;
         }
         h.seg[i] = b;
@@ -96,10 +92,10 @@ fn sift_up(heap: Heap, bytes: &[u8], rows: &[[usize; 6]], from: usize) -> Heap
 }
 
 // One segment more; a full heap stays as it is.
-pub fn push(heap: Heap, bytes: &[u8], rows: &[[usize; 6]], s: u8) -> Heap
-    requires { ⌜ (256 ≤ length (now rows)) × TermsInside (now bytes) (now rows) ⌝ }
-    requires { ⌜ Ordered (now bytes) (now rows) (heap .seg) (heap .len) ⌝ }
-    ensures { λ h. ⌜ PushedIfRoom (now (bytes .entry)) (now (rows .entry)) heap s h ⌝ }
+pub fn push(heap: Heap, bytes: &[u8], cursors: &[Cursor], s: u8) -> Heap
+    requires { ⌜ (256 ≤ length (now cursors)) × TermsInside (now bytes) (now cursors) ⌝ }
+    requires { ⌜ Ordered (now bytes) (now cursors) (heap .seg) (heap .len) ⌝ }
+    ensures { λ h. ⌜ PushedIfRoom (now (bytes .entry)) (now (cursors .entry)) heap s h ⌝ }
 {
     if heap.is_full() {
         return heap;
@@ -108,20 +104,14 @@ pub fn push(heap: Heap, bytes: &[u8], rows: &[[usize; 6]], s: u8) -> Heap
     let mut h = heap;
     h.seg[n] = s;
     h.len = n + 1;
-    sift_up(h, bytes, rows, n)
+    sift_up(h, bytes, cursors, n)
 }
 
 // The child of a place that comes first: l is the first child, and n is the number of places.
-fn first_child(
-    seg: &[u8; Heap::CAP],
-    bytes: &[u8],
-    rows: &[[usize; 6]],
-    l: usize,
-    n: usize,
-) -> usize
-    requires { ⌜ (256 ≤ length (now rows)) × TermsInside (now bytes) (now rows) ⌝ }
+fn first_child(seg: &[u8; Heap::CAP], bytes: &[u8], cursors: &[Cursor], l: usize, n: usize) -> usize
+    requires { ⌜ (256 ≤ length (now cursors)) × TermsInside (now bytes) (now cursors) ⌝ }
     requires { ⌜ (l < n) × (n ≤ 256) ⌝ }
-    ensures { λ c. ⌜ FirstChild (now (bytes .entry)) (now (rows .entry)) (now (seg .entry)) l n c ⌝ }
+    ensures { λ c. ⌜ FirstChild (now (bytes .entry)) (now (cursors .entry)) (now (seg .entry)) l n c ⌝ }
 {
     let r = l + 1;
     if n <= r {
@@ -129,25 +119,25 @@ fn first_child(
     }
     let a = seg[r];
     let b = seg[l];
-    if comes_before(bytes, rows, a, b) {
+    if comes_before(bytes, cursors, a, b) {
         return r;
     }
     l
 }
 
 // The number at the first place goes down to its place among the first n.
-fn sift_down(heap: Heap, bytes: &[u8], rows: &[[usize; 6]], n: usize) -> Heap
-    requires { ⌜ (256 ≤ length (now rows)) × TermsInside (now bytes) (now rows) ⌝ }
-    requires { ⌜ (n ≤ 256) × Sinking (now bytes) (now rows) (heap .seg) 0 n ⌝ }
-    ensures { λ h. ⌜ Risen (now (bytes .entry)) (now (rows .entry)) heap n h ⌝ }
+fn sift_down(heap: Heap, bytes: &[u8], cursors: &[Cursor], n: usize) -> Heap
+    requires { ⌜ (256 ≤ length (now cursors)) × TermsInside (now bytes) (now cursors) ⌝ }
+    requires { ⌜ (n ≤ 256) × Sinking (now bytes) (now cursors) (heap .seg) 0 n ⌝ }
+    ensures { λ h. ⌜ Risen (now (bytes .entry)) (now (cursors .entry)) heap n h ⌝ }
 {
     let mut h = heap;
     let mut i: usize = 0;
     while 2 * i + 1 < n {
-        let c = first_child(&h.seg, bytes, rows, 2 * i + 1, n);
+        let c = first_child(&h.seg, bytes, cursors, 2 * i + 1, n);
         let a = h.seg[c];
         let b = h.seg[i];
-        if !comes_before(bytes, rows, a, b) {
+        if !comes_before(bytes, cursors, a, b) {
             return h;
         }
         h.seg[c] = b;
@@ -157,10 +147,10 @@ fn sift_down(heap: Heap, bytes: &[u8], rows: &[[usize; 6]], n: usize) -> Heap
     h
 }
 
-pub fn pop(heap: Heap, bytes: &[u8], rows: &[[usize; 6]]) -> Popped
-    requires { ⌜ (256 ≤ length (now rows)) × TermsInside (now bytes) (now rows) ⌝ }
-    requires { ⌜ (0 < heap .len) × (heap .len ≤ 256) × Ordered (now bytes) (now rows) (heap .seg) (heap .len) ⌝ }
-    ensures { λ p. ⌜ Out (now (bytes .entry)) (now (rows .entry)) heap (p .heap) (p .top) ⌝ }
+pub fn pop(heap: Heap, bytes: &[u8], cursors: &[Cursor]) -> Popped
+    requires { ⌜ (256 ≤ length (now cursors)) × TermsInside (now bytes) (now cursors) ⌝ }
+    requires { ⌜ (0 < heap .len) × (heap .len ≤ 256) × Ordered (now bytes) (now cursors) (heap .seg) (heap .len) ⌝ }
+    ensures { λ p. ⌜ Out (now (bytes .entry)) (now (cursors .entry)) heap (p .heap) (p .top) ⌝ }
 {
     let n = heap.len - 1;
     let top = heap.seg[0];
@@ -168,36 +158,36 @@ pub fn pop(heap: Heap, bytes: &[u8], rows: &[[usize; 6]]) -> Popped
     let mut h = heap;
     h.seg[0] = end;
     h.len = n;
-    let down = sift_down(h, bytes, rows, n);
+    let down = sift_down(h, bytes, cursors, n);
     Popped {
         heap: down,
         top: top,
     }
 }
 
-// A segment goes back into the heap if its row has something left.
-pub fn push_live(heap: Heap, bytes: &[u8], rows: &[[usize; 6]], s: u8) -> Heap
-    requires { ⌜ (256 ≤ length (now rows)) × TermsInside (now bytes) (now rows) ⌝ }
-    requires { ⌜ (heap .len < 256) × Ordered (now bytes) (now rows) (heap .seg) (heap .len) ⌝ }
-    ensures { λ h. ⌜ Back (now (bytes .entry)) (now (rows .entry)) heap s h ⌝ }
+// A segment goes back into the heap if its cursor has something left.
+pub fn push_live(heap: Heap, bytes: &[u8], cursors: &[Cursor], s: u8) -> Heap
+    requires { ⌜ (256 ≤ length (now cursors)) × TermsInside (now bytes) (now cursors) ⌝ }
+    requires { ⌜ (heap .len < 256) × Ordered (now bytes) (now cursors) (heap .seg) (heap .len) ⌝ }
+    ensures { λ h. ⌜ Back (now (bytes .entry)) (now (cursors .entry)) heap s h ⌝ }
 {
-    let i = wide(s);
-    let row = rows[i];
-    if row[3] < row[4] {
-        return push(heap, bytes, rows, s);
+    let i = runs::byte(s);
+    let cursor = cursors[i];
+    if cursor[3] < cursor[4] {
+        return push(heap, bytes, cursors, s);
     }
     heap
 }
 
-// A heap of all segments whose rows have something left.
-pub fn start_heap(bytes: &[u8], rows: &[[usize; 6]]) -> Heap
-    requires { ⌜ (length (now rows) ≡ 256) × TermsInside (now bytes) (now rows) ⌝ }
-    ensures { λ h. ⌜ Started (now (bytes .entry)) (now (rows .entry)) h ⌝ }
+// A heap of all segments whose cursors have something left.
+pub fn start_heap(bytes: &[u8], cursors: &[Cursor]) -> Heap
+    requires { ⌜ (length (now cursors) ≡ 256) × TermsInside (now bytes) (now cursors) ⌝ }
+    ensures { λ h. ⌜ Started (now (bytes .entry)) (now (cursors .entry)) h ⌝ }
 {
     let mut h = Heap::empty();
     let mut s: usize = 0;
     while s < Heap::CAP {
-        h = push_live(h, bytes, rows, s as u8);
+        h = push_live(h, bytes, cursors, s as u8);
         s += 1;
     }
     h

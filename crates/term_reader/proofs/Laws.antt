@@ -2,7 +2,7 @@
 use mathlib.Core.Path.{_≡_, refl, sym, ap, _∙_, subst}
 use mathlib.Core.Bool.{Bool, true, false, _&&_}
 use mathlib.Core.List.{List, [], _∷_}
-use Prim.Native.Nat.{ℕ, _+_, _-_, _≤_, _<_}
+use Prim.Native.Nat.{ℕ, _+_, _≤_, _<_}
 use native.Mathlib.Numerals.{add-one}
 use native.Mathlib.Omega.{arith}
 use lib.Dec.{ltb, leb}
@@ -10,12 +10,10 @@ use lib.ListN.{length, drop, getD, drop-of-length-le}
 use lib.Seq.{drop-cons, drop-drop}
 use borrow.Author.Tests.{lt-ltb, le-ltb, ltb-true, ltb-false, le-leb, lt-leb, leb-true, leb-false}
 use Rattle.definitions.specs.Lists.{sum, isBelow, compareBytes}
-use Rattle.segment.proofs.Tests.{both-true}
+use Rattle.lists.proofs.Tests.{both-true}
+use Rattle.lists.proofs.Sums.{sum-step}
 use Rattle.term_reader.specs.declared.Place.{Place}
 use Rattle.term_reader.specs.Read.{termAt, nextPlace, goesOn, termsRise, termsRiseFrom}
-
-pub sum-step : (xs : List ℕ) (i : ℕ) → i < length xs → sum (drop i xs) ≡ getD xs i 0 + sum (drop (i + 1) xs)
-sum-step xs i h = rw (add-one i, drop-cons xs i 0 h)
 
 -- the terms after the one at a place
 abbrev pub risesAt : List ℕ → List ℕ → ℕ → ℕ → Bool

@@ -1,8 +1,8 @@
 -- What the heap's contracts say of the segments' current terms. Assumes nothing.
-use mathlib.Core.Path.{_≡_, refl, sym, ap, _∙_, subst}
+use mathlib.Core.Path.{_≡_, sym, ap, _∙_, subst}
 use mathlib.Core.Logic.{_⊎_, inl, inr}
-use mathlib.Core.List.{List, [], _∷_, _++_, map, append-nil, append-assoc}
-use Prim.Native.Nat.{ℕ, zero, suc, _+_, _≤_, _<_, zero-le, suc-le-suc}
+use mathlib.Core.List.{List, [], _∷_, _++_, append-nil}
+use Prim.Native.Nat.{ℕ, zero, suc, _+_, _≤_, _<_, zero-le}
 use native.Mathlib.Nat.{le-of-suc-le-suc}
 use native.Mathlib.Omega.{arith}
 use native.Mathlib.Numerals.{add-one}
@@ -10,12 +10,13 @@ use lib.Dec.{T}
 use lib.Ieee.Fits.{and-l, and-r}
 use lib.ListN.{length, getD, length-append}
 use Rattle.definitions.specs.Lists.{compareBytes, isBelow, termsAscending, termsAscendingFrom, concat}
-use Rattle.definitions.proofs.Terms.{Before, shorter, lower, behind, below-before}
+use Rattle.definitions.proofs.Terms.{Before, lower, behind, below-before, before-some}
 use Rattle.term_merger.specs.declared.Heap.{Heap}
 use Rattle.term_merger.specs.Order.{cell, keyOf, tieOf}
 use Rattle.term_merger.specs.Heap.{count, held, Out}
 use Rattle.term_merger.proofs.Laws.{LE}
 use Rattle.term_merger.proofs.Heaps.{out-le}
+use Rattle.definitions.proofs.Lists.{concat-append}
 
 -- ---- the least
 
@@ -24,13 +25,13 @@ tie-rank a b x y (inl (lower h)) = omega arith
 tie-rank a b x y (inl (behind h)) = omega arith
 tie-rank a b x y (inr e) = let f : a ≡ b = ap (λ (l : List ℕ). getD l 0 0) e in omega arith
 
-pub out-least : (bytes : List ℕ) (rows : List (List ℕ)) (h r : Heap) (top y : ℕ) → Out bytes rows h r top → 0 < count y (held h)
-    → Before (keyOf bytes rows top) (keyOf bytes rows y) ⊎ ((keyOf bytes rows top ≡ keyOf bytes rows y) × (cell rows top 2 ≤ cell rows y 2))
-out-least bytes rows h r top y o c = go (out-le bytes rows h r top y o c)
+pub out-least : (bytes : List ℕ) (cursors : List (List ℕ)) (h r : Heap) (top y : ℕ) → Out bytes cursors h r top → 0 < count y (held h)
+    → Before (keyOf bytes cursors top) (keyOf bytes cursors y) ⊎ ((keyOf bytes cursors top ≡ keyOf bytes cursors y) × (cell cursors top 2 ≤ cell cursors y 2))
+out-least bytes cursors h r top y o c = go (out-le bytes cursors h r top y o c)
   where
-    go : LE (keyOf bytes rows top) (tieOf rows top) (keyOf bytes rows y) (tieOf rows y) → Before (keyOf bytes rows top) (keyOf bytes rows y) ⊎ ((keyOf bytes rows top ≡ keyOf bytes rows y) × (cell rows top 2 ≤ cell rows y 2))
+    go : LE (keyOf bytes cursors top) (tieOf cursors top) (keyOf bytes cursors y) (tieOf cursors y) → Before (keyOf bytes cursors top) (keyOf bytes cursors y) ⊎ ((keyOf bytes cursors top ≡ keyOf bytes cursors y) × (cell cursors top 2 ≤ cell cursors y 2))
     go (inl b) = inl b
-    go (inr (e, f)) = inr (e, tie-rank (cell rows top 2) (cell rows y 2) top y f)
+    go (inr (e, f)) = inr (e, tie-rank (cell cursors top 2) (cell cursors y 2) top y f)
 
 -- ---- ascending lists
 
@@ -43,15 +44,10 @@ asc-next (x ∷ xs) p h k = subst (λ (z : ℕ). Before (getD (x ∷ xs) p []) (
     go x (y ∷ ys) zero h k = below-before x y (and-l (isBelow (compareBytes x y)) (termsAscendingFrom y ys) h)
     go x (y ∷ ys) (suc p) h k = go y ys p (and-r (isBelow (compareBytes x y)) (termsAscendingFrom y ys) h) (le-of-suc-le-suc k)
 
-before-pos : (x y : List ℕ) → Before x y → 0 < length y
-before-pos x y shorter = suc-le-suc zero-le
-before-pos x y (lower h) = suc-le-suc zero-le
-before-pos x y (behind h) = suc-le-suc zero-le
-
 from-count : (x : List ℕ) (l : List (List ℕ)) → T (termsAscendingFrom x l) → length l ≤ length (concat l)
 from-count x [] h = zero-le
 from-count x (y ∷ ys) h =
-    let a = before-pos x y (below-before x y (and-l (isBelow (compareBytes x y)) (termsAscendingFrom y ys) h)) in
+    let a = before-some x y (below-before x y (and-l (isBelow (compareBytes x y)) (termsAscendingFrom y ys) h)) in
     let b = from-count y ys (and-r (isBelow (compareBytes x y)) (termsAscendingFrom y ys) h) in
     omega (arith, length-append y (concat ys))
 
@@ -62,10 +58,5 @@ asc-count (y ∷ ys) h = let b = from-count y ys h in omega (arith, length-appen
 
 -- ---- lists with one more
 
-pub map-length-snoc : (l : List (List ℕ)) (t : List ℕ) → map length (l ++ (t ∷ [])) ≡ map length l ++ (length t ∷ [])
-map-length-snoc [] t = refl
-map-length-snoc (x ∷ xs) t = ap (λ (z : List ℕ). length x ∷ z) (map-length-snoc xs t)
-
 pub concat-snoc : (l : List (List ℕ)) (t : List ℕ) → concat (l ++ (t ∷ [])) ≡ concat l ++ t
-concat-snoc [] t = append-nil t
-concat-snoc (x ∷ xs) t = ap (λ (z : List ℕ). x ++ z) (concat-snoc xs t) ∙ sym (append-assoc x (concat xs) t)
+concat-snoc l t = concat-append l (t ∷ []) ∙ ap (λ (z : List ℕ). concat l ++ z) (append-nil t)

@@ -2,7 +2,7 @@
 -- P s terms of segment s are passed, out is what is written. Assumes nothing.
 use mathlib.Core.Path.{_≡_, refl, sym, ap, ap₂, _∙_, subst}
 use mathlib.Core.Logic.{_⊎_, inl, inr}
-use mathlib.Core.Bool.{Bool, true, false, cond, _||_, false≢true, true≢false}
+use mathlib.Core.Bool.{Bool, true, false, cond, _||_, false≢true, true≢false, or-false}
 use mathlib.Core.List.{List, [], _∷_, _++_}
 use Prim.Native.Nat.{ℕ, suc, _+_, _≤_, _<_, Ordering, Ordering·lt, Ordering·eq, Ordering·gt, zero-le, suc-le-suc}
 use native.Mathlib.Omega.{arith}
@@ -13,8 +13,9 @@ use lib.Seq.{getD-set-same, getD-set-other}
 use borrow.Author.Tests.{eq-eqb, ne-eqb}
 use Rattle.definitions.specs.Lists.{compareBytes, isSame, isBelow, hasTerm, placeOf, termsAscending, termsAscendingFrom}
 use Rattle.definitions.specs.Join.{ordinalOf}
-use Rattle.term_merger.proofs.Laws.{same?}
-use Rattle.definitions.proofs.Terms.{Before, CmpBytes, cmp-bytes, before-is, same-is, before-trans, before-below, self-present}
+use Rattle.definitions.proofs.Terms.{Before, CmpBytes, cmp-bytes, before-is, same-is, before-trans, before-below, self-present, hasTerm-append}
+use Rattle.lists.proofs.Numbers.{same?}
+use Rattle.definitions.proofs.Lists.{or-holds}
 
 -- ---- byte strings
 
@@ -51,36 +52,21 @@ not-same u t d = go (compareBytes u t) (cmp-bytes u t)
     go Ordering·eq k = absurd (d k)
     go Ordering·gt k = refl
 
-or-right : (a b : Bool) → b ≡ true → a || b ≡ true
-or-right true b e = refl
-or-right false b e = e
-
-or-false : (a : Bool) → a || false ≡ a
-or-false true = refl
-or-false false = refl
-
 pub has-tail : (u y : List ℕ) (ys : List (List ℕ)) → hasTerm u ys ≡ true → hasTerm u (y ∷ ys) ≡ true
-has-tail u y ys e = or-right (isSame (compareBytes u y)) (hasTerm u ys) e
+has-tail u y ys e = or-holds (isSame (compareBytes u y)) (hasTerm u ys) e
 
 pub has-left : (u : List ℕ) (l m : List (List ℕ)) → hasTerm u l ≡ true → hasTerm u (l ++ m) ≡ true
-has-left u [] m h = absurd (false≢true h)
-has-left u (y ∷ ys) m h = go (isSame (compareBytes u y)) h (λ (k : hasTerm u ys ≡ true). has-left u ys m k)
-  where
-    go : (a : Bool) → a || hasTerm u ys ≡ true → (hasTerm u ys ≡ true → hasTerm u (ys ++ m) ≡ true) → a || hasTerm u (ys ++ m) ≡ true
-    go true h f = refl
-    go false h f = f h
+has-left u l m h = hasTerm-append u l m ∙ ap (λ (b : Bool). b || hasTerm u m) h
 
 pub has-right : (u : List ℕ) (l m : List (List ℕ)) → hasTerm u m ≡ true → hasTerm u (l ++ m) ≡ true
-has-right u [] m h = h
-has-right u (y ∷ ys) m h = has-tail u y (ys ++ m) (has-right u ys m h)
+has-right u l m h = hasTerm-append u l m ∙ or-holds (hasTerm u l) (hasTerm u m) h
 
 pub has-cases : (u : List ℕ) (l m : List (List ℕ)) → hasTerm u (l ++ m) ≡ true → (hasTerm u l ≡ true) ⊎ (hasTerm u m ≡ true)
-has-cases u [] m h = inr h
-has-cases u (y ∷ ys) m h = go (isSame (compareBytes u y)) h (λ (k : hasTerm u (ys ++ m) ≡ true). has-cases u ys m k)
+has-cases u l m h = go (hasTerm u l) (sym (hasTerm-append u l m) ∙ h)
   where
-    go : (a : Bool) → a || hasTerm u (ys ++ m) ≡ true → (hasTerm u (ys ++ m) ≡ true → (hasTerm u ys ≡ true) ⊎ (hasTerm u m ≡ true)) → (a || hasTerm u ys ≡ true) ⊎ (hasTerm u m ≡ true)
-    go true h f = inl refl
-    go false h f = f h
+    go : (a : Bool) → a || hasTerm u m ≡ true → (a ≡ true) ⊎ (hasTerm u m ≡ true)
+    go true e = inl refl
+    go false e = inr e
 
 pub has-snoc : (u t : List ℕ) (l : List (List ℕ)) → hasTerm u (l ++ (t ∷ [])) ≡ true → (hasTerm u l ≡ true) ⊎ (u ≡ t)
 has-snoc u t l h = go (has-cases u l (t ∷ []) h)
@@ -97,8 +83,7 @@ has-pos t [] h = absurd (false≢true h)
 has-pos t (y ∷ ys) h = suc-le-suc zero-le
 
 has-not : (u t : List ℕ) (l : List (List ℕ)) → (u ≡ t → ⊥) → hasTerm u (l ++ (t ∷ [])) ≡ hasTerm u l
-has-not u t [] d = rw (not-same u t d)
-has-not u t (y ∷ ys) d = ap (λ (b : Bool). isSame (compareBytes u y) || b) (has-not u t ys d)
+has-not u t l d = hasTerm-append u l (t ∷ []) ∙ ap (λ (b : Bool). hasTerm u l || (b || false)) (not-same u t d) ∙ or-false (hasTerm u l)
 
 place-not : (u t : List ℕ) (l : List (List ℕ)) → hasTerm u l ≡ true → placeOf u (l ++ (t ∷ [])) ≡ placeOf u l
 place-not u t [] h = absurd (false≢true h)

@@ -10,78 +10,79 @@ use Rattle.term_walk.specs.declared.Last.{Last}
 use Rattle.term_walk.specs.declared.Taken.{Taken}
 use Rattle.term_merger.specs.Order.{cell}
 use Rattle.runs.specs.Put.{put}
-use Rattle.term_rows.specs.Rows.{rankAt, sizeOf, lensOf, dictOf, rowOf, termsIn, bytesIn, sumOver}
-use Rattle.term_rows.specs.Runs.{joinTo}
+use Rattle.term_cursors.specs.Cursors.{unmarkedAt, lensOf, dictOf, cursorOf, termsIn, bytesIn, sumOver}
+use Rattle.term_cursors.specs.Runs.{joinTo}
 use Rattle.definitions.specs.Lists.{sum, upTo, sortTerms, termsAscending, concat}
 use Rattle.definitions.specs.Join.{ordinalOf}
 use Rattle.definitions.specs.Outcome.{written}
+use Rattle.term_merger.specs.Live.{leftOf}
 
 abbrev pub partOf : List ℕ → ℕ → ℕ → List ℕ
 partOf bytes from till = take (till - from) (drop from bytes)
 
 abbrev pub termOf : List ℕ → List ℕ → List ℕ
-termOf bytes row = partOf bytes (getD row 0 0) (getD row 1 0)
+termOf bytes cursor = partOf bytes (getD cursor 0 0) (getD cursor 1 0)
 
 abbrev pub lastOf : List ℕ → Last → List ℕ
 lastOf bytes l = partOf bytes (l .from) (l .till)
 
 -- the term is the last one written
-pub record Again (bytes row : List ℕ) (l : Last) (lens outs : List ℕ) (t : Taken) (lens′ outs′ : List ℕ) : Type 0 where
+pub record Again (bytes cursor : List ℕ) (l : Last) (lens outs : List ℕ) (t : Taken) (lens′ outs′ : List ℕ) : Type 0 where
   pub some : 0 < l .terms
-  pub same : termOf bytes row ≡ lastOf bytes l
+  pub same : termOf bytes cursor ≡ lastOf bytes l
   pub ordinal : t .ordinal + 1 ≡ l .terms
   pub last : t .last ≡ l
   pub lengths : lens′ ≡ lens
   pub texts : outs′ ≡ outs
 
 -- it is another, and not marked
-pub record Skipped (bytes row : List ℕ) (l : Last) (lens outs : List ℕ) (t : Taken) (lens′ outs′ : List ℕ) : Type 0 where
-  pub other : 0 < l .terms → termOf bytes row ≡ lastOf bytes l → ⊥
-  pub unmarked : getD row 2 0 ≡ 0 → ⊥
+pub record Skipped (bytes cursor : List ℕ) (l : Last) (lens outs : List ℕ) (t : Taken) (lens′ outs′ : List ℕ) : Type 0 where
+  pub other : 0 < l .terms → termOf bytes cursor ≡ lastOf bytes l → ⊥
+  pub unmarked : getD cursor 2 0 ≡ 0 → ⊥
   pub ordinal : t .ordinal ≡ 0
   pub last : t .last ≡ l
   pub lengths : lens′ ≡ lens
   pub texts : outs′ ≡ outs
 
 -- it is another, and marked: it is written
-pub record Added (bytes row given : List ℕ) (l : Last) (lens outs : List ℕ) (t : Taken) (lens′ outs′ : List ℕ) : Type 0 where
-  pub other : 0 < l .terms → termOf bytes row ≡ lastOf bytes l → ⊥
-  pub marked : getD row 2 0 ≡ 0
+pub record Added (bytes cursor given : List ℕ) (l : Last) (lens outs : List ℕ) (t : Taken) (lens′ outs′ : List ℕ) : Type 0 where
+  pub other : 0 < l .terms → termOf bytes cursor ≡ lastOf bytes l → ⊥
+  pub marked : getD cursor 2 0 ≡ 0
   pub ordinal : t .ordinal ≡ l .terms
   pub terms : t .last .terms ≡ l .terms + 1
-  pub used : t .last .bytes ≡ l .bytes + (getD row 1 0 - getD row 0 0)
-  pub from : t .last .from ≡ getD row 0 0
-  pub till : t .last .till ≡ getD row 1 0
-  pub lengths : lens′ ≡ set lens (l .terms) (getD given (getD row 3 0) 0)
-  pub texts : outs′ ≡ put (l .bytes) (termOf bytes row) outs
+  pub used : t .last .bytes ≡ l .bytes + (getD cursor 1 0 - getD cursor 0 0)
+  pub from : t .last .from ≡ getD cursor 0 0
+  pub till : t .last .till ≡ getD cursor 1 0
+  pub lengths : lens′ ≡ set lens (l .terms) (getD given (getD cursor 3 0) 0)
+  pub texts : outs′ ≡ put (l .bytes) (termOf bytes cursor) outs
 
 abbrev pub Took : List ℕ → List ℕ → List ℕ → Last → List ℕ → List ℕ → Taken → List ℕ → List ℕ → Type 0
-Took bytes row given l lens outs t lens′ outs′ =
-    Again bytes row l lens outs t lens′ outs′ ⊎ (Skipped bytes row l lens outs t lens′ outs′ ⊎ Added bytes row given l lens outs t lens′ outs′)
+Took bytes cursor given l lens outs t lens′ outs′ =
+    Again bytes cursor l lens outs t lens′ outs′ ⊎ (Skipped bytes cursor l lens outs t lens′ outs′ ⊎ Added bytes cursor given l lens outs t lens′ outs′)
 
 -- ---- what the walk needs
 
--- the first rows of up to 256 segments: their terms lie in the runs, ascend, follow one another in the map, and have room in the outputs
-pub record Ready (lengths bytes marks : List ℕ) (all : Bool) (rows : List (List ℕ)) (lens outs ords : List ℕ) : Type 0 where
-  pub size : length rows ≡ 256
-  pub row : (s : ℕ) → s < 256 → getD rows s [] ≡ rowOf lengths marks all rows s 0
-  pub low : (s : ℕ) → cell rows s 3 ≤ cell rows s 4
-  pub inside : (s : ℕ) → cell rows s 4 ≤ length lengths
-  pub marked : (s : ℕ) → all ≡ false → cell rows s 4 ≤ length marks
-  pub fits : (s : ℕ) → cell rows s 0 + sum (lensOf lengths rows s) ≤ length bytes
-  pub asc : (s : ℕ) → T (termsAscending (dictOf lengths bytes rows s))
-  pub starts : (s : ℕ) → 0 < sizeOf rows s → cell rows s 5 ≡ sumOver termsIn (take s rows)
-  pub places : sumOver termsIn rows ≤ length ords
-  pub terms : sumOver termsIn rows ≤ length lens
-  pub texts : sumOver (bytesIn lengths) rows ≤ length outs
-  pub small : sumOver (bytesIn lengths) rows < 4294967296
+-- the first cursors of up to 256 segments: their terms lie in the runs, ascend, follow one another in the map, and have room in the outputs
+pub record Ready (lengths bytes marks : List ℕ) (all : Bool) (cursors : List (List ℕ)) (lens outs ords : List ℕ) : Type 0 where
+  pub size : length cursors ≡ 256
+  pub cursor : (s : ℕ) → s < 256 → getD cursors s [] ≡ cursorOf lengths marks all cursors s 0
+  pub low : (s : ℕ) → cell cursors s 3 ≤ cell cursors s 4
+  pub inside : (s : ℕ) → cell cursors s 4 ≤ length lengths
+  pub marked : (s : ℕ) → all ≡ false → cell cursors s 4 ≤ length marks
+  pub fits : (s : ℕ) → cell cursors s 0 + sum (lensOf lengths cursors s) ≤ length bytes
+  pub asc : (s : ℕ) → T (termsAscending (dictOf lengths bytes cursors s))
+  pub starts : (s : ℕ) → 0 < leftOf cursors s → cell cursors s 5 ≡ sumOver termsIn (take s cursors)
+  pub places : sumOver termsIn cursors ≤ length ords
+  pub terms : sumOver termsIn cursors ≤ length lens
+  pub texts : sumOver (bytesIn lengths) cursors ≤ length outs
+  pub small : sumOver (bytesIn lengths) cursors < 4294967296
 
 -- ---- what it leaves
 
 -- the terms that are marked; the first one's mark stands at pos
 abbrev pub markedFrom : List ℕ → Bool → ℕ → List (List ℕ) → List (List ℕ)
 markedFrom marks all pos [] = []
-markedFrom marks all pos (t ∷ ts) = cond (eqb (rankAt marks all pos) 0) (t ∷ markedFrom marks all (suc pos) ts) (markedFrom marks all (suc pos) ts)
+markedFrom marks all pos (t ∷ ts) = cond (eqb (unmarkedAt marks all pos) 0) (t ∷ markedFrom marks all (suc pos) ts) (markedFrom marks all (suc pos) ts)
 
 -- the marked terms of n dictionaries, ascending, each once; the marks of dictionary s begin at pos s
 abbrev pub termsTo : List ℕ → Bool → (ℕ → ℕ) → (ℕ → List (List ℕ)) → ℕ → List (List ℕ)
@@ -93,15 +94,15 @@ mapTo terms dict n = joinTo (λ s. map (ordinalOf terms) (dict s)) n
 
 -- the marked terms of all segments
 unfoldable pub walkedTerms : List ℕ → List ℕ → List ℕ → Bool → List (List ℕ) → List (List ℕ)
-walkedTerms lengths bytes marks all rows = termsTo marks all (λ s. cell rows s 3) (dictOf lengths bytes rows) (length rows)
+walkedTerms lengths bytes marks all cursors = termsTo marks all (λ s. cell cursors s 3) (dictOf lengths bytes cursors) (length cursors)
 
 -- and their map
 unfoldable pub walkedMap : List ℕ → List ℕ → List ℕ → Bool → List (List ℕ) → List ℕ
-walkedMap lengths bytes marks all rows = mapTo (walkedTerms lengths bytes marks all rows) (dictOf lengths bytes rows) (length rows)
+walkedMap lengths bytes marks all cursors = mapTo (walkedTerms lengths bytes marks all cursors) (dictOf lengths bytes cursors) (length cursors)
 
--- each row past its segment's last term
-unfoldable pub walkedRows : List ℕ → List ℕ → Bool → List (List ℕ) → List (List ℕ)
-walkedRows lengths marks all rows = map (λ s. rowOf lengths marks all rows s (sizeOf rows s)) (upTo (length rows))
+-- each cursor past its segment's last term
+unfoldable pub walkedCursors : List ℕ → List ℕ → Bool → List (List ℕ) → List (List ℕ)
+walkedCursors lengths marks all cursors = map (λ s. cursorOf lengths marks all cursors s (leftOf cursors s)) (upTo (length cursors))
 
 -- the dictionary dict and the map new are written; n and m count the terms and their bytes
 pub record Merged (dict : List (List ℕ)) (new lens outs ords : List ℕ) (n m : ℕ) (lens′ outs′ ords′ : List ℕ) : Type 0 where

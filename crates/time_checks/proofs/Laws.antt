@@ -1,23 +1,25 @@
 -- The laws of the scans and walks: what each says at the next element or record, and at the end. Assumes nothing.
 use mathlib.Core.Path.{_≡_, refl}
-use mathlib.Core.Bool.{Bool, true, false, _&&_, _||_, cond}
+use mathlib.Core.Bool.{Bool, true, false, _&&_, _||_}
 use mathlib.Core.List.{List, [], _∷_, map}
-use Prim.Native.Nat.{ℕ, zero, suc, _+_, _-_, _*_, _≤_, _<_, zero-le, suc-le-suc}
-use native.Mathlib.Nat.{le-trans, le-suc}
+use Prim.Native.Nat.{ℕ, _+_, _-_, _*_, _≤_, _<_, zero-le}
 use native.Mathlib.Numerals.{add-one}
 use lib.Dec.{eqb, leb}
 use lib.ListN.{length, drop, take, getD, drop-of-length-le}
 use lib.Seq.{drop-cons}
 use borrow.Author.Tests.{eq-eqb, ne-eqb, le-leb, lt-leb}
-use Rattle.definitions.specs.Lists.{count, upFrom, notFallingFrom}
+use Rattle.definitions.specs.Lists.{notFallingFrom}
 use Rattle.definitions.specs.Segment.{SegmentRecord, aliveWords}
 use Rattle.definitions.specs.Row.{bitAt}
 use Rattle.definitions.specs.TimeOrder.{timeOf}
 use Rattle.segment.specs.declared.Record.{Record}
 use Rattle.segment.specs.Records.{structOf, recordIn, recordsOf}
-use Rattle.segment.proofs.Walk.{part-is, rest-is, records-end, records-step}
-use Rattle.column_index.specs.Lookup.{aliveCount}
+use Rattle.segment.proofs.Walk.{records-end, records-step}
+use Rattle.alive_set.specs.Alive.{aliveCount}
 use Rattle.time_checks.specs.Times.{singlesFrom, singles, timesRise, fitsTimes, timesFrom, aliveIn, aliveCountFrom}
+use Rattle.lists.proofs.Parts.{part-is, rest-is}
+use Rattle.lists.proofs.Lists.{count-most}
+use Rattle.definitions.proofs.Lists.{or-holds}
 
 -- ---- times
 
@@ -68,14 +70,6 @@ singles-end m offsets i h = rw (drop-of-length-le offsets h)
 
 -- ---- alive rows
 
-count-most : (p : ℕ → Bool) (s n : ℕ) → count p (upFrom s n) ≤ n
-count-most p s zero = zero-le
-count-most p s (suc n) = go (p s) (count-most p (suc s) n)
-  where
-    go : (b : Bool) → count p (upFrom (suc s) n) ≤ n → cond b (suc (count p (upFrom (suc s) n))) (count p (upFrom (suc s) n)) ≤ suc n
-    go true l = suc-le-suc l
-    go false l = le-trans l (le-suc n)
-
 pub alive-most : (words : List ℕ) → aliveCount words ≤ 64 * length words
 unfolding aliveCount
 alive-most words = count-most (bitAt words) 0 (64 * length words)
@@ -120,11 +114,7 @@ module _ (r : SegmentRecord) (offsets values : List ℕ) where
   type-none e = rw (eq-eqb (r .type) 255 e)
 
   pub type-time : eqb (r .type) 7 ≡ true → eqb (r .type) 255 || eqb (r .type) 7 ≡ true
-  type-time e = rw e (or-true (eqb (r .type) 255))
-    where
-      or-true : (b : Bool) → b || true ≡ true
-      or-true true = refl
-      or-true false = refl
+  type-time e = or-holds (eqb (r .type) 255) (eqb (r .type) 7) e
 
   pub times-type : (r .type ≡ 255 → ⊥) → eqb (r .type) 7 ≡ false → false ≡ fitsTimes r offsets values
   unfolding fitsTimes

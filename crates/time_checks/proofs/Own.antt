@@ -2,31 +2,32 @@
 use Prim.Native.Nat.{ℕ, zero, suc, _+_, _-_, _*_, _/_, _≤_, _<_}
 use native.Mathlib.Nat.{add-zero, zero-add}
 use native.Mathlib.Omega.{arith}
-use mathlib.Core.Path.{_≡_, refl, sym, ap, ap₂, _∙_, subst}
+use mathlib.Core.Path.{_≡_, refl, sym, ap, ap₂, _∙_}
 use mathlib.Core.List.{List, [], _∷_, map}
-use mathlib.Core.Bool.{Bool, true, false, cond, not, _&&_, _||_, true≢false}
+use mathlib.Core.Bool.{Bool, true, false, cond, not, _&&_, _||_, or-false}
 use lib.ListN.{length, take, drop, length-drop}
 use lib.Seq.{length-take-le}
 use lib.Dec.{T, eqb, ltb, leb}
 use lib.Ieee.Fits.{and-l, and-r}
-use borrow.Author.Tests.{le-leb, lt-ltb, le-ltb, not-false}
+use borrow.Author.Tests.{le-leb, lt-ltb, le-ltb}
 use Rattle.definitions.specs.Lists.{all, any, count, upFrom, upTo, sum, notFalling}
 use Rattle.definitions.specs.Segment.{Segment, SegmentRecord, Sections, Input, wordsFor, aliveWords, firstSegment, afterFirst, segmentsFrom, segmentsOf}
 use Rattle.definitions.specs.Row.{bitAt, isAlive, aliveRows, rowValues, isPresent, noType}
 use Rattle.definitions.specs.Types.{isKnownType, DateTime}
-use Rattle.definitions.specs.Answer.{total, codesWrong, aliveWrong, listsFit, listsWrong, bitPastRows, aliveAddresses}
-use Rattle.definitions.specs.TimeOrder.{TimeInput, timeOf, timesWrong, timeAnswer}
-use Rattle.definitions.proofs.Fit.{mem-upTo}
-use Rattle.definitions.proofs.Group.{any-false}
+use Rattle.definitions.specs.Checks.{Check, firstOf, Passed}
+use Rattle.definitions.specs.Answer.{total, segmentCodesWrong, codesWrong, aliveWrong, listsFit, bitPastRows, aliveAddresses, segmentChecks, plainChecks, sevenChecks}
+use Rattle.definitions.specs.TimeOrder.{TimeInput, timeOf, timesWrong, timeOwnChecks, timeChecks, timeAnswer}
+use Rattle.definitions.proofs.Accept.{lists-fit}
+use Rattle.definitions.proofs.Checks.{first-stays, first-passed, all-passed, passes}
 use Rattle.definitions.proofs.TimeOrder.{filter-count, alive-total}
 use Rattle.segment.specs.Lent.{workingOnly}
-use Rattle.sections_fit.specs.Walks.{Exact, firstSeven}
-use Rattle.sections_fit.proofs.Seven.{PassedSeven, Ready, passed, ready, seven-stop, seven-go}
-use Rattle.segment.proofs.Tests.{hit, miss}
-use Rattle.column_index.specs.Lookup.{aliveCount}
-use Rattle.column_index.proofs.Ones.{count-same, count-split}
+use Rattle.sections_fit.proofs.Seven.{Ready, ready}
+use Rattle.alive_set.specs.Alive.{aliveCount}
+use Rattle.alive_set.proofs.Ones.{count-same, count-split}
 use Rattle.time_checks.specs.Times.{singles, timesRise, fitsTimes, timesFrom, aliveIn, aliveCountFrom}
 use Rattle.time_checks.proofs.Several.{several}
+use Rattle.definitions.proofs.Lists.{mem-upTo, any-false}
+use Rattle.lists.proofs.Tests.{taken, other, neither}
 
 -- ---- 1 to 7
 
@@ -34,17 +35,12 @@ use Rattle.time_checks.proofs.Several.{several}
 abbrev pub asOrdered : TimeInput → Input
 asOrdered i = record { mode = 1; required = noType; records = i .records; sections = i .sections; addresses = []; space = workingOnly 0 }
 
--- what the checks after the seventh answer
-unfoldable pub laterAnswer : TimeInput → ℕ
-laterAnswer i = cond (ltb (i .space) (length (aliveAddresses (segmentsFrom (i .records) (i .sections))))) 11 (cond (timesWrong (segmentsFrom (i .records) (i .sections))) 12 0)
-
-or-none : (b : Bool) → b || false ≡ b
-or-none true = refl
-or-none false = refl
-
-pub time-seven : (i : TimeInput) → timeAnswer i ≡ firstSeven (asOrdered i) (laterAnswer i)
-unfolding timeAnswer firstSeven laterAnswer codesWrong aliveWrong segmentsOf isKnownType
-time-seven i = rw (or-none (any bitPastRows (segmentsFrom (i .records) (i .sections))))
+-- 1 to 7 ask the same of both
+pub plain-seven : (i : TimeInput) → sevenChecks (asOrdered i) ≡ plainChecks (i .records) (i .sections)
+unfolding codesWrong aliveWrong segmentsOf isKnownType
+plain-seven i =
+    let ss = segmentsFrom (i .records) (i .sections) in
+    ap (λ (b : Bool). segmentChecks (segmentCodesWrong ss) b (i .records) (i .sections)) (or-false (any bitPastRows ss))
 
 -- ---- 12
 
@@ -111,16 +107,12 @@ module _ (s : Segment) (words : length (s .alive) ≡ cond (eqb (s .flag) 1) (wo
           ∙ add-zero (count (bitAt (s .alive)) (upFrom 0 (s .rows))))
       go false e = count-every (isAlive s) 0 (s .rows) (λ r. ap (λ (b : Bool). cond b (bitAt (s .alive) r) true) e)
 
-or-false : (a b : Bool) → a || b ≡ false → (a ≡ false) × (b ≡ false)
-or-false true b e = absurd (true≢false e)
-or-false false b e = (refl, e)
-
 alive-sum : (rs : List SegmentRecord) (s : Sections) → total aliveWords rs ≤ length (s .alive) → any bitPastRows (segmentsFrom rs s) ≡ false
     → sum (map (λ x. length (aliveRows x)) (segmentsFrom rs s)) ≡ aliveCountFrom rs (s .alive)
 unfolding aliveCountFrom aliveIn firstSegment afterFirst aliveWords
 alive-sum [] s h e = refl
 alive-sum (r ∷ rs) s h e =
-    let t = or-false (bitPastRows (firstSegment r s)) (any bitPastRows (segmentsFrom rs (afterFirst r s))) e in
+    let t = neither (bitPastRows (firstSegment r s)) (any bitPastRows (segmentsFrom rs (afterFirst r s))) e in
     ap₂ (λ (a b : ℕ). a + b)
     (alive-is (firstSegment r s) (length-take-le (aliveWords r) (s .alive) (omega arith)) (t .0))
     (alive-sum rs (afterFirst r s) (rw (length-drop (aliveWords r) (s .alive)) (omega arith)) (t .1))
@@ -129,62 +121,49 @@ pub alive-number : (rs : List SegmentRecord) (s : Sections) → total aliveWords
     → aliveCountFrom rs (s .alive) ≡ length (aliveAddresses (segmentsFrom rs s))
 alive-number rs s h e = sym (alive-total (segmentsFrom rs s) ∙ alive-sum rs s h e)
 
--- ---- what the first seven leave
-
-pub record TimesChecked (i : TimeInput) : Type 0 where
-  pub lists : T (all listsFit (segmentsFrom (i .records) (i .sections)))
-  pub bits : any bitPastRows (segmentsFrom (i .records) (i .sections)) ≡ false
-
-pub checked : (i : TimeInput) → PassedSeven (asOrdered i) → TimesChecked i
-unfolding segmentsOf listsWrong aliveWrong
-checked i p =
-    record {
-      lists = subst T (sym (not-false (all listsFit (segmentsFrom (i .records) (i .sections))) (p .lists))) tt;
-      bits = or-false (any bitPastRows (segmentsFrom (i .records) (i .sections))) false (p .alive) .0;
-    }
-
-module _ (i : TimeInput) (p : PassedSeven (asOrdered i)) (x : Exact (i .records) (i .sections)) where
-  pub number-is : aliveCountFrom (i .records) (i .sections .alive) ≡ length (aliveAddresses (segmentsFrom (i .records) (i .sections)))
-  number-is = alive-number (i .records) (i .sections) (omega (arith, x .alive)) (checked i p .bits)
-
-  pub times-is : timesWrong (segmentsFrom (i .records) (i .sections)) ≡ not (timesFrom (i .records) (i .sections .offsets) (i .sections .values))
-  times-is = times-all (i .records) (i .sections) (checked i p .lists)
-
 -- ---- the answers, one after another
 
 module _ (i : TimeInput) where
-  pub stopped : (firstSeven (asOrdered i) 0 ≡ 0 → ⊥) → firstSeven (asOrdered i) 0 ≡ timeAnswer i
-  stopped d = seven-stop (asOrdered i) (laterAnswer i) d ∙ sym (time-seven i)
+  abbrev plain : List Check
+  plain = plainChecks (i .records) (i .sections)
 
-  module _ (e : firstSeven (asOrdered i) 0 ≡ 0) where
-    pub first-passed : PassedSeven (asOrdered i)
-    first-passed = passed (asOrdered i) 0 e .0
+  pub stopped : (firstOf (sevenChecks (asOrdered i)) ≡ 0 → ⊥) → firstOf (sevenChecks (asOrdered i)) ≡ timeAnswer i
+  unfolding timeAnswer timeChecks
+  stopped d = let e = ap firstOf (plain-seven i) in e ∙ first-stays plain (firstOf (timeOwnChecks i)) (λ z. d (e ∙ z))
 
-    pub first-ready : Ready (asOrdered i)
-    first-ready = ready (asOrdered i) first-passed
+  module _ (e : firstOf (sevenChecks (asOrdered i)) ≡ 0) where
+    pub passed : Passed (plainChecks (i .records) (i .sections))
+    passed = all-passed plain 0 tt (sym (ap firstOf (plain-seven i)) ∙ e) .0
 
-    later : timeAnswer i ≡ laterAnswer i
-    later = time-seven i ∙ seven-go (asOrdered i) (laterAnswer i) first-passed
+    pub first-ready : Ready (i .records) (i .sections)
+    first-ready = ready (i .records) (i .sections) passed
+
+    later : timeAnswer i ≡ firstOf (timeOwnChecks i)
+    unfolding timeAnswer timeChecks
+    later = first-passed plain (firstOf (timeOwnChecks i)) passed
+
+    number-is : aliveCountFrom (i .records) (i .sections .alive) ≡ length (aliveAddresses (segmentsFrom (i .records) (i .sections)))
+    number-is = alive-number (i .records) (i .sections) (omega (arith, first-ready .exact .alive)) (passes passed 6)
+
+    times-is : timesWrong (segmentsFrom (i .records) (i .sections)) ≡ not (timesFrom (i .records) (i .sections .offsets) (i .sections .values))
+    times-is = times-all (i .records) (i .sections) (lists-fit (i .records) (i .sections) passed)
 
     module _ {n : ℕ} (m : n ≡ aliveCountFrom (i .records) (i .sections .alive)) where
       alive-is-n : length (aliveAddresses (segmentsFrom (i .records) (i .sections))) ≡ n
-      alive-is-n = sym (m ∙ number-is i first-passed (first-ready .exact))
+      alive-is-n = sym (m ∙ number-is)
 
       pub too-short : i .space < n → 11 ≡ timeAnswer i
-      unfolding laterAnswer
-      too-short h = hit 11 _ (lt-ltb (i .space) (length (aliveAddresses (segmentsFrom (i .records) (i .sections)))) (rw alive-is-n h)) ∙ sym later
+      too-short h = taken 11 _ (lt-ltb (i .space) (length (aliveAddresses (segmentsFrom (i .records) (i .sections)))) (rw alive-is-n h)) ∙ sym later
 
       module _ (h : n ≤ i .space) {b : Bool} (t : b ≡ timesFrom (i .records) (i .sections .offsets) (i .sections .values)) where
         fits : ltb (i .space) (length (aliveAddresses (segmentsFrom (i .records) (i .sections)))) ≡ false
         fits = le-ltb (i .space) (length (aliveAddresses (segmentsFrom (i .records) (i .sections)))) (rw alive-is-n h)
 
         wrong : timesWrong (segmentsFrom (i .records) (i .sections)) ≡ not b
-        wrong = times-is i first-passed (first-ready .exact) ∙ ap not (sym t)
+        wrong = times-is ∙ ap not (sym t)
 
         pub unfit-times : not b ≡ true → 12 ≡ timeAnswer i
-        unfolding laterAnswer
-        unfit-times k = miss 11 fits (hit 12 0 (wrong ∙ k)) ∙ sym later
+        unfit-times k = other 11 fits (taken 12 0 (wrong ∙ k)) ∙ sym later
 
         pub accepted : not b ≡ false → 0 ≡ timeAnswer i
-        unfolding laterAnswer
-        accepted k = miss 11 fits (miss 12 (wrong ∙ k) refl) ∙ sym later
+        accepted k = other 11 fits (other 12 (wrong ∙ k) refl) ∙ sym later

@@ -5,23 +5,24 @@ use native.Mathlib.Omega.{arith}
 use mathlib.Core.Path.{_≡_, refl, sym, ap, _∙_, subst}
 use mathlib.Core.Logic.{_⊎_, inl, inr}
 use mathlib.Core.List.{List, [], _∷_}
-use mathlib.Core.Bool.{Bool, true, false, cond, not, _&&_, false≢true, true≢false}
+use mathlib.Core.Bool.{Bool, true, false, cond, not, _&&_, true≢false, and-true}
 use lib.ListN.{length, getD}
 use lib.Seq.{length-slice}
 use lib.Dec.{T, eqb, ltb, leb, ltb→lt}
-use lib.Ieee.Fits.{and-l, and-r}
 use borrow.Author.Tests.{lt-ltb, le-ltb, leb-true, leb-false}
-use Rattle.definitions.specs.Lists.{any, all, elem, isEmpty, upTo, ascending}
+use Rattle.definitions.specs.Lists.{any, elem, isEmpty, upTo, ascending}
 use Rattle.definitions.specs.Segment.{Segment, byKind}
 use Rattle.definitions.specs.Row.{rank, rowValues}
 use Rattle.definitions.specs.Answer.{listsFit, emptyFits, fullFits, optionalFits, oldFits, newFits, idsFit}
-use Rattle.definitions.proofs.Fit.{and3, mem-upTo, any-mem, rank-lt}
-use Rattle.definitions.proofs.Group.{any-none, upFrom-below}
+use Rattle.definitions.proofs.Fit.{rank-lt}
 use Rattle.column_index.specs.Lookup.{rankIn, Sound}
 use Rattle.column_index.proofs.Laws.{asc-tail, asc-at, asc-sorted, counted, row-slice}
-use Rattle.column_index.proofs.Sound.{cursorOf, cell-cursor, cursor-le, at-new, rank-suc}
+use Rattle.column_index.proofs.Sound.{earlierOf, cell-earlier, earlier-le, at-new, rank-suc}
 use Rattle.column_index.proofs.Walk.{fits-sound}
 use Rattle.time_checks.specs.Times.{singlesFrom, singles}
+use Rattle.definitions.proofs.Lists.{and3, mem-upTo, any-mem, any-none, upFrom-below}
+use Rattle.lists.proofs.Tests.{both-true}
+use Rattle.lists.proofs.Lists.{all-at, none-is}
 
 -- ---- steps of a list
 
@@ -29,17 +30,8 @@ pub singles-at : (m : ℕ) (os : List ℕ) (k : ℕ) → singlesFrom m os ≡ tr
 unfolding singlesFrom
 singles-at m [] k e h = absurd (not-suc-le-zero h)
 singles-at m (o ∷ []) k e h = absurd (not-suc-le-zero (le-of-suc-le-suc h))
-singles-at m (o ∷ p ∷ ps) zero e h = leb-true p (o + 1) (first (leb o (m + 1)) (leb p (o + 1)) (singlesFrom p ps) e)
-  where
-    first : (a b c : Bool) → a && (b && c) ≡ true → b ≡ true
-    first true true c e = refl
-    first true false c e = e
-    first false b c e = absurd (false≢true e)
-singles-at m (o ∷ p ∷ ps) (suc k) e h = singles-at o (p ∷ ps) k (rest (leb o (m + 1)) (singlesFrom o (p ∷ ps)) e) (le-of-suc-le-suc h)
-  where
-    rest : (a b : Bool) → a && b ≡ true → b ≡ true
-    rest true b e = e
-    rest false b e = absurd (false≢true e)
+singles-at m (o ∷ p ∷ ps) zero e h = leb-true p (o + 1) (both-true (leb p (o + 1)) (singlesFrom p ps) (both-true (leb o (m + 1)) (leb p (o + 1) && singlesFrom p ps) e .1) .0)
+singles-at m (o ∷ p ∷ ps) (suc k) e h = singles-at o (p ∷ ps) k (both-true (leb o (m + 1)) (singlesFrom o (p ∷ ps)) e .1) (le-of-suc-le-suc h)
 
 -- a step above 1
 abbrev Step : List ℕ → Type 0
@@ -48,11 +40,7 @@ Step os = (k : ℕ) × (suc k < length os) × (getD os k 0 + 1 < getD os (suc k)
 singles-not : (m : ℕ) (os : List ℕ) → singlesFrom m os ≡ false → (m + 1 < getD os 0 0) ⊎ Step os
 unfolding singlesFrom
 singles-not m [] e = absurd (true≢false e)
-singles-not m (o ∷ []) e = inl (leb-false o (m + 1) (one (leb o (m + 1)) e))
-  where
-    one : (a : Bool) → a && true ≡ false → a ≡ false
-    one true e = e
-    one false e = refl
+singles-not m (o ∷ []) e = inl (leb-false o (m + 1) (sym (and-true (leb o (m + 1))) ∙ e))
 singles-not m (o ∷ p ∷ ps) e = go (leb o (m + 1)) refl e (λ f. singles-not o (p ∷ ps) f)
   where
     later : (o + 1 < p) ⊎ Step (p ∷ ps) → (m + 1 < o) ⊎ Step (o ∷ p ∷ ps)
@@ -84,15 +72,15 @@ module _ (ids : List ℕ) (asc : T (ascending ids)) (k : ℕ) (h : k < length id
 
 -- how many values a row has, by its cursors
 pub row-width : (s : Segment) → Sound (s .kind) (s .rows) (length (s .values)) (s .ids) (s .offsets) → (r : ℕ) → r < s .rows
-    → length (rowValues s r) ≡ cursorOf (s .kind) (s .ids) (s .offsets) (suc r) - cursorOf (s .kind) (s .ids) (s .offsets) r
+    → length (rowValues s r) ≡ earlierOf (s .kind) (s .ids) (s .offsets) (suc r) - earlierOf (s .kind) (s .ids) (s .offsets) r
 row-width s so r h =
-    ap length (row-slice s r ∙ cell-cursor (s .kind) (s .ids) (s .offsets) (s .values) r (so .ascends))
-    ∙ length-slice (cursorOf (s .kind) (s .ids) (s .offsets) r) (cursorOf (s .kind) (s .ids) (s .offsets) (suc r)) (s .values) (cursor-le so (suc r) h)
+    ap length (row-slice s r ∙ cell-earlier (s .kind) (s .ids) (s .offsets) (s .values) r (so .ascends))
+    ∙ length-slice (earlierOf (s .kind) (s .ids) (s .offsets) r) (earlierOf (s .kind) (s .ids) (s .offsets) (suc r)) (s .values) (earlier-le so (suc r) h)
 
 module _ {kind rows n : ℕ} {ids offsets : List ℕ} (so : Sound kind rows n ids offsets) where
   -- small steps: no row has several
-  few : singles offsets ≡ true → (r : ℕ) → r < rows → cursorOf kind ids offsets (suc r) - cursorOf kind ids offsets r ≤ 1
-  unfolding cursorOf singles
+  few : singles offsets ≡ true → (r : ℕ) → r < rows → earlierOf kind ids offsets (suc r) - earlierOf kind ids offsets r ≤ 1
+  unfolding earlierOf singles
   few e r h = rw (rank-suc r ids (so .ascends)) (go kind (elem r ids) refl refl)
     where
       step : (j : ℕ) → suc j < length offsets → getD offsets (suc j) 0 - getD offsets j 0 ≤ 1
@@ -114,8 +102,8 @@ module _ {kind rows n : ℕ} {ids offsets : List ℕ} (so : Sound kind rows n id
           (omega arith)
 
   -- a step above 1: the row that has it
-  many : (kind ≡ 0 → ⊥) → (kind ≡ 1 → ⊥) → (kind ≡ 2 → ⊥) → Step offsets → (r : ℕ) × (r < rows) × (1 < cursorOf kind ids offsets (suc r) - cursorOf kind ids offsets r)
-  unfolding cursorOf
+  many : (kind ≡ 0 → ⊥) → (kind ≡ 1 → ⊥) → (kind ≡ 2 → ⊥) → Step offsets → (r : ℕ) × (r < rows) × (1 < earlierOf kind ids offsets (suc r) - earlierOf kind ids offsets r)
+  unfolding earlierOf
   many d0 d1 d2 (j, h, l) = go kind refl
     where
       go : (k : ℕ) → kind ≡ k
@@ -139,11 +127,6 @@ module _ {kind rows n : ℕ} {ids offsets : List ℕ} (so : Sound kind rows n id
             )
                 (omega arith),
           )
-        where
-          all-at : (p : ℕ → Bool) (l : List ℕ) (i d : ℕ) → T (all p l) → i < length l → T (p (getD l i d))
-          all-at p [] i d h k = absurd (not-suc-le-zero k)
-          all-at p (x ∷ xs) zero d h k = and-l (p x) (all p xs) h
-          all-at p (x ∷ xs) (suc i) d h k = all-at p xs i d (and-r (p x) (all p xs) h) (le-of-suc-le-suc k)
 
 -- ---- all rows
 
@@ -156,14 +139,10 @@ module _ (s : Segment) (fit : T (listsFit s)) where
   unfolding listsFit emptyFits fullFits optionalFits
   bare h = go (s .kind) fit h
     where
-      none : (l : List ℕ) → T (isEmpty l) → l ≡ []
-      none [] t = refl
-      none (x ∷ xs) t = absurd t
-
       go : (k : ℕ) → T (byKind k (emptyFits s) (fullFits s) (optionalFits s) (oldFits s) (newFits s)) → k < 3 → s .offsets ≡ []
-      go zero f h = none (s .offsets) (and3 (isEmpty (s .ids)) (isEmpty (s .offsets)) (isEmpty (s .values)) f .1)
-      go (suc zero) f h = none (s .offsets) (and3 (isEmpty (s .ids)) (isEmpty (s .offsets)) (eqb (length (s .values)) (s .rows)) f .1)
-      go (suc (suc zero)) f h = none (s .offsets) (and3 (idsFit s) (isEmpty (s .offsets)) (eqb (length (s .values)) (length (s .ids))) f .1)
+      go zero f h = none-is (s .offsets) (and3 (isEmpty (s .ids)) (isEmpty (s .offsets)) (isEmpty (s .values)) f .1)
+      go (suc zero) f h = none-is (s .offsets) (and3 (isEmpty (s .ids)) (isEmpty (s .offsets)) (eqb (length (s .values)) (s .rows)) f .1)
+      go (suc (suc zero)) f h = none-is (s .offsets) (and3 (idsFit s) (isEmpty (s .offsets)) (eqb (length (s .values)) (length (s .ids))) f .1)
       go (suc (suc (suc k))) f h = absurd (omega arith)
 
   starts : getD (s .offsets) 0 0 ≡ 0

@@ -10,7 +10,7 @@ use Rattle.definitions.specs.Row.{noType}
 use Rattle.definitions.specs.Types.{DateTime}
 use Rattle.definitions.specs.TimeOrder.{timeOf}
 use Rattle.definitions.specs.Answer.{total}
-use Rattle.column_index.specs.Lookup.{aliveCount}
+use Rattle.alive_set.specs.Alive.{aliveCount}
 
 -- ---- 12
 

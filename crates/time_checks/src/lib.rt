@@ -98,7 +98,7 @@ fn alive_in(r: segment::Record, alive: &[u64]) -> usize
 {
     let rows = r.rows;
     if r.flag == 1 {
-        return column_index::count_alive(alive);
+        return alive_set::count_alive(alive);
     }
     segment::wide(rows)
 }

@@ -1,4 +1,4 @@
--- The placed segments: their rows of six numbers, their keys, and what the heap's order says of these. Assumes nothing.
+-- The placed segments: their cursors, their keys, and what the heap's order says of these. Assumes nothing.
 use Prim.Native.Nat.{ℕ, zero, suc, _-_, _≤_, _<_, zero-le, suc-le-suc}
 use native.Mathlib.Nat.{le-refl, not-suc-le-zero}
 use native.Mathlib.Omega.{arith}
@@ -9,11 +9,11 @@ use lib.ListN.{length, getD, take, drop, List·getD-eq-default}
 use lib.Dec.{T}
 use borrow.Author.Tests.{lt-ltb, le-ltb}
 use Rattle.definitions.specs.Lists.{notFalling}
-use Rattle.definitions.specs.Segment.{Segment}
+use Rattle.definitions.specs.Segment.{Segment, address as at}
 use Rattle.definitions.specs.Row.{rowValues}
 use Rattle.definitions.specs.Join.{absent}
 use Rattle.definitions.specs.TimeOrder.{timeOf, keyOf}
-use Rattle.definitions.proofs.Terms.{Before, shorter, lower, behind}
+use Rattle.definitions.proofs.Terms.{Before, lower, behind, before-some}
 use Rattle.column_index.specs.Lookup.{rankIn, Sound}
 use Rattle.places.specs.Place.{kindAt, rowsAt, idsAt, offsetsAt, valuesAt}
 use Rattle.places.specs.Places.{table}
@@ -21,81 +21,76 @@ use Rattle.places.proofs.Fill.{table-length, table-at}
 use Rattle.term_merger.specs.Order.{tieOf}
 use Rattle.term_merger.specs.Order as heap
 use Rattle.term_merger.proofs.Laws.{LE}
-use Rattle.term_merger.proofs.Begun.{le-lt}
-use Rattle.time_rows.specs.Rows.{lastKey, valuesUntil, keyRow, rowAt, segmentIn}
-use Rattle.time_rows.proofs.Parts.{run-length, until-cursor}
-use Rattle.time_rows.proofs.Keys.{key-cursor, key-grows}
+use Rattle.time_cursors.specs.Cursors.{lastKey, valuesUntil, keyCursor, cursorAt, segmentIn}
+use Rattle.time_cursors.proofs.Parts.{until-earlier}
+use Rattle.time_cursors.proofs.Keys.{key-earlier, key-grows}
 use Rattle.time_merge.specs.Order.{placed, placedSegments, Ready, Rising}
-use Rattle.time_merge.proofs.Standing.{at}
+use Rattle.lists.proofs.Numbers.{le-lt}
+use Rattle.lists.proofs.Parts.{run-length}
 
--- ---- the six numbers
+-- ---- the cursor's numbers
 
-key-3 : (key n rows k : ℕ) → getD (keyRow key n rows k) 3 0 ≡ n
-unfolding keyRow
+key-3 : (key n rows k : ℕ) → getD (keyCursor key n rows k) 3 0 ≡ n
+unfolding keyCursor
 key-3 zero n rows k = refl
 key-3 (suc t) n rows k = refl
 
-key-4 : (key n rows k : ℕ) → getD (keyRow key n rows k) 4 0 ≡ rows
-unfolding keyRow
+key-4 : (key n rows k : ℕ) → getD (keyCursor key n rows k) 4 0 ≡ rows
+unfolding keyCursor
 key-4 zero n rows k = refl
 key-4 (suc t) n rows k = refl
 
-key-5 : (key n rows k : ℕ) → getD (keyRow key n rows k) 5 0 ≡ k
-unfolding keyRow
+key-5 : (key n rows k : ℕ) → getD (keyCursor key n rows k) 5 0 ≡ k
+unfolding keyCursor
 key-5 zero n rows k = refl
 key-5 (suc t) n rows k = refl
 
-key-readable : (key n rows k : ℕ) → (getD (keyRow key n rows k) 0 0 ≤ getD (keyRow key n rows k) 1 0) × (getD (keyRow key n rows k) 1 0 ≤ 1)
-unfolding keyRow
+key-readable : (key n rows k : ℕ) → (getD (keyCursor key n rows k) 0 0 ≤ getD (keyCursor key n rows k) 1 0) × (getD (keyCursor key n rows k) 1 0 ≤ 1)
+unfolding keyCursor
 key-readable zero n rows k = (zero-le, zero-le)
 key-readable (suc t) n rows k = (zero-le, le-refl 1)
 
--- the key that a row of six numbers has, where a row is left
+-- the key that a cursor has, where a row is left
 abbrev pub keyAt : Segment → ℕ → ℕ
 keyAt s n = lastKey (s .values) (valuesUntil (s .kind) (s .offsets) n (rankIn (suc n) (s .ids)))
 
 module _ (s : Segment) (n : ℕ) where
-  pub row-left : n < s .rows → rowAt s n ≡ keyRow (keyAt s n) n (s .rows) (rankIn (suc n) (s .ids))
-  unfolding rowAt
-  row-left h = rw (lt-ltb n (s .rows) h)
+  pub cursor-left : n < s .rows → cursorAt s n ≡ keyCursor (keyAt s n) n (s .rows) (rankIn (suc n) (s .ids))
+  unfolding cursorAt
+  cursor-left h = rw (lt-ltb n (s .rows) h)
 
-  pub row-over : s .rows ≤ n → rowAt s n ≡ keyRow 0 (s .rows) (s .rows) 0
-  unfolding rowAt
-  row-over h = rw (le-ltb n (s .rows) h)
+  pub cursor-over : s .rows ≤ n → cursorAt s n ≡ keyCursor 0 (s .rows) (s .rows) 0
+  unfolding cursorAt
+  cursor-over h = rw (le-ltb n (s .rows) h)
 
-  pub row-3 : n ≤ s .rows → getD (rowAt s n) 3 0 ≡ n
-  row-3 l = go (le-lt n (s .rows))
+  pub cursor-3 : n ≤ s .rows → getD (cursorAt s n) 3 0 ≡ n
+  cursor-3 l = go (le-lt n (s .rows))
     where
-      go : (n < s .rows) ⊎ (s .rows ≤ n) → getD (rowAt s n) 3 0 ≡ n
-      go (inl h) = ap (λ (r : List ℕ). getD r 3 0) (row-left h) ∙ key-3 (keyAt s n) n (s .rows) (rankIn (suc n) (s .ids))
-      go (inr h) = ap (λ (r : List ℕ). getD r 3 0) (row-over h) ∙ key-3 0 (s .rows) (s .rows) 0 ∙ (let e : s .rows ≡ n = omega arith in e)
+      go : (n < s .rows) ⊎ (s .rows ≤ n) → getD (cursorAt s n) 3 0 ≡ n
+      go (inl h) = ap (λ (r : List ℕ). getD r 3 0) (cursor-left h) ∙ key-3 (keyAt s n) n (s .rows) (rankIn (suc n) (s .ids))
+      go (inr h) = ap (λ (r : List ℕ). getD r 3 0) (cursor-over h) ∙ key-3 0 (s .rows) (s .rows) 0 ∙ (let e : s .rows ≡ n = omega arith in e)
 
-  pub row-4 : getD (rowAt s n) 4 0 ≡ s .rows
-  row-4 = go (le-lt n (s .rows))
+  pub cursor-4 : getD (cursorAt s n) 4 0 ≡ s .rows
+  cursor-4 = go (le-lt n (s .rows))
     where
-      go : (n < s .rows) ⊎ (s .rows ≤ n) → getD (rowAt s n) 4 0 ≡ s .rows
-      go (inl h) = ap (λ (r : List ℕ). getD r 4 0) (row-left h) ∙ key-4 (keyAt s n) n (s .rows) (rankIn (suc n) (s .ids))
-      go (inr h) = ap (λ (r : List ℕ). getD r 4 0) (row-over h) ∙ key-4 0 (s .rows) (s .rows) 0
+      go : (n < s .rows) ⊎ (s .rows ≤ n) → getD (cursorAt s n) 4 0 ≡ s .rows
+      go (inl h) = ap (λ (r : List ℕ). getD r 4 0) (cursor-left h) ∙ key-4 (keyAt s n) n (s .rows) (rankIn (suc n) (s .ids))
+      go (inr h) = ap (λ (r : List ℕ). getD r 4 0) (cursor-over h) ∙ key-4 0 (s .rows) (s .rows) 0
 
-  pub row-5 : n < s .rows → getD (rowAt s n) 5 0 ≡ rankIn (suc n) (s .ids)
-  row-5 h = ap (λ (r : List ℕ). getD r 5 0) (row-left h) ∙ key-5 (keyAt s n) n (s .rows) (rankIn (suc n) (s .ids))
+  pub cursor-5 : n < s .rows → getD (cursorAt s n) 5 0 ≡ rankIn (suc n) (s .ids)
+  cursor-5 h = ap (λ (r : List ℕ). getD r 5 0) (cursor-left h) ∙ key-5 (keyAt s n) n (s .rows) (rankIn (suc n) (s .ids))
 
-  pub row-readable : (getD (rowAt s n) 0 0 ≤ getD (rowAt s n) 1 0) × (getD (rowAt s n) 1 0 ≤ 1)
-  row-readable = go (le-lt n (s .rows))
+  pub cursor-readable : (getD (cursorAt s n) 0 0 ≤ getD (cursorAt s n) 1 0) × (getD (cursorAt s n) 1 0 ≤ 1)
+  cursor-readable = go (le-lt n (s .rows))
     where
       Fits : List ℕ → Type 0
       Fits r = (getD r 0 0 ≤ getD r 1 0) × (getD r 1 0 ≤ 1)
 
-      go : (n < s .rows) ⊎ (s .rows ≤ n) → Fits (rowAt s n)
-      go (inl h) = subst Fits (sym (row-left h)) (key-readable (keyAt s n) n (s .rows) (rankIn (suc n) (s .ids)))
-      go (inr h) = subst Fits (sym (row-over h)) (key-readable 0 (s .rows) (s .rows) 0)
+      go : (n < s .rows) ⊎ (s .rows ≤ n) → Fits (cursorAt s n)
+      go (inl h) = subst Fits (sym (cursor-left h)) (key-readable (keyAt s n) n (s .rows) (rankIn (suc n) (s .ids)))
+      go (inr h) = subst Fits (sym (cursor-over h)) (key-readable 0 (s .rows) (s .rows) 0)
 
 -- ---- the heap's order is that of the keys, then of the segments' numbers
-
-before-some : (u v : List ℕ) → Before u v → 0 < length v
-before-some u v shorter = suc-le-suc zero-le
-before-some u v (lower h) = suc-le-suc zero-le
-before-some u v (behind h) = suc-le-suc zero-le
 
 before-nil : (u : List ℕ) → Before u [] → ⊥
 before-nil u b = not-suc-le-zero (before-some u [] b)
@@ -119,13 +114,13 @@ tie-number t u x y (inr e) =
     let g : x ≡ y = ap (λ (l : List ℕ). getD l 1 0) e in
     inr (f, omega arith)
 
--- the term of a row of six numbers, in the one byte that is lent
+-- the term of a cursor, in the one byte that is lent
 abbrev termOf : List ℕ → List ℕ
 termOf r = take (getD r 1 0 - getD r 0 0) (drop (getD r 0 0) (0 ∷ []))
 
 key-order : (k l x y n m : ℕ) (p q i j : ℕ)
-    → LE (termOf (keyRow k n p i)) (getD (keyRow k n p i) 2 0 ∷ x ∷ []) (termOf (keyRow l m q j)) (getD (keyRow l m q j) 2 0 ∷ y ∷ []) → (k < l) ⊎ ((k ≡ l) × (x ≤ y))
-unfolding keyRow
+    → LE (termOf (keyCursor k n p i)) (getD (keyCursor k n p i) 2 0 ∷ x ∷ []) (termOf (keyCursor l m q j)) (getD (keyCursor l m q j) 2 0 ∷ y ∷ []) → (k < l) ⊎ ((k ≡ l) × (x ≤ y))
+unfolding keyCursor
 key-order zero zero x y n m p q i j (inl b) = absurd (before-nil [] b)
 key-order zero zero x y n m p q i j (inr (e, t)) = go (tie-number 0 0 x y t)
   where
@@ -145,13 +140,13 @@ key-order (suc t) (suc u) x y n m p q i j (inr (e, b)) = go (tie-number t u x y 
     go (inl h) = inl (suc-le-suc h)
     go (inr (e, h)) = inr (ap suc e, h)
 
-pub rows-order : (rows : List (List ℕ)) (s y : ℕ) (k l n m p q i j : ℕ) → getD rows s [] ≡ keyRow k n p i → getD rows y [] ≡ keyRow l m q j
-    → LE (heap.keyOf (0 ∷ []) rows s) (tieOf rows s) (heap.keyOf (0 ∷ []) rows y) (tieOf rows y) → (k < l) ⊎ ((k ≡ l) × (s ≤ y))
+pub cursors-order : (cursors : List (List ℕ)) (s y : ℕ) (k l n m p q i j : ℕ) → getD cursors s [] ≡ keyCursor k n p i → getD cursors y [] ≡ keyCursor l m q j
+    → LE (heap.keyOf (0 ∷ []) cursors s) (tieOf cursors s) (heap.keyOf (0 ∷ []) cursors y) (tieOf cursors y) → (k < l) ⊎ ((k ≡ l) × (s ≤ y))
 unfolding heap.keyOf
-rows-order rows s y k l n m p q i j e f h =
+cursors-order cursors s y k l n m p q i j e f h =
     key-order k l s y n m p q i j
-    (subst (λ (r : List ℕ). LE (termOf (keyRow k n p i)) (getD (keyRow k n p i) 2 0 ∷ s ∷ []) (termOf r) (getD r 2 0 ∷ y ∷ [])) f
-    (subst (λ (r : List ℕ). LE (termOf r) (getD r 2 0 ∷ s ∷ []) (termOf (getD rows y [])) (getD (getD rows y []) 2 0 ∷ y ∷ [])) e h))
+    (subst (λ (r : List ℕ). LE (termOf (keyCursor k n p i)) (getD (keyCursor k n p i) 2 0 ∷ s ∷ []) (termOf r) (getD r 2 0 ∷ y ∷ [])) f
+    (subst (λ (r : List ℕ). LE (termOf r) (getD r 2 0 ∷ s ∷ []) (termOf (getD cursors y [])) (getD (getD cursors y []) 2 0 ∷ y ∷ [])) e h))
 
 -- ---- the segments and their keys
 
@@ -161,30 +156,30 @@ record Keyed (s : Segment) : Type 0 where
   single : (r : ℕ) → r < s .rows → length (rowValues s r) ≤ 1
   rising : T (notFalling (map timeOf (s .values)))
 
-module _ {places sets : List (List ℕ)} {ids offsets values alive : List ℕ} (y : Ready places sets ids offsets values alive) where
-  pub segment-there : (x : ℕ) → x < length places → getD (placedSegments places sets ids offsets values alive) x absent ≡ placed places sets ids offsets values alive x
+module _ {places alives : List (List ℕ)} {ids offsets values alive : List ℕ} (y : Ready places alives ids offsets values alive) where
+  pub segment-there : (x : ℕ) → x < length places → getD (placedSegments places alives ids offsets values alive) x absent ≡ placed places alives ids offsets values alive x
   unfolding placedSegments
-  segment-there x h = table-at (placed places sets ids offsets values alive) absent (length places) x h
+  segment-there x h = table-at (placed places alives ids offsets values alive) absent (length places) x h
 
-  pub segment-none : (x : ℕ) → length places ≤ x → getD (placedSegments places sets ids offsets values alive) x absent ≡ absent
+  pub segment-none : (x : ℕ) → length places ≤ x → getD (placedSegments places alives ids offsets values alive) x absent ≡ absent
   unfolding placedSegments
   segment-none x h =
-      let l : length (table (placed places sets ids offsets values alive) (length places)) ≤ x = omega (arith, table-length (placed places sets ids offsets values alive) (length places)) in
-      List·getD-eq-default (table (placed places sets ids offsets values alive) (length places)) absent l
+      let l : length (table (placed places alives ids offsets values alive) (length places)) ≤ x = omega (arith, table-length (placed places alives ids offsets values alive) (length places)) in
+      List·getD-eq-default (table (placed places alives ids offsets values alive) (length places)) absent l
 
-  pub rows-there : (x : ℕ) → x < length places → getD (placedSegments places sets ids offsets values alive) x absent .rows ≡ rowsAt (getD places x [])
+  pub rows-there : (x : ℕ) → x < length places → getD (placedSegments places alives ids offsets values alive) x absent .rows ≡ rowsAt (getD places x [])
   unfolding segmentIn
   rows-there x h = ap (λ (s : Segment). s .rows) (segment-there x h)
 
-  pub there : (x : ℕ) → 0 < getD (placedSegments places sets ids offsets values alive) x absent .rows → x < length places
+  pub there : (x : ℕ) → 0 < getD (placedSegments places alives ids offsets values alive) x absent .rows → x < length places
   there x h = go (le-lt x (length places))
     where
       go : (x < length places) ⊎ (length places ≤ x) → x < length places
       go (inl k) = k
-      go (inr k) = absurd (let e : getD (placedSegments places sets ids offsets values alive) x absent .rows ≡ 0 = ap (λ (s : Segment). s .rows) (segment-none x k) in omega arith)
+      go (inr k) = absurd (let e : getD (placedSegments places alives ids offsets values alive) x absent .rows ≡ 0 = ap (λ (s : Segment). s .rows) (segment-none x k) in omega arith)
 
-  module _ {out : List (List ℕ)} (z : Rising places sets ids offsets values alive out) where
-    keyed-place : (x : ℕ) → x < length places → Keyed (placed places sets ids offsets values alive x)
+  module _ {out : List (List ℕ)} (z : Rising places alives ids offsets values alive out) where
+    keyed-place : (x : ℕ) → x < length places → Keyed (placed places alives ids offsets values alive x)
     unfolding segmentIn
     keyed-place x h =
         let t = y .timed x h in
@@ -195,22 +190,22 @@ module _ {places sets : List (List ℕ)} {ids offsets values alive : List ℕ} (
           rising = z .rising x h;
         }
 
-    keyed : (x : ℕ) → x < length places → Keyed (getD (placedSegments places sets ids offsets values alive) x absent)
+    keyed : (x : ℕ) → x < length places → Keyed (getD (placedSegments places alives ids offsets values alive) x absent)
     keyed x h = subst Keyed (sym (segment-there x h)) (keyed-place x h)
 
-    -- the key in the row of six numbers is the definitions'
-    pub key-is : (x n : ℕ) → n < getD (placedSegments places sets ids offsets values alive) x absent .rows
-        → keyAt (getD (placedSegments places sets ids offsets values alive) x absent) n ≡ keyOf (placedSegments places sets ids offsets values alive) (at x n)
+    -- the key in the cursor is the definitions'
+    pub key-is : (x n : ℕ) → n < getD (placedSegments places alives ids offsets values alive) x absent .rows
+        → keyAt (getD (placedSegments places alives ids offsets values alive) x absent) n ≡ keyOf (placedSegments places alives ids offsets values alive) (at x n)
     unfolding keyOf
     key-is x n h =
-        let s = getD (placedSegments places sets ids offsets values alive) x absent in
+        let s = getD (placedSegments places alives ids offsets values alive) x absent in
         let k = keyed x (there x (omega arith)) in
-        ap (lastKey (s .values)) (until-cursor (s .kind) (s .ids) (s .offsets) n) ∙ sym (key-cursor s (k .sound) (k .single) (suc n) h)
+        ap (lastKey (s .values)) (until-earlier (s .kind) (s .ids) (s .offsets) n) ∙ sym (key-earlier s (k .sound) (k .single) (suc n) h)
 
-    pub keys-grow : (x n m : ℕ) → n ≤ m → m < getD (placedSegments places sets ids offsets values alive) x absent .rows
-        → keyOf (placedSegments places sets ids offsets values alive) (at x n) ≤ keyOf (placedSegments places sets ids offsets values alive) (at x m)
+    pub keys-grow : (x n m : ℕ) → n ≤ m → m < getD (placedSegments places alives ids offsets values alive) x absent .rows
+        → keyOf (placedSegments places alives ids offsets values alive) (at x n) ≤ keyOf (placedSegments places alives ids offsets values alive) (at x m)
     unfolding keyOf
     keys-grow x n m h l =
-        let s = getD (placedSegments places sets ids offsets values alive) x absent in
+        let s = getD (placedSegments places alives ids offsets values alive) x absent in
         let k = keyed x (there x (omega arith)) in
         key-grows s (k .sound) (k .single) (k .rising) (suc n) (suc m) (suc-le-suc h) l

@@ -10,20 +10,17 @@ use lib.ListN.{length, getD, length-append, List·getD-eq-default}
 use lib.Dec.{eqb, ltb, leb}
 use borrow.Author.Tests.{eq-eqb, ne-eqb, lt-ltb, le-ltb, le-leb, lt-leb, leb-true, leb-false}
 use Rattle.definitions.specs.Lists.{filter}
-use Rattle.definitions.specs.Segment.{Segment, Address}
+use Rattle.definitions.specs.Segment.{Segment, Address, address as at}
 use Rattle.definitions.specs.Row.{isAlive}
 use Rattle.definitions.specs.Join.{absent, stackedFrom}
 use Rattle.definitions.specs.Answer.{sameAddress, isAliveAt, aliveAddresses}
 use Rattle.definitions.specs.TimeOrder.{keyOf, isBefore, sortAddresses, timeOrder}
 use Rattle.definitions.proofs.TimeOrder.{Alive, alive-back, alive-at, alive-once, filter-same, filter-nothing, take-first}
-use Rattle.term_merger.proofs.Laws.{same?}
-use Rattle.term_merger.proofs.Begun.{le-lt}
-use Rattle.time_rows.specs.Rows.{nextRow}
-use Rattle.time_rows.proofs.Laws.{seek-found, seek-first}
-use Rattle.time_rows.proofs.Parts.{next-low, next-high}
-
-abbrev pub at : ℕ → ℕ → Address
-at x r = record { segment = x; row = r }
+use Rattle.time_cursors.specs.Cursors.{nextRow}
+use Rattle.time_cursors.proofs.Laws.{seek-found, seek-first}
+use Rattle.time_cursors.proofs.Parts.{next-low, next-high}
+use Rattle.lists.proofs.Numbers.{same?, le-lt}
+use Rattle.definitions.proofs.Lists.{and-fails}
 
 -- ---- the order of two addresses
 
@@ -140,13 +137,9 @@ module _ (ss : List Segment) where
     unfolding left
     left-a = rw (alive-at ss (at s (P s)) alive-a, le-leb (P s) (P s) (le-refl (P s)))
 
-    and-no : (b c : Bool) → c ≡ false → b && c ≡ false
-    and-no true c e = e
-    and-no false c e = refl
-
     gone-a : left P′ (at s (P s)) ≡ false
     unfolding left
-    gone-a = and-no (isAliveAt ss (at s (P s))) (leb (P′ s) (P s)) (lt-leb (P′ s) (P s) (rw (bump-here P s (next s (P s + 1)) s refl) (omega (arith, after))))
+    gone-a = and-fails (isAliveAt ss (at s (P s))) (leb (P′ s) (P s)) (lt-leb (P′ s) (P s) (rw (bump-here P s (next s (P s + 1)) s refl) (omega (arith, after))))
 
     other-row : (b : Address) → sameAddress (at s (P s)) b ≡ false → b .segment ≡ s → b .row ≡ P s → ⊥
     other-row b d e f = true≢false (sym (rw (eq-eqb s (b .segment) (sym e), eq-eqb (P s) (b .row) (sym f)) refl) ∙ d)

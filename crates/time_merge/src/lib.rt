@@ -7,73 +7,83 @@ ghost use lib.ListN.{length, replicate};
 ghost use Rattle.definitions.specs.TimeOrder.{timeOrder};
 ghost use Rattle.term_merger.specs.Live.{Started};
 ghost use Rattle.time_merge.specs.Order.{placedSegments, timeWritten, Ready, Rising, Begins, Ends};
+use term_merger::Cursor;
 use term_merger::Heap;
 
-// The first row of each segment.
-pub fn fill_rows(
+// The first cursor of each segment.
+pub fn fill_cursors(
     places: &[[usize; 8]],
-    sets: &[[usize; 3]],
+    alives: &[[usize; 3]],
     ids: &[u32],
     offsets: &[u32],
     values: &[u64],
     alive: &[u64],
-    rows: &mut [[usize; 6]],
+    cursors: &mut [Cursor],
 )
-    requires { ⌜ Ready (now places) (now sets) (now ids) (now offsets) (now values) (now alive) ⌝ }
-    requires { ⌜ now rows ≡ replicate 256 (replicate 6 0) ⌝ }
-    ensures { λ _. ⌜ Begins (placedSegments (now (places .entry)) (now (sets .entry)) (now (ids .entry)) (now (offsets .entry)) (now (values .entry)) (now (alive .entry))) (now (rows .exit)) ⌝ }
+    requires { ⌜ Ready (now places) (now alives) (now ids) (now offsets) (now values) (now alive) ⌝ }
+    requires { ⌜ now cursors ≡ replicate 256 (replicate 6 0) ⌝ }
+    ensures { λ _. ⌜ Begins (placedSegments (now (places .entry)) (now (alives .entry)) (now (ids .entry)) (now (offsets .entry)) (now (values .entry)) (now (alive .entry))) (now (cursors .exit)) ⌝ }
 {
     let mut s: usize = 0;
     while s < places.len() {
-        rows[s] = time_rows::first_from(places[s], sets[s], ids, offsets, values, alive, 0, 0);
+        cursors[s] = time_cursors::first_from(
+            places[s],
+            alives[s],
+            ids,
+            offsets,
+            values,
+            alive,
+            0,
+            0,
+        );
         s += 1;
     }
 }
 
-// The first of the segments' rows is written again and again, and its segment goes on to its next alive row. The one byte of `first` is what
+// The row of the first of the segments' cursors is written again and again, and its segment goes on to its next alive row. The one byte of `first` is what
 // terms are made of.
 pub fn merge(
     heap: Heap,
     first: &[u8],
     places: &[[usize; 8]],
-    sets: &[[usize; 3]],
+    alives: &[[usize; 3]],
     ids: &[u32],
     offsets: &[u32],
     values: &[u64],
     alive: &[u64],
-    rows: &mut [[usize; 6]],
+    cursors: &mut [Cursor],
     out: &mut [[u32; 2]],
 ) -> usize
-    requires { ⌜ Ready (now places) (now sets) (now ids) (now offsets) (now values) (now alive) ⌝ }
-    requires { ⌜ Rising (now places) (now sets) (now ids) (now offsets) (now values) (now alive) (now out) ⌝ }
+    requires { ⌜ Ready (now places) (now alives) (now ids) (now offsets) (now values) (now alive) ⌝ }
+    requires { ⌜ Rising (now places) (now alives) (now ids) (now offsets) (now values) (now alive) (now out) ⌝ }
     requires { ⌜ now first ≡ 0 ∷ [] ⌝ }
-    requires { ⌜ Begins (placedSegments (now places) (now sets) (now ids) (now offsets) (now values) (now alive)) (now rows) ⌝ }
-    requires { ⌜ Started (now first) (now rows) heap ⌝ }
-    ensures { λ r. ⌜ r ≡ length (timeOrder (placedSegments (now (places .entry)) (now (sets .entry)) (now (ids .entry)) (now (offsets .entry)) (now (values .entry)) (now (alive .entry)))) ⌝ }
-    ensures { λ r. ⌜ now (out .exit) ≡ timeWritten (placedSegments (now (places .entry)) (now (sets .entry)) (now (ids .entry)) (now (offsets .entry)) (now (values .entry)) (now (alive .entry))) (now (out .entry)) ⌝ }
-    ensures { λ r. ⌜ Ends (placedSegments (now (places .entry)) (now (sets .entry)) (now (ids .entry)) (now (offsets .entry)) (now (values .entry)) (now (alive .entry))) (now (rows .exit)) ⌝ }
+    requires { ⌜ Begins (placedSegments (now places) (now alives) (now ids) (now offsets) (now values) (now alive)) (now cursors) ⌝ }
+    requires { ⌜ Started (now first) (now cursors) heap ⌝ }
+    ensures { λ r. ⌜ r ≡ length (timeOrder (placedSegments (now (places .entry)) (now (alives .entry)) (now (ids .entry)) (now (offsets .entry)) (now (values .entry)) (now (alive .entry)))) ⌝ }
+    ensures { λ r. ⌜ now (out .exit) ≡ timeWritten (placedSegments (now (places .entry)) (now (alives .entry)) (now (ids .entry)) (now (offsets .entry)) (now (values .entry)) (now (alive .entry))) (now (out .entry)) ⌝ }
+    ensures { λ r. ⌜ Ends (placedSegments (now (places .entry)) (now (alives .entry)) (now (ids .entry)) (now (offsets .entry)) (now (values .entry)) (now (alive .entry))) (now (cursors .exit)) ⌝ }
 {
     let mut h = heap;
     let mut k: usize = 0;
     while 0 < h.len {
-        let p = term_merger::pop(h, first, rows);
+        let p = term_merger::pop(h, first, cursors);
         let top = p.top;
-        let s = term_merger::wide(top);
-        let row = rows[s];
-        out[k] = [s as u32, row[3] as u32];
-        let next = time_rows::first_from(
+        let s = runs::byte(top);
+        let cursor = cursors[s];
+        out[k] = [s as u32, cursor[3] as u32];
+        let next = time_cursors::first_from(
             places[s],
-            sets[s],
+            alives[s],
             ids,
             offsets,
             values,
             alive,
-            row[3] + 1,
-            row[5],
+            cursor[3] + 1,
+            cursor[5],
         );
-        rows[s] = next;
+        cursors[s] = next;
         let rest = p.heap;
-        h = term_merger::push_live(rest, first, rows, top);
+        h = term_merger::push_live(rest, first, cursors, top);
         k += 1;
     }
     k

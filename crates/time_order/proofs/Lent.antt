@@ -1,57 +1,43 @@
 -- What an answer of 0 gives to the merge, and what the merge gives to the outcome. Assumes nothing.
-use Prim.Native.Nat.{ℕ, zero, suc, _+_, _*_, _/_, _≤_, _<_}
-use native.Mathlib.Nat.{le-of-suc-le-suc, not-suc-le-zero}
+use Prim.Native.Nat.{ℕ, _≤_, _<_}
 use native.Mathlib.Omega.{arith}
 use mathlib.Core.Path.{_≡_, refl, sym, ap, ap₂, _∙_, subst}
-use mathlib.Core.List.{List, [], _∷_, map}
-use mathlib.Core.Bool.{Bool, true, false, cond, not, _&&_, _||_, true≢false}
+use mathlib.Core.List.{List, [], map}
+use mathlib.Core.Bool.{false, not, _&&_, _||_}
 use lib.ListN.{length, getD, length-map}
 use lib.Seq.{ext-getD}
 use lib.Dec.{T, eqb, ltb}
-use borrow.Author.Tests.{ltb-false, eq-eqb}
-use Rattle.definitions.specs.Lists.{all, any, sum, upTo, notFalling}
-use Rattle.definitions.specs.Segment.{Segment, SegmentRecord, wordsFor, aliveWords, segmentsFrom, recordFrom}
+use borrow.Author.Tests.{ltb-false, not-false}
+use Rattle.definitions.specs.Lists.{all, any, upTo, notFalling}
+use Rattle.definitions.specs.Segment.{Segment, segmentsFrom, recordFrom}
 use Rattle.definitions.specs.Row.{rowValues, isPresent}
 use Rattle.definitions.specs.Types.{DateTime}
 use Rattle.definitions.specs.Join.{absent}
-use Rattle.definitions.specs.Answer.{listsFit, aliveAddresses}
-use Rattle.definitions.specs.TimeOrder.{TimeInput, timeOf, timeOrder, timesWrong, timeAnswer}
-use Rattle.definitions.proofs.Cell.{mem-at}
-use Rattle.definitions.proofs.Fit.{mem-upTo}
-use Rattle.definitions.proofs.Group.{all-mem, any-false}
+use Rattle.definitions.specs.Checks.{Passed}
+use Rattle.definitions.specs.Answer.{listsFit, aliveAddresses, plainChecks}
+use Rattle.definitions.specs.TimeOrder.{TimeInput, timeOf, timeOrder, timesWrong, timeOwnChecks, timeChecks, timeAnswer}
+use Rattle.definitions.proofs.Accept.{lists-fit}
+use Rattle.definitions.proofs.Checks.{all-passed, passed-append, passes}
 use Rattle.definitions.proofs.TimeOrder.{order-length}
-use Rattle.segment.specs.Records.{recordsOf, sectionsIn}
+use Rattle.segment.specs.Records.{recordsOf, sectionsIn, recordAt}
 use Rattle.sections_fit.proofs.Own.{rows-all}
-use Rattle.sections_fit.proofs.Seven.{PassedSeven, passed, Ready, ready, cond-none}
+use Rattle.sections_fit.proofs.Seven.{Ready, ready}
 use Rattle.places.specs.Place.{rowsAt}
-use Rattle.places.specs.Places.{table, recordAt, rawAt, aliveAt}
+use Rattle.places.specs.Places.{table, rawAt, aliveAt, rawPlaces, alivesOf}
 use Rattle.places.proofs.Bridge.{Stands, sound-stands}
 use Rattle.places.proofs.Fill.{table-length, table-at}
-use Rattle.places.proofs.Raw.{Held, segments-many, stands-there, flag-there, words-there, words-run, words-end, words-many}
+use Rattle.places.proofs.Raw.{Held, stands-there, flag-there, words-there, words-run, words-end, words-many}
 use Rattle.time_checks.specs.Lent.{lentTimes}
-use Rattle.time_checks.proofs.Own.{asOrdered, laterAnswer, time-seven, checked}
-use Rattle.time_rows.specs.Rows.{segmentIn, Timed}
+use Rattle.time_cursors.specs.Cursors.{segmentIn, Timed}
 use Rattle.time_merge.specs.Order as merged
-use Rattle.time_merge.specs.Order.{placed, placedSegments, Rising, placesOf, setsOf}
+use Rattle.time_merge.specs.Order.{placed, placedSegments, Rising}
 use Rattle.time_order.proofs.Bare.{bare, bare-values, order-same}
-
-or-both : (a b : Bool) → a || b ≡ false → (a ≡ false) × (b ≡ false)
-or-both true b e = absurd (true≢false e)
-or-both false b e = (refl, e)
-
-sum-at : {A : Type 0} (f : A → ℕ) (l : List A) (k : ℕ) (d : A) → k < length l → f (getD l k d) ≤ sum (map f l)
-sum-at f [] k d h = absurd (not-suc-le-zero h)
-sum-at f (x ∷ xs) zero d h = omega arith
-sum-at f (x ∷ xs) (suc k) d h = let ih = sum-at f xs k d (le-of-suc-le-suc h) in omega arith
-
-map-at : (ss : List Segment) (k : ℕ) → k < length ss → getD (map bare ss) k absent ≡ bare (getD ss k absent)
-map-at [] k h = absurd (not-suc-le-zero h)
-map-at (s ∷ ss) zero h = refl
-map-at (s ∷ ss) (suc k) h = map-at ss k (le-of-suc-le-suc h)
-
-enough-words : (r : SegmentRecord) → r .flag ≡ 1 → r .rows ≤ 64 * aliveWords r
-unfolding aliveWords
-enough-words r e = let k : cond (eqb (r .flag) 1) (wordsFor (r .rows)) 0 ≡ (r .rows + 63) / 64 = ap (λ (b : Bool). cond b (wordsFor (r .rows)) 0) (eq-eqb (r .flag) 1 e) in omega arith
+use Rattle.definitions.proofs.Lists.{mem-at, mem-upTo, any-false, or-right, getD-in}
+use Rattle.segment.proofs.At.{segments-many}
+use Rattle.lists.proofs.Tests.{neither, true-T}
+use Rattle.lists.proofs.Sums.{sum-at}
+use Rattle.lists.proofs.Lists.{all-at}
+use Rattle.segment.proofs.Walk.{words-enough}
 
 module _ (records : List (List ℕ)) (ids offsets values lengths bytes alive : List ℕ) (space : ℕ) where
   abbrev input : TimeInput
@@ -62,23 +48,26 @@ module _ (records : List (List ℕ)) (ids offsets values lengths bytes alive : L
   ss = segmentsFrom (recordsOf records) (sectionsIn ids offsets values lengths bytes alive)
 
   abbrev here : ℕ → Segment
-  here k = placed (placesOf records) (setsOf records) ids offsets values alive k
+  here k = placed (rawPlaces records) (alivesOf records) ids offsets values alive k
 
   module _ (zero-answer : timeAnswer (lentTimes records ids offsets values lengths bytes alive space) ≡ 0) where
-    seven : PassedSeven (asOrdered input) × (laterAnswer input ≡ 0)
-    seven = passed (asOrdered input) (laterAnswer input) (sym (time-seven input) ∙ zero-answer)
+    passed : Passed (timeChecks input)
+    unfolding timeAnswer timeChecks
+    passed = all-passed (timeChecks input) 0 tt zero-answer .0
 
-    first : Ready (asOrdered input)
-    first = ready (asOrdered input) (seven .0)
+    plain : Passed (plainChecks (recordsOf records) (sectionsIn ids offsets values lengths bytes alive))
+    unfolding timeChecks
+    plain = passed-append (plainChecks (input .records) (input .sections)) (timeOwnChecks input) passed .0
+
+    first : Ready (recordsOf records) (sectionsIn ids offsets values lengths bytes alive)
+    first = ready (recordsOf records) (sectionsIn ids offsets values lengths bytes alive) plain
 
     later : (ltb space (length (aliveAddresses ss)) ≡ false) × (timesWrong ss ≡ false)
-    unfolding laterAnswer
-    later =
-        let p = cond-none (ltb space (length (aliveAddresses ss))) 10 (cond (timesWrong ss) 12 0) (seven .1) in
-        (p .0, cond-none (timesWrong ss) 11 0 (p .1) .0)
+    unfolding timeChecks
+    later = (passes passed 11, passes passed 12)
 
     lists : T (all listsFit ss)
-    lists = checked input (seven .0) .lists
+    lists = lists-fit (recordsOf records) (sectionsIn ids offsets values lengths bytes alive) plain
 
     held : Held records ids offsets values alive
     held = record { ids = omega (arith, first .exact .ids); offsets = omega (arith, first .exact .offsets); values = omega (arith, first .exact .values); words = omega (arith, first .exact .alive) }
@@ -89,19 +78,19 @@ module _ (records : List (List ℕ)) (ids offsets values lengths bytes alive : L
     -- segment k
     module _ (k : ℕ) (h : k < length records) where
       k-there : k < length ss
-      k-there = omega (arith, segments-many records ids offsets values lengths bytes alive)
+      k-there = omega (arith, segments-many records (sectionsIn ids offsets values lengths bytes alive))
 
       stands : Stands (rawAt records k) ids offsets values (getD ss k absent)
       stands = stands-there records ids offsets values lengths bytes alive held k h
 
-      place-is : getD (placesOf records) k [] ≡ rawAt records k
+      place-is : getD (rawPlaces records) k [] ≡ rawAt records k
       place-is = table-at (rawAt records) [] (length records) k h
 
-      set-is : getD (setsOf records) k [] ≡ aliveAt records k
+      set-is : getD (alivesOf records) k [] ≡ aliveAt records k
       set-is = table-at (aliveAt records) [] (length records) k h
 
       fits : T (listsFit (getD ss k absent))
-      fits = all-mem listsFit ss lists (mem-at ss k absent k-there)
+      fits = all-at listsFit ss k absent lists k-there
 
       rows-small : getD ss k absent .rows < 4294967296
       rows-small = omega (arith, sum-at (λ (s : Segment). s .rows) ss k absent k-there, rows-all (recordsOf records) (sectionsIn ids offsets values lengths bytes alive), first .rows)
@@ -121,13 +110,13 @@ module _ (records : List (List ℕ)) (ids offsets values lengths bytes alive : L
             values-end = stands .values-end;
             alive-run = words-run records ids offsets values lengths bytes alive held k h;
             alive-end = words-end records ids offsets values lengths bytes alive held k h;
-            words = λ e. omega (arith, words-many records ids offsets values lengths bytes alive held k h, enough-words (recordAt records k) (record-flag ∙ e), record-rows);
+            words = λ e. omega (arith, words-many records ids offsets values lengths bytes alive held k h, words-enough (recordAt records k) (record-flag ∙ e), record-rows);
             small = omega (arith, rows-small, stands .rows);
           }
 
-      pub timed : Timed (getD (placesOf records) k []) (getD (setsOf records) k []) ids offsets values alive
+      pub timed : Timed (getD (rawPlaces records) k []) (getD (alivesOf records) k []) ids offsets values alive
       timed =
-          subst (λ (p : List ℕ). Timed p (getD (setsOf records) k []) ids offsets values alive) (sym place-is)
+          subst (λ (p : List ℕ). Timed p (getD (alivesOf records) k []) ids offsets values alive) (sym place-is)
           (subst (λ (s : List ℕ). Timed (rawAt records k) s ids offsets values alive) (sym set-is) timed-raw)
 
       bare-raw : segmentIn (rawAt records k) (aliveAt records k) ids offsets values alive ≡ bare (getD ss k absent)
@@ -160,10 +149,10 @@ module _ (records : List (List ℕ)) (ids offsets values lengths bytes alive : L
           let w = any-false (λ s. (isPresent s && not (eqb (s .type) DateTime)) || any (λ r. ltb 1 (length (rowValues s r))) (upTo (s .rows)) || not (notFalling (map timeOf (s .values)))) ss (later .1) (mem-at ss k absent k-there) in
           let a = isPresent s && not (eqb (s .type) DateTime) in
           let b = any (λ r. ltb 1 (length (rowValues s r))) (upTo (s .rows)) in
-          let p = or-both (a || b) (not (notFalling (map timeOf (s .values)))) w in
-          (or-both a b (p .0) .1, p .1)
+          let p = neither (a || b) (not (notFalling (map timeOf (s .values)))) w in
+          (or-right a b (p .0), p .1)
 
-      single : (r : ℕ) → r < rowsAt (getD (placesOf records) k []) → length (rowValues (here k) r) ≤ 1
+      single : (r : ℕ) → r < rowsAt (getD (rawPlaces records) k []) → length (rowValues (here k) r) ≤ 1
       single r l =
           let s = getD ss k absent in
           let m : r < s .rows = subst (λ (n : ℕ). r < n) (ap rowsAt place-is ∙ stands .rows) l in
@@ -173,29 +162,25 @@ module _ (records : List (List ℕ)) (ids offsets values lengths bytes alive : L
       rising : T (notFalling (map timeOf (here k .values)))
       rising =
           let s = getD ss k absent in
-          subst (λ (x : Segment). T (notFalling (map timeOf (x .values)))) (sym bare-here) (right (notFalling (map timeOf (s .values))) (times .1))
-        where
-          right : (b : Bool) → not b ≡ false → T b
-          right true e = tt
-          right false e = absurd (true≢false e)
+          subst (λ (x : Segment). T (notFalling (map timeOf (x .values)))) (sym bare-here) (true-T (notFalling (map timeOf (s .values))) (not-false (notFalling (map timeOf (s .values))) (times .1)))
 
-    many : length (placesOf records) ≡ length records
+    many : length (rawPlaces records) ≡ length records
     many = table-length (rawAt records) (length records)
 
-    bare-all : placedSegments (placesOf records) (setsOf records) ids offsets values alive ≡ map bare ss
+    bare-all : placedSegments (rawPlaces records) (alivesOf records) ids offsets values alive ≡ map bare ss
     unfolding placedSegments
     bare-all =
-        ext-getD absent (table here (length (placesOf records))) (map bare ss)
-        (table-length here (length (placesOf records)) ∙ many ∙ sym (length-map ss bare ∙ segments-many records ids offsets values lengths bytes alive))
+        ext-getD absent (table here (length (rawPlaces records))) (map bare ss)
+        (table-length here (length (rawPlaces records)) ∙ many ∙ sym (length-map ss bare ∙ segments-many records (sectionsIn ids offsets values lengths bytes alive)))
         (λ k l.
-        let q : k < length (placesOf records) = omega (arith, table-length here (length (placesOf records))) in
+        let q : k < length (rawPlaces records) = omega (arith, table-length here (length (rawPlaces records))) in
         let r : k < length records = omega (arith, many) in
-        table-at here absent (length (placesOf records)) k q ∙ bare-here k r ∙ sym (map-at ss k (k-there k r)))
+        table-at here absent (length (rawPlaces records)) k q ∙ bare-here k r ∙ sym (getD-in bare ss k absent absent (k-there k r)))
 
-    pub order-is : timeOrder (placedSegments (placesOf records) (setsOf records) ids offsets values alive) ≡ timeOrder ss
+    pub order-is : timeOrder (placedSegments (rawPlaces records) (alivesOf records) ids offsets values alive) ≡ timeOrder ss
     order-is = ap timeOrder bare-all ∙ order-same ss
 
-    pub merge-ready : merged.Ready (placesOf records) (setsOf records) ids offsets values alive
+    pub merge-ready : merged.Ready (rawPlaces records) (alivesOf records) ids offsets values alive
     merge-ready =
         record {
           few = omega (arith, many, few);
@@ -203,7 +188,7 @@ module _ (records : List (List ℕ)) (ids offsets values lengths bytes alive : L
           timed = λ k h. timed k (omega (arith, many));
         }
 
-    pub merge-rising : (out : List (List ℕ)) → space ≡ length out → Rising (placesOf records) (setsOf records) ids offsets values alive out
+    pub merge-rising : (out : List (List ℕ)) → space ≡ length out → Rising (rawPlaces records) (alivesOf records) ids offsets values alive out
     merge-rising out e =
         record {
           single = λ k r h l. single k (omega (arith, many)) r l;

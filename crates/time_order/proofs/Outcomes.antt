@@ -1,7 +1,7 @@
 -- The outcome of a call, from the parts' contracts. Assumes nothing.
 use Prim.Native.Nat.{ℕ, zero, suc}
 use mathlib.Core.Path.{_≡_, refl, ap, ap₂, _∙_}
-use mathlib.Core.List.{List, [], _∷_, _++_, map}
+use mathlib.Core.List.{List, [], _∷_, _++_, map, map-append}
 use mathlib.Core.Bool.{true, false}
 use lib.ListN.{length, drop, length-map}
 use lib.Dec.{eqb}
@@ -9,7 +9,6 @@ use borrow.Author.Tests.{eq-eqb, ne-eqb}
 use Rattle.definitions.specs.Segment.{Segment, Address, segmentsFrom, addressFrom}
 use Rattle.definitions.specs.Outcome.{written}
 use Rattle.definitions.specs.TimeOrder.{TimeInput, sorted, timeOrder, timeAnswer, timeOutcome}
-use Rattle.definitions.proofs.Entry.{map-append}
 use Rattle.segment.specs.Lent.{addressesOf}
 use Rattle.time_order.specs.declared.TimeAnswer.{TimeAnswer}
 use Rattle.time_merge.specs.Order as merged

@@ -8,22 +8,22 @@ use lib.Seq.{take-at}
 use Rattle.definitions.specs.Segment.{Segment}
 use Rattle.definitions.specs.Join.{absent}
 use Rattle.runs.specs.Put.{put}
-use Rattle.places.specs.Places.{table, rawAt}
+use Rattle.places.specs.Places.{table, rawAt, rawPlaces}
 use Rattle.places.proofs.Fill.{table-length}
 use Rattle.term_merger.specs.Order.{TermsInside}
-use Rattle.time_rows.specs.Rows.{nextRow, firstFrom}
-use Rattle.time_merge.specs.Order.{placesOf, Ready, Begins}
-use Rattle.time_merge.proofs.Keyed.{row-readable}
+use Rattle.time_cursors.specs.Cursors.{nextRow, firstFrom}
+use Rattle.time_merge.specs.Order.{Ready, Begins}
+use Rattle.time_merge.proofs.Keyed.{cursor-readable}
 
 pub take-table : {A : Type 0} (f : ℕ → A) (n : ℕ) (l old : List A) → l ≡ put 0 (table f n) old → take n l ≡ table f n
 unfolding put
 take-table {A} f n l old e = ap (λ (x : List A). take n x) e ∙ take-at (table f n) (drop (0 + length (table f n)) old) n (table-length f n)
 
-pub few-records : (records : List (List ℕ)) {sets : List (List ℕ)} {ids offsets values alive : List ℕ} → Ready (placesOf records) sets ids offsets values alive → length records ≤ 256
+pub few-records : (records : List (List ℕ)) {alives : List (List ℕ)} {ids offsets values alive : List ℕ} → Ready (rawPlaces records) alives ids offsets values alive → length records ≤ 256
 few-records records y = omega (arith, y .few, table-length (rawAt records) (length records))
 
-pub begins-readable : {ss : List Segment} {rows : List (List ℕ)} → Begins ss rows → TermsInside (0 ∷ []) rows
+pub begins-readable : {ss : List Segment} {cursors : List (List ℕ)} → Begins ss cursors → TermsInside (0 ∷ []) cursors
 unfolding TermsInside firstFrom
 begins-readable {ss} b x l =
     let s = getD ss x absent in
-    subst (λ (r : List ℕ). (getD r 0 0 ≤ getD r 1 0) × (getD r 1 0 ≤ 1)) (sym (b .row x l)) (row-readable s (nextRow (s .flag) (s .alive) (s .rows) 0))
+    subst (λ (r : List ℕ). (getD r 0 0 ≤ getD r 1 0) × (getD r 1 0 ≤ 1)) (sym (b .cursor x l)) (cursor-readable s (nextRow (s .flag) (s .alive) (s .rows) 0))

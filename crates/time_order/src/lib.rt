@@ -4,7 +4,8 @@ ghost use lib.ListN.{length};
 ghost use Rattle.definitions.specs.TimeOrder.{timeOrder, timeOutcome};
 ghost use Rattle.segment.specs.Lent.{addressesOf};
 ghost use Rattle.time_checks.specs.Lent.{lentTimes};
-ghost use Rattle.time_merge.specs.Order.{placedSegments, placesOf, setsOf, timeWritten, Ready, Rising};
+ghost use Rattle.places.specs.Places.{rawPlaces, alivesOf};
+ghost use Rattle.time_merge.specs.Order.{placedSegments, timeWritten, Ready, Rising};
 ghost use Rattle.time_order.specs.Outcome.{outcomeOf, outputOf};
 
 pub enum TimeAnswer {
@@ -21,38 +22,38 @@ fn order_rows(
     alive: &[u64],
     out: &mut [[u32; 2]],
 ) -> usize
-    requires { ⌜ Ready (placesOf (now records)) (setsOf (now records)) (now ids) (now offsets) (now values) (now alive) ⌝ }
-    requires { ⌜ Rising (placesOf (now records)) (setsOf (now records)) (now ids) (now offsets) (now values) (now alive) (now out) ⌝ }
-    ensures { λ r. ⌜ r ≡ length (timeOrder (placedSegments (placesOf (now (records .entry))) (setsOf (now (records .entry))) (now (ids .entry)) (now (offsets .entry)) (now (values .entry)) (now (alive .entry)))) ⌝ }
-    ensures { λ r. ⌜ now (out .exit) ≡ timeWritten (placedSegments (placesOf (now (records .entry))) (setsOf (now (records .entry))) (now (ids .entry)) (now (offsets .entry)) (now (values .entry)) (now (alive .entry))) (now (out .entry)) ⌝ }
+    requires { ⌜ Ready (rawPlaces (now records)) (alivesOf (now records)) (now ids) (now offsets) (now values) (now alive) ⌝ }
+    requires { ⌜ Rising (rawPlaces (now records)) (alivesOf (now records)) (now ids) (now offsets) (now values) (now alive) (now out) ⌝ }
+    ensures { λ r. ⌜ r ≡ length (timeOrder (placedSegments (rawPlaces (now (records .entry))) (alivesOf (now (records .entry))) (now (ids .entry)) (now (offsets .entry)) (now (values .entry)) (now (alive .entry)))) ⌝ }
+    ensures { λ r. ⌜ now (out .exit) ≡ timeWritten (placedSegments (rawPlaces (now (records .entry))) (alivesOf (now (records .entry))) (now (ids .entry)) (now (offsets .entry)) (now (values .entry)) (now (alive .entry))) (now (out .entry)) ⌝ }
 {
     let n = records.len();
     let mut places = [[0usize; 8]; 256];
     places::fill_places(records, &mut places);
-    let mut sets = [[0usize; 3]; 256];
-    places::fill_alives(records, &mut sets);
-    let mut rows = [[0usize; 6]; term_merger::Heap::CAP];
-    time_merge::fill_rows(
+    let mut alives = [[0usize; 3]; 256];
+    places::fill_alives(records, &mut alives);
+    let mut cursors = [[0usize; 6]; term_merger::Heap::CAP];
+    time_merge::fill_cursors(
         &places[..n],
-        &sets[..n],
+        &alives[..n],
         ids,
         offsets,
         values,
         alive,
-        &mut rows,
+        &mut cursors,
     );
     let first = [0u8; 1];
-    let heap = term_merger::start_heap(&first, &rows);
+    let heap = term_merger::start_heap(&first, &cursors);
     time_merge::merge(
         heap,
         &first,
         &places[..n],
-        &sets[..n],
+        &alives[..n],
         ids,
         offsets,
         values,
         alive,
-        &mut rows,
+        &mut cursors,
         out,
     )
 }

@@ -14,7 +14,8 @@ use Rattle.wire.specs.Bounds.{Narrow, Fitted, boundsOf}
 use Rattle.runs.specs.Put.{put}
 use Rattle.wire.proofs.Sections.{part-of, part-short, bounded, grouped-length}
 use Rattle.runs.proofs.Laws.{front-lent}
-use Rattle.wire.proofs.Words.{words-length, and-true}
+use Rattle.lists.proofs.Tests.{both-true}
+use Rattle.wire.proofs.Words.{words-length}
 
 -- what words that fit have
 pub record Fitting (words : List ℕ) : Type 0 where
@@ -41,15 +42,15 @@ fitting words h =
     let r0 : Bool = allBelow 4294967296 (sectionAt ss 0) && r1 in
     let q2 : Bool = eqb (length (sectionAt ss 0)) 2 && r0 in
     let q1 : Bool = eqb (getD (endsFrom 0 ss) 8 0) (length words) && q2 in
-    let a = and-true (eqb (length ss) 9) q1 h in
-    let b = and-true (eqb (getD (endsFrom 0 ss) 8 0) (length words)) q2 (a .1) in
-    let c = and-true (eqb (length (sectionAt ss 0)) 2) r0 (b .1) in
-    let w0 = and-true (allBelow 4294967296 (sectionAt ss 0)) r1 (c .1) in
-    let w1 = and-true (allBelow 4294967296 (sectionAt ss 1)) r2 (w0 .1) in
-    let w2 = and-true (allBelow 4294967296 (sectionAt ss 2)) r3 (w1 .1) in
-    let w3 = and-true (allBelow 4294967296 (sectionAt ss 3)) r5 (w2 .1) in
-    let w5 = and-true (allBelow 4294967296 (sectionAt ss 5)) r6 (w3 .1) in
-    let w6 = and-true (allBelow 256 (sectionAt ss 6)) r8 (w5 .1) in
+    let a = both-true (eqb (length ss) 9) q1 h in
+    let b = both-true (eqb (getD (endsFrom 0 ss) 8 0) (length words)) q2 (a .1) in
+    let c = both-true (eqb (length (sectionAt ss 0)) 2) r0 (b .1) in
+    let w0 = both-true (allBelow 4294967296 (sectionAt ss 0)) r1 (c .1) in
+    let w1 = both-true (allBelow 4294967296 (sectionAt ss 1)) r2 (w0 .1) in
+    let w2 = both-true (allBelow 4294967296 (sectionAt ss 2)) r3 (w1 .1) in
+    let w3 = both-true (allBelow 4294967296 (sectionAt ss 3)) r5 (w2 .1) in
+    let w5 = both-true (allBelow 4294967296 (sectionAt ss 5)) r6 (w3 .1) in
+    let w6 = both-true (allBelow 256 (sectionAt ss 6)) r8 (w5 .1) in
     record {
       nine = eqb-true (length ss) 9 (a .0);
       two = eqb-true (length (sectionAt ss 0)) 2 (c .0);
@@ -66,7 +67,7 @@ pub bytes-fitting : (l : List ℕ) (r : Bool) → r ≡ bytesFit l → not r ≡
 unfolding bytesFit
 bytes-fitting l r e h =
     let t : wholeWords l && wordsFit (wordsOf l) ≡ true = sym e ∙ not-false r h in
-    let p = and-true (wholeWords l) (wordsFit (wordsOf l)) t in
+    let p = both-true (wholeWords l) (wordsFit (wordsOf l)) t in
     (t, p .0, p .1)
 
 -- ---- what the program reads of an input that fits
@@ -130,7 +131,7 @@ pub record Ready (l v b : List ℕ) : Type 0 where
 
 whole-short : (l : List ℕ) → wholeWords l ≡ true → length l ≤ 65536
 unfolding wholeWords
-whole-short l h = leb-true (length l) 65536 (and-true (leb (length l) 65536) (eqb (length l % 8) 0) h .0)
+whole-short l h = leb-true (length l) 65536 (both-true (leb (length l) 65536) (eqb (length l % 8) 0) h .0)
 
 pub ready : (l w w′ b b′ : List ℕ) (r : Bool) → r ≡ bytesFit l → not r ≡ false → w′ ≡ cond (wholeWords l) (put 0 (wordsOf l) w) w → b′ ≡ cond (wholeWords l) (put 0 (boundsOf (wordsOf l)) b) b → 10 ≤ length b
     → Ready l (take (length l / 8) w′) b′

@@ -1,17 +1,11 @@
 -- The input as a whole. Assumes nothing.
 use mathlib.Core.Path.{_≡_}
 use mathlib.Core.List.{List}
-use mathlib.Core.Bool.{Bool, true, false, cond}
+use mathlib.Core.Bool.{Bool, true, false}
 use Prim.Native.Nat.{ℕ, _%_, _≤_, _<_}
 use borrow.Author.Tests.{lt-leb, le-leb, eq-eqb, ne-eqb}
 use lib.ListN.{length}
 use Rattle.definitions.specs.Wire.{wordsOf, wordsFit, wholeWords, bytesFit}
-
-pub kept : {A : Type 0} {b : Bool} (x y : A) → b ≡ false → y ≡ cond b x y
-kept x y e = rw e
-
-pub chosen : {A : Type 0} {b : Bool} {z x : A} (y : A) → b ≡ true → z ≡ x → z ≡ cond b x y
-chosen y e q = rw e q
 
 pub too-long : (l : List ℕ) → 65536 < length l → wholeWords l ≡ false
 unfolding wholeWords

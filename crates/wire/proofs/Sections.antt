@@ -1,34 +1,21 @@
 -- Where the sections end, which words are a section's, and elements of several words. Assumes nothing.
 use mathlib.Core.Path.{_≡_, refl, sym, ap, _∙_, subst}
-use mathlib.Core.List.{List, [], _∷_, _++_, append-nil}
-use mathlib.Core.Bool.{Bool, true, false, _&&_, cond, not}
+use mathlib.Core.List.{List, [], _∷_, _++_}
+use mathlib.Core.Bool.{Bool, true, false, cond}
 use Prim.Native.Nat.{ℕ, zero, suc, _+_, _-_, _*_, _/_, _≤_, _<_}
-use native.Mathlib.Nat.{add-sub-cancel-left, add-comm, suc-mul, zero-mul, le-of-suc-le-suc}
+use native.Mathlib.Nat.{add-comm, suc-mul, zero-mul, le-of-suc-le-suc}
 use native.Mathlib.Numerals.{add-one}
 use native.Mathlib.Omega.{arith}
-use borrow.Author.Tests.{lt-ltb, le-ltb, ltb-true, ltb-false, le-leb, lt-leb, leb-true, leb-false, eq-eqb, ne-eqb, eqb-true, eqb-false, not-true, not-false}
+use borrow.Author.Tests.{lt-ltb, le-ltb, ltb-true, ltb-false, le-leb, lt-leb, leb-true, leb-false, eqb-true, eqb-false}
 use lib.Dec.{ltb, leb, eqb}
 use lib.ListN.{length, drop, take, getD, set, length-append, length-take, length-drop, drop-of-length-le, List·getD-append}
-use lib.Seq.{drop-cons, drop-drop, length-take-le, getD-take, getD-drop}
+use lib.Seq.{drop-cons, drop-drop}
 use Rattle.definitions.specs.Wire.{elementWords, sectionsBy, wordSections, endsFrom, sectionAt, grouped, recordGroups, addressGroups}
+use Rattle.lists.proofs.Parts.{part-length}
 use Rattle.wire.proofs.Words.{below-all}
 use Rattle.wire.specs.Bounds.{sectionEnd, boundsOf, Bounded, Narrow}
 use Rattle.runs.specs.Put.{put, Below}
 use Rattle.runs.proofs.Laws.{put-one, put-put}
-
--- ---- tests in a row
-
-pub stop : {t u : Bool} (rest : Bool) → t ≡ u → not t ≡ true → false ≡ u && rest
-stop {t} rest e h = rw (← e, not-true t h)
-
-pub past : {t u x rest : Bool} → t ≡ u → not t ≡ false → x ≡ rest → x ≡ u && rest
-past {t} e h r = rw (← e, not-false t h) r
-
-pub stop-eq : (a b : ℕ) (rest : Bool) → (a ≡ b → ⊥) → false ≡ eqb a b && rest
-stop-eq a b rest h = rw (ne-eqb a b h)
-
-pub past-eq : (a b : ℕ) {x : Bool} (rest : Bool) → a ≡ b → x ≡ rest → x ≡ eqb a b && rest
-past-eq a b rest h r = rw (eq-eqb a b h) r
 
 -- ---- one section
 
@@ -92,7 +79,7 @@ module _ (words : List ℕ) (at e : ℕ) where
   end-some z = some-go (ltb at (length words)) (leb (at + 1 + size) (length words)) refl refl z
 
   pub size-length : at + 1 + size ≤ length words → length (take size (drop (at + 1) words)) ≡ size
-  size-length k = length-take-le size (drop (at + 1) words) (omega (arith, length-drop (at + 1) words))
+  size-length k = part-length size (at + 1) words k
 
   ends-more : (es : List ℕ) (end : ℕ) → (end ≡ 0 → ⊥) → end ≡ sectionEnd e at words
       → (end ≤ length words) × (endsFrom at (sectionsBy (e ∷ es) (drop at words)) ≡ (end ∷ []) ++ endsFrom end (sectionsBy es (drop end words)))
@@ -239,21 +226,6 @@ grouped-at e (suc n) l zero h = rw (zero-mul e)
 grouped-at e (suc n) l (suc i) h =
     let q : e + i * e ≡ suc i * e = add-comm e (i * e) ∙ sym (suc-mul i e) in
     grouped-at e n (drop e l) i (le-of-suc-le-suc h) ∙ ap (take e) (drop-drop (i * e) e l ∙ ap (λ (k : ℕ). drop k l) q)
-
--- a part of words, as the code lends it
-pub part-lent : (at n : ℕ) (ws : List ℕ) → take (at + n - at) (drop at ws) ≡ take n (drop at ws)
-part-lent at n ws = ap (λ (k : ℕ). take k (drop at ws)) (add-sub-cancel-left at n)
-
--- a part of narrow words is narrow, and fills an array of its length
-pub below-part : (bound n at : ℕ) (ws s : List ℕ) → at + n ≤ length ws → s ≡ take n (drop at ws) → Below bound ws → Below bound s
-below-part bound n at ws s h e b k l =
-    let m : length (take n (drop at ws)) ≡ n = length-take-le n (drop at ws) (omega (arith, length-drop at ws)) in
-    let q : k < n = omega (arith, ap length e) in
-    rw (e, getD-take n (drop at ws) k 0 q, getD-drop at ws k 0) (b (at + k) (omega arith))
-
-pub put-whole : (n : ℕ) (vs old out : List ℕ) → length vs ≡ n → length old ≡ n → out ≡ put 0 vs old → out ≡ vs
-unfolding put
-put-whole n vs old out h k o = o ∙ ap (λ (l : List ℕ). vs ++ l) (drop-of-length-le old {i = 0 + length vs} (omega arith)) ∙ append-nil vs
 
 pub sections-nine : (words : List ℕ) → length (wordSections words) ≤ 9
 unfolding wordSections

@@ -1,7 +1,7 @@
 -- Words out of bytes, and widths. Assumes nothing.
 use mathlib.Core.Path.{_≡_, refl, ap, _∙_}
 use mathlib.Core.List.{List, [], _∷_}
-use mathlib.Core.Bool.{Bool, true, false, _&&_}
+use mathlib.Core.Bool.{true}
 use Prim.Native.Nat.{ℕ, zero, suc, _+_, _*_, _/_, _≤_, _<_}
 use native.Mathlib.Nat.{add-suc, le-of-suc-le-suc}
 use native.Mathlib.Numerals.{add-one}
@@ -12,6 +12,7 @@ use lib.ListN.{length, drop, take, getD}
 use lib.Seq.{drop-cons, drop-drop}
 use Rattle.definitions.specs.Wire.{littleEndian, wordsIn, wordsOf}
 use Rattle.definitions.specs.Lists.{allBelow}
+use Rattle.lists.proofs.Tests.{both-true}
 use Rattle.runs.specs.Put.{Below}
 
 -- ---- words
@@ -55,13 +56,9 @@ words-at l i h = words-in-at (length l / 8) l i h
 
 -- ---- widths
 
-pub and-true : (a b : Bool) → a && b ≡ true → (a ≡ true) × (b ≡ true)
-and-true true b h = (refl, h)
-and-true false b h = let z : _≡_ {A = Bool} false true = h in absurd (let n : _≡_ {A = ℕ} 0 1 = cc in omega arith)
-
 -- a scan that passed
 pub below-all : (bound : ℕ) (ws : List ℕ) → allBelow bound ws ≡ true → Below bound ws
 unfolding allBelow
 below-all bound [] h k l = absurd (omega arith)
-below-all bound (w ∷ ws) h zero l = ltb-true w bound (and-true (ltb w bound) (allBelow bound ws) h .0)
-below-all bound (w ∷ ws) h (suc k) l = below-all bound ws (and-true (ltb w bound) (allBelow bound ws) h .1) k (le-of-suc-le-suc l)
+below-all bound (w ∷ ws) h zero l = ltb-true w bound (both-true (ltb w bound) (allBelow bound ws) h .0)
+below-all bound (w ∷ ws) h (suc k) l = below-all bound ws (both-true (ltb w bound) (allBelow bound ws) h .1) k (le-of-suc-le-suc l)

@@ -1,6 +1,6 @@
 // The joining program's input: bytes to words, and words to sections. (Added: no file of the crate has it.)
 ghost use mathlib.Core.Path.{_≡_};
-ghost use mathlib.Core.Bool.{cond, true};
+ghost use mathlib.Core.Bool.{cond};
 ghost use Prim.Native.Nat.{_<_, _≤_, _+_, _/_};
 ghost use lib.ListN.{length, drop, take, getD};
 ghost use Rattle.definitions.specs.Wire.{littleEndian, wordsOf, wordSections, sectionAt, grouped, widthsFit, wordsFit, bytesFit, wholeWords, recordGroups, addressGroups};
@@ -128,7 +128,7 @@ fn section_below(words: &[u64], bounds: &[usize], k: usize, bound: u64) -> bool
     ensures { λ r. ⌜ r ≡ allBelow bound (sectionAt (wordSections (now (words .entry))) k) ⌝ }
 {
     let s = section(words, bounds, k);
-    numerical::all_below(s, bound)
+    runs::all_below(s, bound)
 }
 
 fn widths_fit(words: &[u64], bounds: &[usize]) -> bool

@@ -1,5 +1,4 @@
 use borrow.Author.Needs.{needs}
-use native.Mathlib.Omega.{arith}
 use Rattle.column_index.proofs.Laws.{listed-past, listed-at}
 use Rattle.column_index.proofs.is_listed.Statement.{statement}
 use Rattle.column_index.proofs.is_listed.Tie as tie

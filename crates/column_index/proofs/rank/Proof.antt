@@ -1,8 +1,7 @@
 use borrow.Author.Needs.{needs}
-use native.Mathlib.Omega.{arith}
 use Prim.Native.Nat.{_≤_, zero-le}
 use Rattle.column_index.specs.Lookup.{rankIn}
-use borrow.Author.Tests.{not-true, not-false, leb-true}
+use borrow.Author.Tests.{not-false, leb-true}
 use mathlib.Core.Path.{sym, _∙_}
 use Rattle.column_index.proofs.Laws.{rank-fits, lesser-below, lesser-le}
 use Rattle.column_index.proofs.rank.Statement.{statement}

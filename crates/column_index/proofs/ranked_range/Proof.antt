@@ -1,6 +1,6 @@
 use borrow.Author.Needs.{needs}
 use native.Mathlib.Omega.{arith}
-use mathlib.Core.Path.{_≡_, refl, sym, _∙_}
+use mathlib.Core.Path.{sym, _∙_}
 use borrow.Author.Tests.{not-true, not-false}
 use Rattle.column_index.proofs.Laws.{range-none, range-optional, range-new, listed-below, four-le}
 use Rattle.column_index.proofs.ranked_range.Statement.{statement}

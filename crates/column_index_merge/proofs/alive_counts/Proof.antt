@@ -1,5 +1,4 @@
 use borrow.Author.Needs.{needs}
-use native.Mathlib.Omega.{arith}
 use mathlib.Core.Path.{_∙_}
 use Rattle.places.specs.Place.{rowsAt}
 use Rattle.column_index_merge.proofs.Count.{full-sum, full-count}

@@ -1,17 +1,17 @@
 use borrow.Author.Needs.{needs}
 use native.Mathlib.Omega.{arith}
 use Prim.Native.Nat.{ℕ, _+_, _-_, _≤_}
-use mathlib.Core.Path.{_≡_, refl, sym, ap, _∙_}
+use mathlib.Core.Path.{_≡_, refl, ap, _∙_}
 use mathlib.Core.Bool.{cond}
 use mathlib.Core.List.{map}
 use native.Mathlib.Nat.{zero-add}
-use lib.ListN.{length, getD, drop}
+use lib.ListN.{getD, drop}
 use Rattle.definitions.specs.Lists.{sum}
 use Rattle.definitions.specs.Row.{bitAt}
 use Rattle.places.specs.Place.{rowsAt, idsAt}
 use Rattle.places.proofs.Cells.{sound-within}
 use Rattle.column_index_merge.specs.Counted.{aliveWidth, aliveWidths}
-use Rattle.column_index_merge.proofs.Count.{countOf, count-sum, count-is, count-done, sum-done, alive-width, ids-sum, ids-listed, ids-count-now, ids-sum-now, ids-over, own-long, own-at, own-row}
+use Rattle.column_index_merge.proofs.Count.{countOf, count-sum, count-done, sum-done, alive-width, ids-sum, ids-listed, ids-count-now, ids-sum-now, ids-over, own-long, own-at, own-row}
 use Rattle.column_index_merge.proofs.id_counts.Statement.{statement}
 use Rattle.column_index_merge.proofs.id_counts.Tie as tie
 

@@ -1,11 +1,12 @@
 use borrow.Author.Needs.{needs}
 use mathlib.Core.Path.{sym, ap, _∙_}
 use lib.ListN.{length, getD}
-use Rattle.runs.proofs.Laws.{upFrom-length, shifted-length}
+use Rattle.runs.proofs.Laws.{shifted-length}
 use Rattle.places.specs.Width.{idsOf}
 use Rattle.places.proofs.Bulk.{seg-ids-empty, seg-ids-full, seg-old, seg-ids-listed, ids-length}
 use Rattle.column_index_merge.proofs.segment_count.Statement.{statement}
 use Rattle.column_index_merge.proofs.segment_count.Tie as tie
+use Rattle.definitions.proofs.Lists.{length-upFrom}
 
 array-read-kind : tie.Need-array-read-kind
 array-read-kind c = search needs
@@ -21,7 +22,7 @@ array-read-result c = search needs
 returns-2 : tie.Need-returns-2
 returns-2 c =
     let s = c .before .before .before .before in
-    sym (ap length (seg-ids-full (s .pre) (c .if2 .taken) 0) ∙ upFrom-length 0 (getD (s .args .t1) 1 0))
+    sym (ap length (seg-ids-full (s .pre) (c .if2 .taken) 0) ∙ length-upFrom 0 (getD (s .args .t1) 1 0))
 
 array-read-c : tie.Need-array-read-c
 array-read-c c = search needs

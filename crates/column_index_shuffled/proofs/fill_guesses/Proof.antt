@@ -1,7 +1,7 @@
 use borrow.Author.Needs.{needs}
 use native.Mathlib.Omega.{arith}
 use Prim.Native.Nat.{_-_, _≤_}
-use mathlib.Core.Path.{_≡_, refl}
+use mathlib.Core.Path.{_≡_}
 use lib.ListN.{length, length-set}
 use Rattle.column_index_shuffled.proofs.fill_guesses.Statement.{statement}
 use Rattle.column_index_shuffled.proofs.fill_guesses.Tie as tie

@@ -1,7 +1,6 @@
 use borrow.Author.Needs.{needs}
-use native.Mathlib.Omega.{arith}
 use Prim.Native.Nat.{_-_, _≤_}
-use mathlib.Core.Path.{_≡_, refl}
+use mathlib.Core.Path.{_≡_}
 use lib.ListN.{length}
 use Rattle.column_index_shuffled.proofs.fill_segment.Statement.{statement}
 use Rattle.column_index_shuffled.proofs.fill_segment.Tie as tie

@@ -1,7 +1,7 @@
 use borrow.Author.Needs.{needs}
-use mathlib.Core.Path.{_≡_, _∙_, ap}
+use mathlib.Core.Path.{_∙_, ap}
 use Prim.Native.Nat.{ℕ}
-use lib.ListN.{length, replicate}
+use lib.ListN.{replicate}
 use Rattle.column_index_shuffled.proofs.ordered_rows.Statement.{statement}
 use Rattle.column_index_shuffled.proofs.ordered_rows.Tie as tie
 

@@ -6,7 +6,8 @@ use Prim.Native.Nat.{ℕ, _+_, _≤_, _<_}
 use lib.ListN.{length}
 use Rattle.runs.proofs.Laws.{put-nil}
 use Rattle.places.specs.Width.{idPart}
-use Rattle.places.proofs.Laws.{part-none, part-some, put-one}
+use Rattle.runs.proofs.Laws.{put-one}
+use Rattle.places.proofs.Laws.{part-none, part-some}
 use Rattle.column_index_stacked.proofs.put_id.Statement.{statement}
 use Rattle.column_index_stacked.proofs.put_id.Tie as tie
 

@@ -3,10 +3,11 @@ use native.Mathlib.Omega.{arith}
 use mathlib.Core.Path.{sym, _∙_}
 use native.Mathlib.Nat.{add-zero}
 use lib.ListN.{getD}
-use Rattle.runs.proofs.Laws.{put-nil, upFrom-length, shifted-length}
+use Rattle.runs.proofs.Laws.{put-nil, shifted-length}
 use Rattle.places.proofs.Bulk.{seg-ids-empty, seg-ids-full, seg-old, seg-ids-listed, seg-ids-below, ids-length, part-room, part-done}
 use Rattle.column_index_stacked.proofs.put_segment_ids.Statement.{statement}
 use Rattle.column_index_stacked.proofs.put_segment_ids.Tie as tie
+use Rattle.definitions.proofs.Lists.{length-upFrom}
 
 array-read-kind : tie.Need-array-read-kind
 array-read-kind c = search needs
@@ -22,12 +23,12 @@ array-read-n c = search needs
 append-range-requires : tie.Need-append-range-requires
 append-range-requires c κs =
     let s = c .before .before .before .before .before .before in
-    (omega (arith, s .pre .1 .0), part-room _ _ (seg-ids-full (s .pre .0) (c .before .if2 .taken) (s .args .first)) _ (upFrom-length _ _) _ (s .pre .1 .1))
+    (omega (arith, s .pre .1 .0), part-room _ _ (seg-ids-full (s .pre .0) (c .before .if2 .taken) (s .args .first)) _ (length-upFrom _ _) _ (s .pre .1 .1))
 
 add-result : tie.Need-add-result
 add-result c =
     let s = c .before .before .before .before .before .before .before .before .before in
-    let k = part-room _ _ (seg-ids-full (s .pre .0) (c .before .before .before .before .if2 .taken) (s .args .first)) _ (upFrom-length (s .args .first) (getD (s .args .t1) 1 0)) (s .args .at) (s .pre .1 .1) in
+    let k = part-room _ _ (seg-ids-full (s .pre .0) (c .before .before .before .before .if2 .taken) (s .args .first)) _ (length-upFrom (s .args .first) (getD (s .args .t1) 1 0)) (s .args .at) (s .pre .1 .1) in
     search needs
 
 same-length : tie.Need-same-length
@@ -36,7 +37,7 @@ same-length c = search needs
 returns-2 : tie.Need-returns-2
 returns-2 c =
     let s = c .before .before .before .before .before .before .before .before .before in
-    part-done _ _ (seg-ids-full (s .pre .0) (c .before .before .before .before .if2 .taken) (s .args .first)) _ (upFrom-length _ _) _ _ (c .before .before .append-range .ensures)
+    part-done _ _ (seg-ids-full (s .pre .0) (c .before .before .before .before .if2 .taken) (s .args .first)) _ (length-upFrom _ _) _ _ (c .before .before .append-range .ensures)
 
 array-read-c : tie.Need-array-read-c
 array-read-c c = search needs

@@ -4,10 +4,11 @@ use mathlib.Core.Path.{sym, _∙_}
 use native.Mathlib.Nat.{add-zero}
 use Prim.Native.Nat.{_+_, _-_}
 use lib.ListN.{getD}
-use Rattle.runs.proofs.Laws.{put-nil, upFrom-length, shifted-length}
+use Rattle.runs.proofs.Laws.{put-nil, shifted-length}
 use Rattle.places.proofs.Bulk.{seg-sum, seg-totals-empty, seg-totals-full, seg-old, seg-totals-optional, seg-totals-new, seg-new-long, seg-new-length, seg-totals-below, ids-length, part-room, part-done}
 use Rattle.column_index_stacked.proofs.put_segment_totals.Statement.{statement}
 use Rattle.column_index_stacked.proofs.put_segment_totals.Tie as tie
+use Rattle.definitions.proofs.Lists.{length-upFrom}
 
 array-read-kind : tie.Need-array-read-kind
 array-read-kind c = search needs
@@ -26,12 +27,12 @@ add-append-range c = search needs
 append-range-requires : tie.Need-append-range-requires
 append-range-requires c κs =
     let s = c .before .before .before .before .before .before in
-    (omega (arith, s .pre .1 .0, s .pre .0 .sound .full (c .before .if2 .taken)), part-room _ _ (seg-totals-full (s .pre .0) (c .before .if2 .taken) (s .args .total)) _ (upFrom-length _ _) _ (s .pre .1 .1))
+    (omega (arith, s .pre .1 .0, s .pre .0 .sound .full (c .before .if2 .taken)), part-room _ _ (seg-totals-full (s .pre .0) (c .before .if2 .taken) (s .args .total)) _ (length-upFrom _ _) _ (s .pre .1 .1))
 
 add-result : tie.Need-add-result
 add-result c =
     let s = c .before .before .before .before .before .before .before .before .before in
-    let k = part-room _ _ (seg-totals-full (s .pre .0) (c .before .before .before .before .if2 .taken) (s .args .total)) _ (upFrom-length (s .args .total + 1) (getD (s .args .t1) 1 0)) (s .args .at) (s .pre .1 .1) in
+    let k = part-room _ _ (seg-totals-full (s .pre .0) (c .before .before .before .before .if2 .taken) (s .args .total)) _ (length-upFrom (s .args .total + 1) (getD (s .args .t1) 1 0)) (s .args .at) (s .pre .1 .1) in
     search needs
 
 same-length : tie.Need-same-length
@@ -40,7 +41,7 @@ same-length c = search needs
 returns-2 : tie.Need-returns-2
 returns-2 c =
     let s = c .before .before .before .before .before .before .before .before .before in
-    part-done _ _ (seg-totals-full (s .pre .0) (c .before .before .before .before .if2 .taken) (s .args .total)) _ (upFrom-length _ _) _ _ (c .before .before .append-range .ensures)
+    part-done _ _ (seg-totals-full (s .pre .0) (c .before .before .before .before .if2 .taken) (s .args .total)) _ (length-upFrom _ _) _ _ (c .before .before .append-range .ensures)
 
 array-read-n-2 : tie.Need-array-read-n-2
 array-read-n-2 c = search needs
@@ -57,12 +58,12 @@ add-append-range-2 c = search needs
 append-range-requires-2 : tie.Need-append-range-requires-2
 append-range-requires-2 c κs =
     let s = c .before .before .before .before .before .before .before in
-    (omega (arith, s .pre .1 .0, s .pre .0 .sound .optional (c .before .if3 .taken) .1, ids-length (s .pre .0)), part-room _ _ (seg-totals-optional (s .pre .0) (c .before .if3 .taken) (s .args .total)) _ (upFrom-length _ _) _ (s .pre .1 .1))
+    (omega (arith, s .pre .1 .0, s .pre .0 .sound .optional (c .before .if3 .taken) .1, ids-length (s .pre .0)), part-room _ _ (seg-totals-optional (s .pre .0) (c .before .if3 .taken) (s .args .total)) _ (length-upFrom _ _) _ (s .pre .1 .1))
 
 add-result-2 : tie.Need-add-result-2
 add-result-2 c =
     let s = c .before .before .before .before .before .before .before .before .before .before in
-    let k = part-room _ _ (seg-totals-optional (s .pre .0) (c .before .before .before .before .if3 .taken) (s .args .total)) _ (upFrom-length (s .args .total + 1) (getD (s .args .t1) 3 0 - getD (s .args .t1) 2 0)) (s .args .at) (s .pre .1 .1) in
+    let k = part-room _ _ (seg-totals-optional (s .pre .0) (c .before .before .before .before .if3 .taken) (s .args .total)) _ (length-upFrom (s .args .total + 1) (getD (s .args .t1) 3 0 - getD (s .args .t1) 2 0)) (s .args .at) (s .pre .1 .1) in
     search needs
 
 same-length-2 : tie.Need-same-length-2
@@ -71,7 +72,7 @@ same-length-2 c = search needs
 returns-3 : tie.Need-returns-3
 returns-3 c =
     let s = c .before .before .before .before .before .before .before .before .before .before in
-    part-done _ _ (seg-totals-optional (s .pre .0) (c .before .before .before .before .if3 .taken) (s .args .total)) _ (upFrom-length _ _) _ _ (c .before .before .append-range2 .ensures)
+    part-done _ _ (seg-totals-optional (s .pre .0) (c .before .before .before .before .if3 .taken) (s .args .total)) _ (length-upFrom _ _) _ _ (c .before .before .append-range2 .ensures)
 
 array-read-c : tie.Need-array-read-c
 array-read-c c = search needs

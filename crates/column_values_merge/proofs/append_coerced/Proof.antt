@@ -27,7 +27,7 @@ same-length-2 c = search needs
 returns-2 : tie.Need-returns-2
 returns-2 c =
     let the-args = c .before .before .before .before .before .before .before .before .args in
-    c .before .before .append2 .ensures ∙ ap (λ (l : List ℕ). put (the-args .at) l (the-args .out .now)) (coerced-double _ _ _ (c .before .before .before .before .if2 .taken))
+    c .before .before .append2 .ensures ∙ ap (λ (l : List ℕ). put (the-args .at) l (the-args .out .now)) (coerced-double _ _ _ (c .before .before .before .before .before .if1 .left) (c .before .before .before .before .if2 .taken))
 
 append-doubles-requires : tie.Need-append-doubles-requires
 append-doubles-requires c κs = search needs

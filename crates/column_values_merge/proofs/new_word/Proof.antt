@@ -1,7 +1,7 @@
 use borrow.Author.Needs.{needs}
 use native.Mathlib.Omega.{arith}
 use mathlib.Core.Path.{sym, _∙_}
-use Rattle.column_values_merge.proofs.Laws.{ordinal-in, looked-one, words-coerced}
+use Rattle.column_values_merge.proofs.Laws.{coerced-one, ordinal-in, looked-one, words-coerced}
 use Rattle.column_values_merge.proofs.new_word.Statement.{statement}
 use Rattle.column_values_merge.proofs.new_word.Tie as tie
 
@@ -32,11 +32,11 @@ wide-requires c κs = search needs
 returns : tie.Need-returns
 returns c = looked-one (c .before .before .before .before .before .args .to) (c .before .before .before .before .before .args .t2) (c .before .before .before .before .before .args .map .now) (c .before .before .before .before .before .args .word) _ (sym (c .before .before .before .has-terms .ensures) ∙ c .before .before .if1 .taken) (ordinal-in (c .before .before .before .before .before .args .t2) (c .before .before .before .before .before .args .map .now) (c .before .before .before .before .before .args .word) (c .before .before .before .before .before .pre) (sym (c .before .before .before .has-terms .ensures) ∙ c .before .before .if1 .taken)) (c .wide .ensures .0)
 
-coerced-word-requires : tie.Need-coerced-word-requires
-coerced-word-requires c κs = search needs
+coerce-requires : tie.Need-coerce-requires
+coerce-requires c κs = search needs
 
 returns-2 : tie.Need-returns-2
-returns-2 c = c .coerced-word .ensures ∙ words-coerced (c .before .before .before .before .args .to) _ (c .before .before .before .before .args .map .now) _ (sym (c .before .before .has-terms .ensures) ∙ c .before .if1 .left)
+returns-2 c = coerced-one _ _ _ (c .coerce .ensures) ∙ words-coerced (c .before .before .before .before .args .to) _ (c .before .before .before .before .args .map .now) _ (sym (c .before .before .has-terms .ensures) ∙ c .before .if1 .left)
 
 pub new-word-spec : {M : Type 1} → statement M
 new-word-spec =
@@ -51,5 +51,5 @@ new-word-spec =
     shared-slice-read-wide
     wide-requires
     returns
-    coerced-word-requires
+    coerce-requires
     returns-2)

@@ -6,6 +6,7 @@ use native.Mathlib.Omega.{arith}
 use lib.ListN.{length, drop, take}
 use Rattle.definitions.specs.Listing.{space, termText, termsText}
 use Rattle.runs.proofs.Laws.{Filling, fill-from, fill-as, fill-room, fill-more, fill-done}
+use Rattle.lists.proofs.Sums.{sum-step}
 use Rattle.listing.proofs.Lines as lines
 use Rattle.definitions.specs.Lists.{sum}
 use Rattle.definitions.specs.Segment.{cut}
@@ -31,7 +32,7 @@ wide-requires : tie.Need-wide-requires Inv-loop μ-loop
 wide-requires c κs = search needs
 
 add-to : tie.Need-add-to Inv-loop μ-loop
-add-to c = omega (arith, lines.sum-step (c .before .before .before .before .before .before .before .args .lengths .now) (c .before .before .before .loop .i) (c .wide .result) (c .before .before .loop-test .taken) (c .wide .ensures .0), c .before .before .before .loop .inv .1, c .before .before .before .before .before .before .before .good .1 .0 .0)
+add-to c = omega (arith, sum-step (c .before .before .before .before .before .before .before .args .lengths .now) (c .before .before .before .loop .i) (c .before .before .loop-test .taken), c .wide .ensures .0, c .before .before .before .loop .inv .1, c .before .before .before .before .before .before .before .good .1 .0 .0)
 
 put-byte-requires : tie.Need-put-byte-requires Inv-loop μ-loop
 put-byte-requires c κs =
@@ -51,7 +52,7 @@ part-put-term-start : tie.Need-part-put-term-start Inv-loop μ-loop
 part-put-term-start c = search needs
 
 part-put-term-end : tie.Need-part-put-term-end Inv-loop μ-loop
-part-put-term-end c = omega (arith, lines.sum-step (c .before .before .before .before .before .before .before .before .before .before .before .args .lengths .now) (c .before .before .before .before .before .before .before .loop .i) (c .before .before .before .before .wide .result) (c .before .before .before .before .before .before .loop-test .taken) (c .before .before .before .before .wide .ensures .0), c .before .before .before .before .before .before .before .loop .inv .1)
+part-put-term-end c = omega (arith, sum-step (c .before .before .before .before .before .before .before .before .before .before .before .args .lengths .now) (c .before .before .before .before .before .before .before .loop .i) (c .before .before .before .before .before .before .loop-test .taken), c .before .before .before .before .wide .ensures .0, c .before .before .before .before .before .before .before .loop .inv .1)
 
 put-term-requires : tie.Need-put-term-requires Inv-loop μ-loop
 put-term-requires c κs =
@@ -85,7 +86,7 @@ loop-again c =
     let t : List ℕ = termText (take (l .from + n - l .from) (drop (l .from) (a .bytes .now))) in
     let w = fill-as (l .inv .2) (space ++ (t ++ more)) (lines.terms-step (a .lengths .now) (a .bytes .now) i (l .from) n (c .before .before .before .before .before .before .before .before .before .before .before .loop-test .taken) (x .ensures .0)) in
     let w1 = fill-more w space (t ++ more) refl _ _ (p .ensures .0) (p .ensures .1) in
-    (omega (arith, c .before .before .before .before .before .before .before .before .before .before .before .loop-test .taken), omega (arith, lines.sum-step (a .lengths .now) i n (c .before .before .before .before .before .before .before .before .before .before .before .loop-test .taken) (x .ensures .0), l .inv .1), fill-more w1 t more refl _ _ (q .ensures .0) (q .ensures .1))
+    (omega (arith, c .before .before .before .before .before .before .before .before .before .before .before .loop-test .taken), omega (arith, sum-step (a .lengths .now) i (c .before .before .before .before .before .before .before .before .before .before .before .loop-test .taken), x .ensures .0, l .inv .1), fill-more w1 t more refl _ _ (q .ensures .0) (q .ensures .1))
 
 same-length : tie.Need-same-length Inv-loop μ-loop
 same-length c = search needs

@@ -1,60 +1,48 @@
 use mathlib.Core.Path.{_∙_}
 use borrow.Author.Needs.{needs}
-use Rattle.merge.proofs.Leaves.{first-end, passed, same-outcome}
+use Rattle.merge.proofs.Call.{first-end, passed, same-outcome}
 use Rattle.merge.proofs.join.Statement.{statement}
 use Rattle.merge.proofs.join.Tie as tie
 
--- src/lib.rt:235:9
 verdict-requires : tie.Need-verdict-requires
 verdict-requires c κs = search needs
 
--- src/lib.rt:239:9
 same-length : tie.Need-same-length
 same-length c = search needs
 
--- src/lib.rt:239:9
 returns : tie.Need-returns
 returns c =
     let the-args = c .before .before .before .before .before .before .before .before .before .before .before .before .before .before .before .before .before .before .args in
     let the-verdict = c .before .before .before .verdict in
     first-end (the-args .mode) (the-args .required) (the-args .records .now) (the-args .ids .now) (the-args .offsets .now) (the-args .values .now) (the-args .lengths .now) (the-args .bytes .now) (the-args .alive .now) (the-args .addresses .now) (the-args .out-ids .now) (the-args .out-offsets .now) (the-args .out-values .now) (the-args .out-lengths .now) (the-args .out-bytes .now) (the-args .out-map .now) (the-args .work .now) (the-verdict .ensures .0) (the-verdict .ensures .1) (c .if1 .taken)
 
--- src/lib.rt:241:5
 join-checked-requires : tie.Need-join-checked-requires
 join-checked-requires c κs =
     let the-args = c .before .before .before .before .before .before .before .before .before .before .before .before .before .before .before .before .before .before .before .before .before .before .before .before .before .args in
     let the-verdict = c .before .before .before .before .before .before .before .before .before .before .verdict in
     passed (the-args .mode) (the-args .required) (the-args .records .now) (the-args .ids .now) (the-args .offsets .now) (the-args .values .now) (the-args .lengths .now) (the-args .bytes .now) (the-args .alive .now) (the-args .addresses .now) (the-args .out-ids .now) (the-args .out-offsets .now) (the-args .out-values .now) (the-args .out-lengths .now) (the-args .out-bytes .now) (the-args .out-map .now) (the-args .work .now) (the-verdict .ensures .0) (the-verdict .ensures .1) (c .before .before .before .before .before .before .before .if1 .left)
 
--- src/lib.rt:214:1
 same-length-2 : tie.Need-same-length-2
 same-length-2 c = search needs
 
--- src/lib.rt:214:1
 same-length-3 : tie.Need-same-length-3
 same-length-3 c = search needs
 
--- src/lib.rt:214:1
 same-length-4 : tie.Need-same-length-4
 same-length-4 c = search needs
 
--- src/lib.rt:214:1
 same-length-5 : tie.Need-same-length-5
 same-length-5 c = search needs
 
--- src/lib.rt:214:1
 same-length-6 : tie.Need-same-length-6
 same-length-6 c = search needs
 
--- src/lib.rt:214:1
 same-length-7 : tie.Need-same-length-7
 same-length-7 c = search needs
 
--- src/lib.rt:214:1
 same-length-8 : tie.Need-same-length-8
 same-length-8 c = search needs
 
--- src/lib.rt:214:1
 returns-2 : tie.Need-returns-2
 returns-2 c =
     let the-args = c .before .before .before .before .before .before .before .before .before .before .before .before .before .before .before .before .before .before .before .before .before .before .before .before .before .before .before .before .before .before .before .before .before .before .before .before .before .before .before .before .args in

@@ -31,44 +31,44 @@ add-end : tie.Need-add-end Inv-loop μ-loop
 add-end c = omega (arith, walk-in (c .before .before .before .loop .inv) (c .before .before .before .before .before .before .pre) (c .before .before .loop-test .taken) (c .wide .ensures .0 ∙ ap (λ (x : Record). x .terms) (c .before .record-at .ensures)))
 
 -- src/lib.rt:99:27
-shared-slice-read-held-part : tie.Need-shared-slice-read-held-part Inv-loop μ-loop
-shared-slice-read-held-part c = omega (arith, c .before .before .before .before .before .before .before .pre .flags)
+shared-slice-read-unless : tie.Need-shared-slice-read-unless Inv-loop μ-loop
+shared-slice-read-unless c = omega (arith, c .before .before .before .before .before .before .before .pre .flags)
 
 -- src/lib.rt:99:13
-held-part-requires : tie.Need-held-part-requires Inv-loop μ-loop
-held-part-requires c κs = search needs
+unless-requires : tie.Need-unless-requires Inv-loop μ-loop
+unless-requires c κs = search needs
 
 -- src/lib.rt:100:18
 add-to : tie.Need-add-to Inv-loop μ-loop
-add-to c = omega (arith, walk-to (c .before .before .before .before .before .loop .inv) (c .before .before .before .before .before .before .before .before .pre) (c .before .before .before .before .loop-test .taken) (c .before .before .wide .ensures .0 ∙ ap (λ (x : Record). x .terms) (c .before .before .before .record-at .ensures)) (c .held-part .ensures))
+add-to c = omega (arith, walk-to (c .before .before .before .before .before .loop .inv) (c .before .before .before .before .before .before .before .before .pre) (c .before .before .before .before .loop-test .taken) (c .before .before .wide .ensures .0 ∙ ap (λ (x : Record). x .terms) (c .before .before .before .record-at .ensures)) (c .unless .ensures))
 
 -- src/lib.rt:101:9
 add-terms : tie.Need-add-terms Inv-loop μ-loop
-add-terms c = omega (arith, walk-terms (c .before .before .before .before .before .loop .inv) (c .before .before .before .before .before .before .before .before .pre) (c .before .before .before .before .loop-test .taken) (c .before .before .wide .ensures .0 ∙ ap (λ (x : Record). x .terms) (c .before .before .before .record-at .ensures)) (c .held-part .ensures))
+add-terms c = omega (arith, walk-terms (c .before .before .before .before .before .loop .inv) (c .before .before .before .before .before .before .before .before .pre) (c .before .before .before .before .loop-test .taken) (c .before .before .wide .ensures .0 ∙ ap (λ (x : Record). x .terms) (c .before .before .before .record-at .ensures)) (c .unless .ensures))
 
 -- src/lib.rt:102:38
-mul-bytes-of : tie.Need-mul-bytes-of Inv-loop μ-loop
-mul-bytes-of c = omega (arith, walk-to (c .before .before .before .before .before .loop .inv) (c .before .before .before .before .before .before .before .before .pre) (c .before .before .before .before .loop-test .taken) (c .before .before .wide .ensures .0 ∙ ap (λ (x : Record). x .terms) (c .before .before .before .record-at .ensures)) (c .held-part .ensures), c .before .before .before .before .before .before .before .before .good .1 .1 .0)
+mul-sum-of : tie.Need-mul-sum-of Inv-loop μ-loop
+mul-sum-of c = omega (arith, walk-to (c .before .before .before .before .before .loop .inv) (c .before .before .before .before .before .before .before .before .pre) (c .before .before .before .before .loop-test .taken) (c .before .before .wide .ensures .0 ∙ ap (λ (x : Record). x .terms) (c .before .before .before .record-at .ensures)) (c .unless .ensures), c .before .before .before .before .before .before .before .before .good .1 .1 .0)
 
 -- src/lib.rt:102:38
-sub-bytes-of : tie.Need-sub-bytes-of Inv-loop μ-loop
-sub-bytes-of c = search needs
+sub-sum-of : tie.Need-sub-sum-of Inv-loop μ-loop
+sub-sum-of c = search needs
 
 -- src/lib.rt:102:38
-part-bytes-of-start : tie.Need-part-bytes-of-start Inv-loop μ-loop
-part-bytes-of-start c = search needs
+part-sum-of-start : tie.Need-part-sum-of-start Inv-loop μ-loop
+part-sum-of-start c = search needs
 
 -- src/lib.rt:102:38
-part-bytes-of-end : tie.Need-part-bytes-of-end Inv-loop μ-loop
-part-bytes-of-end c = omega (arith, walk-to (c .before .before .before .before .before .loop .inv) (c .before .before .before .before .before .before .before .before .pre) (c .before .before .before .before .loop-test .taken) (c .before .before .wide .ensures .0 ∙ ap (λ (x : Record). x .terms) (c .before .before .before .record-at .ensures)) (c .held-part .ensures))
+part-sum-of-end : tie.Need-part-sum-of-end Inv-loop μ-loop
+part-sum-of-end c = omega (arith, walk-to (c .before .before .before .before .before .loop .inv) (c .before .before .before .before .before .before .before .before .pre) (c .before .before .before .before .loop-test .taken) (c .before .before .wide .ensures .0 ∙ ap (λ (x : Record). x .terms) (c .before .before .before .record-at .ensures)) (c .unless .ensures))
 
 -- src/lib.rt:102:18
-bytes-of-requires : tie.Need-bytes-of-requires Inv-loop μ-loop
-bytes-of-requires c κs = walk-sum (c .before .before .before .before .before .before .loop .inv) (c .before .before .before .before .before .before .before .before .before .pre) (c .before .before .before .before .before .loop-test .taken) (c .before .before .before .wide .ensures .0 ∙ ap (λ (x : Record). x .terms) (c .before .before .before .before .record-at .ensures)) (c .before .held-part .ensures)
+sum-of-requires : tie.Need-sum-of-requires Inv-loop μ-loop
+sum-of-requires c κs = walk-sum (c .before .before .before .before .before .before .loop .inv) (c .before .before .before .before .before .before .before .before .before .pre) (c .before .before .before .before .before .loop-test .taken) (c .before .before .before .wide .ensures .0 ∙ ap (λ (x : Record). x .terms) (c .before .before .before .before .record-at .ensures)) (c .before .unless .ensures)
 
 -- src/lib.rt:102:9
 add-bytes : tie.Need-add-bytes Inv-loop μ-loop
-add-bytes c = omega (arith, walk-bytes (c .before .before .before .before .before .before .before .loop .inv) (c .before .before .before .before .before .before .before .before .before .before .pre) (c .before .before .before .before .before .before .loop-test .taken) (c .before .before .before .before .wide .ensures .0 ∙ ap (λ (x : Record). x .terms) (c .before .before .before .before .before .record-at .ensures)) (c .before .before .held-part .ensures) (c .bytes-of .ensures))
+add-bytes c = omega (arith, walk-bytes (c .before .before .before .before .before .before .before .loop .inv) (c .before .before .before .before .before .before .before .before .before .before .pre) (c .before .before .before .before .before .before .loop-test .taken) (c .before .before .before .before .wide .ensures .0 ∙ ap (λ (x : Record). x .terms) (c .before .before .before .before .before .record-at .ensures)) (c .before .before .unless .ensures) (c .sum-of .ensures))
 
 -- src/lib.rt:104:9
 add-s : tie.Need-add-s Inv-loop μ-loop
@@ -80,7 +80,7 @@ loop-less c = search needs
 
 -- src/lib.rt:95:5
 loop-again : tie.Need-loop-again Inv-loop μ-loop
-loop-again c = walk-more (c .before .before .before .before .before .before .before .loop .inv) (c .before .before .before .before .before .before .before .before .before .before .pre) (c .before .before .before .before .before .before .loop-test .taken) (c .before .before .before .before .wide .ensures .0 ∙ ap (λ (x : Record). x .terms) (c .before .before .before .before .before .record-at .ensures)) (c .before .before .held-part .ensures) (c .bytes-of .ensures)
+loop-again c = walk-more (c .before .before .before .before .before .before .before .loop .inv) (c .before .before .before .before .before .before .before .before .before .before .pre) (c .before .before .before .before .before .before .loop-test .taken) (c .before .before .before .before .wide .ensures .0 ∙ ap (λ (x : Record). x .terms) (c .before .before .before .before .before .record-at .ensures)) (c .before .before .unless .ensures) (c .sum-of .ensures)
 
 -- src/lib.rt:86:1
 returns : tie.Need-returns Inv-loop μ-loop
@@ -96,15 +96,15 @@ held-terms-spec =
     record-at-requires
     wide-requires
     add-end
-    shared-slice-read-held-part
-    held-part-requires
+    shared-slice-read-unless
+    unless-requires
     add-to
     add-terms
-    mul-bytes-of
-    sub-bytes-of
-    part-bytes-of-start
-    part-bytes-of-end
-    bytes-of-requires
+    mul-sum-of
+    sub-sum-of
+    part-sum-of-start
+    part-sum-of-end
+    sum-of-requires
     add-bytes
     add-s
     loop-less

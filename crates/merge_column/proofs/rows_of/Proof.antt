@@ -1,6 +1,6 @@
-use Rattle.merge_column.proofs.Laws.{at-code, past-code}
 use Rattle.merge_column.proofs.rows_of.Statement.{statement}
 use Rattle.merge_column.proofs.rows_of.Tie as tie
+use Rattle.lists.proofs.Tests.{at-code, past-code}
 
 -- src/lib.rt:142:9
 returns : tie.Need-returns

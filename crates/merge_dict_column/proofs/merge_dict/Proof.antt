@@ -5,12 +5,12 @@ use Rattle.merge_dict_column.proofs.merge_dict.Statement.{statement}
 use Rattle.merge_dict_column.proofs.merge_dict.Tie as tie
 
 -- src/lib.rt:245:51
-slice-aggregate-fill-rows : tie.Need-slice-aggregate-fill-rows
-slice-aggregate-fill-rows c = search needs
+slice-aggregate-fill-cursors : tie.Need-slice-aggregate-fill-cursors
+slice-aggregate-fill-cursors c = search needs
 
 -- src/lib.rt:245:5
-fill-rows-requires : tie.Need-fill-rows-requires
-fill-rows-requires c κs = search needs
+fill-cursors-requires : tie.Need-fill-cursors-requires
+fill-cursors-requires c κs = search needs
 
 -- src/lib.rt:246:34
 slice-aggregate-start-heap : tie.Need-slice-aggregate-start-heap
@@ -18,7 +18,7 @@ slice-aggregate-start-heap c = search needs
 
 -- src/lib.rt:246:9
 start-heap-requires : tie.Need-start-heap-requires
-start-heap-requires c κs = (c .before .before .fill-rows .ensures .size, readable (c .before .before .before .before .before .before .before .before .before .before .before .pre .0) (c .before .before .before .before .before .before .before .before .before .before .before .pre .1) (c .before .before .fill-rows .ensures))
+start-heap-requires c κs = (c .before .before .fill-cursors .ensures .size, readable (c .before .before .before .before .before .before .before .before .before .before .before .pre .0) (c .before .before .before .before .before .before .before .before .before .before .before .pre .1) (c .before .before .fill-cursors .ensures))
 
 -- src/lib.rt:247:23
 slice-aggregate-merge-terms : tie.Need-slice-aggregate-merge-terms
@@ -26,7 +26,7 @@ slice-aggregate-merge-terms c = search needs
 
 -- src/lib.rt:247:5
 merge-terms-requires : tie.Need-merge-terms-requires
-merge-terms-requires c κs = (ready (c .before .before .before .before .before .before .before .before .before .before .before .before .before .before .before .before .pre .0) (c .before .before .before .before .before .before .before .before .before .before .before .before .before .before .before .before .pre .1) (c .before .before .before .before .before .before .before .fill-rows .ensures), c .before .before .before .before .start-heap .ensures)
+merge-terms-requires c κs = (ready (c .before .before .before .before .before .before .before .before .before .before .before .before .before .before .before .before .pre .0) (c .before .before .before .before .before .before .before .before .before .before .before .before .before .before .before .before .pre .1) (c .before .before .before .before .before .before .before .fill-cursors .ensures), c .before .before .before .before .start-heap .ensures)
 
 -- src/lib.rt:229:1
 same-length : tie.Need-same-length
@@ -45,15 +45,15 @@ returns : tie.Need-returns
 returns c =
     let u = c .before .before .before .before .before .before .before .before .before .before .before .before .before .before .before .before .before .before .before .before .before .before .before .before .pre .0 in
     let x = c .before .before .before .before .before .before .before .before .before .before .before .before .before .before .before .before .before .before .before .before .before .before .before .before .pre .1 in
-    let f = c .before .before .before .before .before .before .before .before .before .before .before .before .before .before .before .fill-rows .ensures in
+    let f = c .before .before .before .before .before .before .before .before .before .before .before .before .before .before .before .fill-cursors .ensures in
     merged-same (terms-same u x f) (map-same u x f) (c .before .before .before .before .before .before .before .merge-terms .ensures .0)
 
 pub merge-dict-spec : {M : Type 1} → statement M
 merge-dict-spec =
     tie.close
     (tie.spec
-    slice-aggregate-fill-rows
-    fill-rows-requires
+    slice-aggregate-fill-cursors
+    fill-cursors-requires
     slice-aggregate-start-heap
     start-heap-requires
     slice-aggregate-merge-terms

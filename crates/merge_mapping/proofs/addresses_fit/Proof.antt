@@ -2,7 +2,7 @@ use mathlib.Core.Path.{sym, _∙_}
 use Prim.Native.Nat.{zero}
 use native.Mathlib.Omega.{arith}
 use borrow.Author.Needs.{needs}
-use Rattle.merge_mapping.proofs.Zeros.{part-zero, front-within, front-long, cleared}
+use Rattle.runs.proofs.Zeros.{part-zero, front-within, front-long, cleared}
 use Rattle.merge_mapping.proofs.Own.{right-stacked, right-ordered}
 use Rattle.segment.specs.Records.{recordsOf}
 use Rattle.segment.specs.Lent.{addressesOf}

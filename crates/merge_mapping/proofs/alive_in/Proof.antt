@@ -3,11 +3,12 @@ use native.Mathlib.Omega.{arith}
 use lib.ListN.{getD}
 use borrow.Author.Needs.{needs}
 use Rattle.merge_mapping.proofs.Laws.{in-absent, in-past, in-found, start-within}
-use Rattle.segment.proofs.Walk.{records-long, record-is, part-long}
+use Rattle.segment.proofs.Walk.{records-long, record-is}
 use Rattle.segment.specs.Records.{recordsOf}
 use Rattle.definitions.specs.Segment.{aliveWords}
 use Rattle.merge_mapping.proofs.alive_in.Statement.{statement}
 use Rattle.merge_mapping.proofs.alive_in.Tie as tie
+use Rattle.lists.proofs.Parts.{part-long}
 
 returns : tie.Need-returns
 returns c =

@@ -5,14 +5,15 @@ use lib.ListN.{length, drop}
 use borrow.Author.Needs.{needs}
 use borrow.Author.Tests.{not-true, not-false}
 use Rattle.merge_mapping.proofs.Laws.{all-step, all-end}
-use Rattle.segment.proofs.Tests.{fell, went}
-use Rattle.segment.proofs.Walk.{total-step, part-long}
+use Rattle.segment.proofs.Walk.{total-step}
 use Rattle.merge_mapping.specs.Mapping.{rowsIn, listedFrom}
 use Rattle.segment.specs.Records.{recordsOf}
 use Rattle.definitions.specs.Segment.{aliveWords}
 use Rattle.definitions.specs.Answer.{total}
 use Rattle.merge_mapping.proofs.all_listed.Statement.{statement}
 use Rattle.merge_mapping.proofs.all_listed.Tie as tie
+use Rattle.lists.proofs.Tests.{fell, went}
+use Rattle.lists.proofs.Parts.{part-long}
 
 abbrev Inv-loop : tie.InvT-loop
 Inv-loop records alive marks s₀ a₀ m₀ s a m = (s ≤ length records) × (a + total aliveWords (recordsOf (drop s records)) ≤ length alive) × (m + total rowsIn (recordsOf (drop s records)) ≤ length marks) × (listedFrom (recordsOf (drop s records)) (drop a alive) (drop m marks) ≡ listedFrom (recordsOf records) alive marks)

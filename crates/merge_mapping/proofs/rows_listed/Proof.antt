@@ -5,11 +5,11 @@ use lib.ListN.{length}
 use borrow.Author.Needs.{needs}
 use borrow.Author.Tests.{not-true, not-false}
 use Rattle.merge_mapping.proofs.Laws.{listedAfter, listed-start, listed-step, listed-end}
-use Rattle.segment.proofs.Tests.{fell, went}
 use Rattle.merge_mapping.specs.Mapping.{rowsListed}
 use Rattle.segment.specs.Records.{recordIn}
 use Rattle.merge_mapping.proofs.rows_listed.Statement.{statement}
 use Rattle.merge_mapping.proofs.rows_listed.Tie as tie
+use Rattle.lists.proofs.Tests.{fell, went}
 
 abbrev Inv-loop : tie.InvT-loop
 Inv-loop r alive marks row₀ row = (row ≤ length marks) × (listedAfter (recordIn r) alive marks row ≡ rowsListed (recordIn r) alive marks)

@@ -40,10 +40,10 @@ use denote.Triple.Walked.{says, Stays, walkOf, Walks, ends-at, walked, walk-meet
 use Rattle.definitions.specs.Outcome.{Outcome, joinOutcome, lentOf}
 use Rattle.segment.specs.declared.Record.{Record}
 use Rattle.segment.proofs.Record as T
-use Rattle.merge.specs.declared.Answer.{Answer}
+use Rattle.merge_checked.specs.declared.Answer.{Answer}
 use Rattle.merge.specs.Whole.{outcomeOf, buffersOf}
-use Rattle.merge.proofs.Answer as S
-use Rattle.merge.proofs.Answer.Laws as S′
+use Rattle.merge_checked.proofs.Answer as S
+use Rattle.merge_checked.proofs.Answer.Laws as S′
 use Rattle.records.specs.Rows.{rowsOf, countOf, laidTo}
 use Rattle.records.proofs.rows_of as rows
 use Rattle.records.proofs.rows_of.Symbol as rows-def

@@ -1,5 +1,6 @@
 use borrow.Author.Needs.{needs}
-use Rattle.merge_type.proofs.Walk.{lent-part, becomes-out, becomes-in}
+use Rattle.lists.proofs.Parts.{part-lent}
+use Rattle.merge_type.proofs.Walk.{becomes-out, becomes-in}
 use Rattle.merge_type.proofs.record_becomes.Statement.{statement}
 use Rattle.merge_type.proofs.record_becomes.Tie as tie
 
@@ -43,7 +44,7 @@ is-coercible-requires c κs = search needs
 returns-2 : tie.Need-returns-2
 returns-2 c =
     let the-args = c .before .before .before .before .before .before .args in
-    becomes-in _ _ _ _ _ _ _ (c .before .before .before .before .is-part .ensures) (c .before .before .before .if1 .left) (lent-part (the-args .values .now) (the-args .base) _ _ (c .before .before .wide .ensures .0)) (c .is-coercible .ensures)
+    becomes-in _ _ _ _ _ _ _ (c .before .before .before .before .is-part .ensures) (c .before .before .before .if1 .left) (part-lent (the-args .base) _ _ (the-args .values .now) (c .before .before .wide .ensures .0)) (c .is-coercible .ensures)
 
 pub record-becomes-spec : {M : Type 1} → statement M
 record-becomes-spec =

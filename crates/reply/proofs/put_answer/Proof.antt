@@ -10,7 +10,7 @@ use Rattle.runs.specs.Put.{put}
 use Rattle.listing.specs.Shown.{outputs, AnnouncedBy}
 use Rattle.listing.proofs.Outcome as outcome
 use Rattle.merge.specs.Whole.{answerOf}
-use Rattle.merge.specs.declared.Answer as code
+use Rattle.merge_checked.specs.declared.Answer as code
 use Rattle.reply.proofs.put_answer.Statement.{statement}
 use Rattle.reply.proofs.put_answer.Tie as tie
 

@@ -3,9 +3,10 @@ use mathlib.Core.Path.{_≡_, refl, _∙_}
 use Prim.Native.Nat.{_-_, _≤_}
 use lib.ListN.{length, length-set}
 use Rattle.definitions.specs.Lists.{upFrom}
-use Rattle.runs.proofs.Laws.{putting, putting-none, putting-next, putting-all, upFrom-length, upFrom-at}
+use Rattle.runs.proofs.Laws.{putting, putting-none, putting-next, putting-all, upFrom-at}
 use Rattle.runs.proofs.append_range.Statement.{statement}
 use Rattle.runs.proofs.append_range.Tie as tie
+use Rattle.definitions.proofs.Lists.{length-upFrom}
 
 abbrev Inv-loop : tie.InvT-loop
 Inv-loop first n out₀ at j₀ out j = (j ≤ n) × (out ≡ putting at (upFrom first n) out₀ j) × (length out ≡ length out₀)
@@ -41,7 +42,7 @@ loop-again : tie.Need-loop-again Inv-loop μ-loop
 loop-again c =
     let l = c .before in
     let s = l .before in
-    (search needs, rw (l .loop .inv .1) (putting-next _ _ _ _ _ _ (upFrom-length (s .args .first) (s .args .n)) (s .pre .1) (c .loop-test .taken) (upFrom-at _ _ _ (c .loop-test .taken))), simp length-set (search needs))
+    (search needs, rw (l .loop .inv .1) (putting-next _ _ _ _ _ _ (length-upFrom (s .args .first) (s .args .n)) (s .pre .1) (c .loop-test .taken) (upFrom-at _ _ _ (c .loop-test .taken))), simp length-set (search needs))
 
 same-length : tie.Need-same-length Inv-loop μ-loop
 same-length c = search needs
@@ -50,7 +51,7 @@ returns : tie.Need-returns Inv-loop μ-loop
 returns c =
     let l = c .before in
     let s = l .before in
-    l .loop .inv .1 ∙ putting-all _ _ _ _ _ (upFrom-length (s .args .first) (s .args .n)) (l .loop .inv .0) (c .loop-test .left)
+    l .loop .inv .1 ∙ putting-all _ _ _ _ _ (length-upFrom (s .args .first) (s .args .n)) (l .loop .inv .0) (c .loop-test .left)
 
 pub append-range-spec : {M : Type 1} → statement M
 append-range-spec =

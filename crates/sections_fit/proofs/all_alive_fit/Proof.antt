@@ -4,7 +4,6 @@ use native.Mathlib.Omega.{arith}
 use lib.ListN.{length, drop, length-take}
 use borrow.Author.Needs.{needs}
 use borrow.Author.Tests.{not-true, not-false}
-use Rattle.segment.proofs.Tests.{fell, went}
 use Rattle.segment.proofs.Walk.{total-step}
 use Rattle.sections_fit.proofs.Walks.{alive-step, alive-end}
 use Rattle.sections_fit.specs.Walks.{aliveFitsFrom}
@@ -13,6 +12,7 @@ use Rattle.definitions.specs.Segment.{aliveWords}
 use Rattle.definitions.specs.Answer.{total}
 use Rattle.sections_fit.proofs.all_alive_fit.Statement.{statement}
 use Rattle.sections_fit.proofs.all_alive_fit.Tie as tie
+use Rattle.lists.proofs.Tests.{fell, went}
 
 abbrev Inv-loop : tie.InvT-loop
 Inv-loop mode records alive s₀ a₀ s a = (s ≤ length records) × (a + total aliveWords (recordsOf (drop s records)) ≤ length alive) × (aliveFitsFrom mode (recordsOf (drop s records)) (drop a alive) ≡ aliveFitsFrom mode (recordsOf records) alive)

@@ -4,12 +4,12 @@ use native.Mathlib.Omega.{arith}
 use lib.ListN.{length, drop}
 use borrow.Author.Needs.{needs}
 use borrow.Author.Tests.{not-true, not-false}
-use Rattle.segment.proofs.Tests.{fell, went}
 use Rattle.sections_fit.proofs.Walks.{codes-step, codes-end}
 use Rattle.sections_fit.specs.Walks.{codesFrom}
 use Rattle.segment.specs.Records.{recordsOf}
 use Rattle.sections_fit.proofs.all_codes_fit.Statement.{statement}
 use Rattle.sections_fit.proofs.all_codes_fit.Tie as tie
+use Rattle.lists.proofs.Tests.{fell, went}
 
 abbrev Inv-loop : tie.InvT-loop
 Inv-loop records s₀ s = (s ≤ length records) × (codesFrom (recordsOf (drop s records)) ≡ codesFrom (recordsOf records))

@@ -4,7 +4,6 @@ use native.Mathlib.Omega.{arith}
 use lib.ListN.{length, drop}
 use borrow.Author.Needs.{needs}
 use borrow.Author.Tests.{not-true, not-false}
-use Rattle.segment.proofs.Tests.{fell, went}
 use Rattle.segment.proofs.Walk.{total-step}
 use Rattle.sections_fit.proofs.Walks.{lists-step, lists-end}
 use Rattle.sections_fit.specs.Walks.{listsFrom}
@@ -13,6 +12,7 @@ use Rattle.definitions.specs.Segment.{SegmentRecord}
 use Rattle.definitions.specs.Answer.{total}
 use Rattle.sections_fit.proofs.all_lists_fit.Statement.{statement}
 use Rattle.sections_fit.proofs.all_lists_fit.Tie as tie
+use Rattle.lists.proofs.Tests.{fell, went}
 
 abbrev Inv-loop : tie.InvT-loop
 Inv-loop records ids offsets s₀ i₀ o₀ s i o = (s ≤ length records) × (i + total (λ (r : SegmentRecord). r .ids) (recordsOf (drop s records)) ≤ length ids) × (o + total (λ (r : SegmentRecord). r .offsets) (recordsOf (drop s records)) ≤ length offsets) × (listsFrom (recordsOf (drop s records)) (drop i ids) (drop o offsets) ≡ listsFrom (recordsOf records) ids offsets)

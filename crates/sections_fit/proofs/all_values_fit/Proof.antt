@@ -5,9 +5,8 @@ use native.Mathlib.Omega.{arith}
 use lib.ListN.{length, drop, take, length-drop}
 use borrow.Author.Needs.{needs}
 use borrow.Author.Tests.{not-true, not-false}
-use Rattle.segment.proofs.Tests.{fell, went}
-use Rattle.segment.proofs.Walk.{total-step, part-rest}
-use Rattle.sections_fit.proofs.Walks.{values-step, values-end, sum-split}
+use Rattle.segment.proofs.Walk.{total-step}
+use Rattle.sections_fit.proofs.Walks.{values-step, values-end}
 use Rattle.sections_fit.specs.Walks.{valuesFrom}
 use Rattle.segment.specs.Records.{recordsOf}
 use Rattle.definitions.specs.Segment.{SegmentRecord}
@@ -16,6 +15,9 @@ use Rattle.definitions.specs.Lists.{sum}
 use lib.Seq.{drop-drop}
 use Rattle.sections_fit.proofs.all_values_fit.Statement.{statement}
 use Rattle.sections_fit.proofs.all_values_fit.Tie as tie
+use Rattle.lists.proofs.Tests.{fell, went}
+use Rattle.lists.proofs.Parts.{part-rest}
+use Rattle.lists.proofs.Sums.{sum-split}
 
 terms-rest : (t n : ℕ) (xs : List ℕ) → drop (t + n - t) (drop t xs) ≡ drop (t + n) xs
 terms-rest t n xs = drop-drop (t + n - t) t xs ∙ ap (λ (k : ℕ). drop k xs) (let z : t + (t + n - t) ≡ t + n = omega arith in z)

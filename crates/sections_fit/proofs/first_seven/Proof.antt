@@ -6,16 +6,16 @@ use native.Mathlib.Nat.{le-of-eq}
 use lib.ListN.{length, length-map}
 use borrow.Author.Needs.{needs}
 use borrow.Author.Tests.{lt-ltb, le-ltb, not-false}
-use Rattle.segment.proofs.Tests.{hit, miss}
-use Rattle.sections_fit.proofs.Own.{lengths-wrong, exact, input-codes, input-lists, input-values, input-alive, input-sums}
+use Rattle.sections_fit.proofs.Own.{lengths-wrong, exact, input-codes, lists-wrong, values-wrong, input-alive, sums-large}
 use Rattle.sections_fit.specs.declared.Totals.{Totals}
-use Rattle.sections_fit.specs.Walks.{firstSeven, sumsRight}
+use Rattle.sections_fit.specs.Walks.{sumsRight}
 use Rattle.segment.specs.Records.{recordsOf}
 use Rattle.segment.specs.Lent.{lentInput}
 use Rattle.definitions.specs.Answer.{tooManySegments}
 use Rattle.definitions.specs.Segment.{recordFrom}
 use Rattle.sections_fit.proofs.first_seven.Statement.{statement}
 use Rattle.sections_fit.proofs.first_seven.Tie as tie
+use Rattle.lists.proofs.Tests.{taken, other}
 
 many : (records : List (List ℕ)) → 256 < length records → tooManySegments (recordsOf records) ≡ true
 unfolding tooManySegments
@@ -29,23 +29,20 @@ rows-of : {a b : ℕ} (v w : ℕ) → a ≡ b → sumsRight b v w ≡ sumsRight 
 rows-of v w e = rw e
 
 returns : tie.Need-returns
-unfolding firstSeven
-returns c = hit _ _ (many (c .before .before .before .before .before .before .before .args .records .now) (c .if1 .taken))
+returns c = taken _ _ (many (c .before .before .before .before .before .before .before .args .records .now) (c .if1 .taken))
 
 lengths-fit-requires : tie.Need-lengths-fit-requires
 lengths-fit-requires c κs = search needs
 
 returns-2 : tie.Need-returns-2
-unfolding firstSeven
 returns-2 c =
     let one = few (c .before .before .before .before .before .before .before .before .before .args .records .now) (c .before .before .if1 .left) in
-    miss _ one (hit _ _ (lengths-wrong _ _ ∙ ap not (sym (c .before .lengths-fit .ensures)) ∙ c .if2 .taken))
+    other _ one (taken _ _ (lengths-wrong _ _ ∙ ap not (sym (c .before .lengths-fit .ensures)) ∙ c .if2 .taken))
 
 known-codes-requires : tie.Need-known-codes-requires
 known-codes-requires c κs = search needs
 
 returns-3 : tie.Need-returns-3
-unfolding firstSeven
 returns-3 c =
     let the-args = c .before .before .before .before .before .before .before .before .before .before .before .args in
     let the-lengths-fit = c .before .before .before .lengths-fit in
@@ -54,7 +51,7 @@ returns-3 c =
     let x = exact _ _ (sym (the-lengths-fit .ensures) ∙ not-false _ (the-if2 .left)) in
     let one = few (the-args .records .now) (c .before .before .before .before .if1 .left) in
     let two = lengths-wrong _ _ ∙ ap not (sym (the-lengths-fit .ensures)) ∙ the-if2 .left in
-    miss _ one (miss _ two (hit _ _ (input-codes i x ∙ ap not (sym (c .before .known-codes .ensures)) ∙ c .if3 .taken)))
+    other _ one (other _ two (taken _ _ (input-codes i x ∙ ap not (sym (c .before .known-codes .ensures)) ∙ c .if3 .taken)))
 
 all-lists-fit-requires : tie.Need-all-lists-fit-requires
 all-lists-fit-requires c κs =
@@ -64,7 +61,6 @@ all-lists-fit-requires c κs =
     record { ids = le-of-eq (x .ids); offsets = le-of-eq (x .offsets) }
 
 returns-4 : tie.Need-returns-4
-unfolding firstSeven
 returns-4 c =
     let the-args = c .before .before .before .before .before .before .before .before .before .before .before .before .before .args in
     let the-lengths-fit = c .before .before .before .before .before .lengths-fit in
@@ -74,7 +70,7 @@ returns-4 c =
     let one = few (the-args .records .now) (c .before .before .before .before .before .before .if1 .left) in
     let two = lengths-wrong _ _ ∙ ap not (sym (the-lengths-fit .ensures)) ∙ the-if2 .left in
     let three = input-codes i x ∙ ap not (sym (c .before .before .before .known-codes .ensures)) ∙ c .before .before .if3 .left in
-    miss _ one (miss _ two (miss _ three (hit _ _ (input-lists i x ∙ ap not (sym (c .before .all-lists-fit .ensures)) ∙ c .if4 .taken))))
+    other _ one (other _ two (other _ three (taken _ _ (lists-wrong _ _ x ∙ ap not (sym (c .before .all-lists-fit .ensures)) ∙ c .if4 .taken))))
 
 all-values-fit-requires : tie.Need-all-values-fit-requires
 all-values-fit-requires c κs =
@@ -84,7 +80,6 @@ all-values-fit-requires c κs =
     record { values = le-of-eq (x .values); terms = le-of-eq (x .terms); bytes = le-of-eq (x .bytes) }
 
 returns-5 : tie.Need-returns-5
-unfolding firstSeven
 returns-5 c =
     let the-args = c .before .before .before .before .before .before .before .before .before .before .before .before .before .before .before .args in
     let the-lengths-fit = c .before .before .before .before .before .before .before .lengths-fit in
@@ -94,14 +89,13 @@ returns-5 c =
     let one = few (the-args .records .now) (c .before .before .before .before .before .before .before .before .if1 .left) in
     let two = lengths-wrong _ _ ∙ ap not (sym (the-lengths-fit .ensures)) ∙ the-if2 .left in
     let three = input-codes i x ∙ ap not (sym (c .before .before .before .before .before .known-codes .ensures)) ∙ c .before .before .before .before .if3 .left in
-    let four = input-lists i x ∙ ap not (sym (c .before .before .before .all-lists-fit .ensures)) ∙ c .before .before .if4 .left in
-    miss _ one (miss _ two (miss _ three (miss _ four (hit _ _ (input-values i x ∙ ap not (sym (c .before .all-values-fit .ensures)) ∙ c .if5 .taken)))))
+    let four = lists-wrong _ _ x ∙ ap not (sym (c .before .before .before .all-lists-fit .ensures)) ∙ c .before .before .if4 .left in
+    other _ one (other _ two (other _ three (other _ four (taken _ _ (values-wrong _ _ x ∙ ap not (sym (c .before .all-values-fit .ensures)) ∙ c .if5 .taken)))))
 
 all-alive-fit-requires : tie.Need-all-alive-fit-requires
 all-alive-fit-requires c κs = le-of-eq (exact _ _ (sym (c .before .before .before .before .before .before .before .lengths-fit .ensures) ∙ not-false _ (c .before .before .before .before .before .before .if2 .left)) .alive)
 
 returns-6 : tie.Need-returns-6
-unfolding firstSeven
 returns-6 c =
     let the-args = c .before .before .before .before .before .before .before .before .before .before .before .before .before .before .before .before .before .args in
     let the-lengths-fit = c .before .before .before .before .before .before .before .before .before .lengths-fit in
@@ -111,9 +105,9 @@ returns-6 c =
     let one = few (the-args .records .now) (c .before .before .before .before .before .before .before .before .before .before .if1 .left) in
     let two = lengths-wrong _ _ ∙ ap not (sym (the-lengths-fit .ensures)) ∙ the-if2 .left in
     let three = input-codes i x ∙ ap not (sym (c .before .before .before .before .before .before .before .known-codes .ensures)) ∙ c .before .before .before .before .before .before .if3 .left in
-    let four = input-lists i x ∙ ap not (sym (c .before .before .before .before .before .all-lists-fit .ensures)) ∙ c .before .before .before .before .if4 .left in
-    let five = input-values i x ∙ ap not (sym (c .before .before .before .all-values-fit .ensures)) ∙ c .before .before .if5 .left in
-    miss _ one (miss _ two (miss _ three (miss _ four (miss _ five (hit _ _ (input-alive i ∙ ap not (sym (c .before .all-alive-fit .ensures)) ∙ c .if6 .taken))))))
+    let four = lists-wrong _ _ x ∙ ap not (sym (c .before .before .before .before .before .all-lists-fit .ensures)) ∙ c .before .before .before .before .if4 .left in
+    let five = values-wrong _ _ x ∙ ap not (sym (c .before .before .before .all-values-fit .ensures)) ∙ c .before .before .if5 .left in
+    other _ one (other _ two (other _ three (other _ four (other _ five (taken _ _ (input-alive i ∙ ap not (sym (c .before .all-alive-fit .ensures)) ∙ c .if6 .taken))))))
 
 totals-of-requires : tie.Need-totals-of-requires
 totals-of-requires c κs = search needs
@@ -122,7 +116,6 @@ sums-fit-requires : tie.Need-sums-fit-requires
 sums-fit-requires c κs = search needs
 
 returns-7 : tie.Need-returns-7
-unfolding firstSeven
 returns-7 c =
     let the-args = c .before .before .before .before .before .before .before .before .before .before .before .before .before .before .before .before .before .before .before .before .args in
     let the-lengths-fit = c .before .before .before .before .before .before .before .before .before .before .before .before .lengths-fit in
@@ -132,13 +125,12 @@ returns-7 c =
     let one = few (the-args .records .now) (c .before .before .before .before .before .before .before .before .before .before .before .before .before .if1 .left) in
     let two = lengths-wrong _ _ ∙ ap not (sym (the-lengths-fit .ensures)) ∙ the-if2 .left in
     let three = input-codes i x ∙ ap not (sym (c .before .before .before .before .before .before .before .before .before .before .known-codes .ensures)) ∙ c .before .before .before .before .before .before .before .before .before .if3 .left in
-    let four = input-lists i x ∙ ap not (sym (c .before .before .before .before .before .before .before .before .all-lists-fit .ensures)) ∙ c .before .before .before .before .before .before .before .if4 .left in
-    let five = input-values i x ∙ ap not (sym (c .before .before .before .before .before .before .all-values-fit .ensures)) ∙ c .before .before .before .before .before .if5 .left in
+    let four = lists-wrong _ _ x ∙ ap not (sym (c .before .before .before .before .before .before .before .before .all-lists-fit .ensures)) ∙ c .before .before .before .before .before .before .before .if4 .left in
+    let five = values-wrong _ _ x ∙ ap not (sym (c .before .before .before .before .before .before .all-values-fit .ensures)) ∙ c .before .before .before .before .before .if5 .left in
     let six = input-alive i ∙ ap not (sym (c .before .before .before .before .all-alive-fit .ensures)) ∙ c .before .before .before .if6 .left in
-    miss _ one (miss _ two (miss _ three (miss _ four (miss _ five (miss _ six (hit _ _ (input-sums i x ∙ ap not (rows-of _ _ (ap (λ (x : Totals). x .rows) (c .before .before .totals-of .ensures)) ∙ sym (c .before .sums-fit .ensures)) ∙ c .if7 .taken)))))))
+    other _ one (other _ two (other _ three (other _ four (other _ five (other _ six (taken _ _ (sums-large _ _ x ∙ ap not (rows-of _ _ (ap (λ (x : Totals). x .rows) (c .before .before .totals-of .ensures)) ∙ sym (c .before .sums-fit .ensures)) ∙ c .if7 .taken)))))))
 
 returns-8 : tie.Need-returns-8
-unfolding firstSeven
 returns-8 c =
     let the-args = c .before .before .before .before .before .before .before .before .before .before .before .before .before .before .before .before .before .before .before .before .args in
     let the-lengths-fit = c .before .before .before .before .before .before .before .before .before .before .before .before .lengths-fit in
@@ -148,11 +140,11 @@ returns-8 c =
     let one = few (the-args .records .now) (c .before .before .before .before .before .before .before .before .before .before .before .before .before .if1 .left) in
     let two = lengths-wrong _ _ ∙ ap not (sym (the-lengths-fit .ensures)) ∙ the-if2 .left in
     let three = input-codes i x ∙ ap not (sym (c .before .before .before .before .before .before .before .before .before .before .known-codes .ensures)) ∙ c .before .before .before .before .before .before .before .before .before .if3 .left in
-    let four = input-lists i x ∙ ap not (sym (c .before .before .before .before .before .before .before .before .all-lists-fit .ensures)) ∙ c .before .before .before .before .before .before .before .if4 .left in
-    let five = input-values i x ∙ ap not (sym (c .before .before .before .before .before .before .all-values-fit .ensures)) ∙ c .before .before .before .before .before .if5 .left in
+    let four = lists-wrong _ _ x ∙ ap not (sym (c .before .before .before .before .before .before .before .before .all-lists-fit .ensures)) ∙ c .before .before .before .before .before .before .before .if4 .left in
+    let five = values-wrong _ _ x ∙ ap not (sym (c .before .before .before .before .before .before .all-values-fit .ensures)) ∙ c .before .before .before .before .before .if5 .left in
     let six = input-alive i ∙ ap not (sym (c .before .before .before .before .all-alive-fit .ensures)) ∙ c .before .before .before .if6 .left in
-    let seven = input-sums i x ∙ ap not (rows-of _ _ (ap (λ (x : Totals). x .rows) (c .before .before .totals-of .ensures)) ∙ sym (c .before .sums-fit .ensures)) ∙ c .if7 .left in
-    miss _ one (miss _ two (miss _ three (miss _ four (miss _ five (miss _ six (miss _ seven refl))))))
+    let seven = sums-large _ _ x ∙ ap not (rows-of _ _ (ap (λ (x : Totals). x .rows) (c .before .before .totals-of .ensures)) ∙ sym (c .before .sums-fit .ensures)) ∙ c .if7 .left in
+    other _ one (other _ two (other _ three (other _ four (other _ five (other _ six (other _ seven refl))))))
 
 pub first-seven-spec : {M : Type 1} → statement M
 first-seven-spec =

@@ -1,10 +1,10 @@
 use mathlib.Core.Path.{sym, _∙_}
 use borrow.Author.Needs.{needs}
 use borrow.Author.Tests.{lt-ltb, le-ltb, not-true, not-false}
-use Rattle.segment.proofs.Tests.{stop, past}
 use Rattle.sections_fit.specs.Walks.{knownCodes}
 use Rattle.sections_fit.proofs.known_codes.Statement.{statement}
 use Rattle.sections_fit.proofs.known_codes.Tie as tie
+use Rattle.lists.proofs.Tests.{stop, past}
 
 returns : tie.Need-returns
 unfolding knownCodes

@@ -3,11 +3,11 @@ use Prim.Native.Nat.{ℕ}
 use lib.Dec.{eqb}
 use borrow.Author.Needs.{needs}
 use borrow.Author.Tests.{eq-eqb, ne-eqb, not-true, not-false}
-use Rattle.segment.proofs.Tests.{stop, past}
 use Rattle.sections_fit.specs.declared.Totals.{Totals}
 use Rattle.sections_fit.specs.Walks.{lengthsRight}
 use Rattle.sections_fit.proofs.lengths_fit.Statement.{statement}
 use Rattle.sections_fit.proofs.lengths_fit.Tie as tie
+use Rattle.lists.proofs.Tests.{stop, past}
 
 eqb-of : {a b : ℕ} (n : ℕ) → a ≡ b → eqb b n ≡ eqb a n
 eqb-of n e = rw e

@@ -1,9 +1,9 @@
 use mathlib.Core.Path.{refl}
 use borrow.Author.Tests.{le-leb, lt-leb}
-use Rattle.segment.proofs.Tests.{stop, past}
 use Rattle.sections_fit.specs.Walks.{sumsRight}
 use Rattle.sections_fit.proofs.sums_fit.Statement.{statement}
 use Rattle.sections_fit.proofs.sums_fit.Tie as tie
+use Rattle.lists.proofs.Tests.{stop, past}
 
 returns : tie.Need-returns
 unfolding sumsRight

@@ -1,7 +1,7 @@
 use mathlib.Core.Path.{sym, ap, _∙_}
 use mathlib.Core.Bool.{not}
 use borrow.Author.Needs.{needs}
-use Rattle.segment.proofs.Tests.{stop, past}
+use Rattle.lists.proofs.Tests.{stop, past}
 use Rattle.segment_fit.specs.Fits.{fitsAlive}
 use Rattle.segment_fit.proofs.alive_fits.Statement.{statement}
 use Rattle.segment_fit.proofs.alive_fits.Tie as tie

@@ -1,6 +1,6 @@
 use mathlib.Core.Path.{refl}
 use borrow.Author.Tests.{eq-eqb, ne-eqb}
-use Rattle.segment.proofs.Tests.{stop, past}
+use Rattle.lists.proofs.Tests.{stop, past}
 use Rattle.segment_fit.specs.Fits.{bareCounts}
 use Rattle.segment_fit.proofs.bare_counts.Statement.{statement}
 use Rattle.segment_fit.proofs.bare_counts.Tie as tie

@@ -1,6 +1,6 @@
 use mathlib.Core.Path.{refl}
 use borrow.Author.Tests.{eq-eqb, ne-eqb}
-use Rattle.segment.proofs.Tests.{stop, past}
+use Rattle.lists.proofs.Tests.{stop, past}
 use Rattle.segment_fit.proofs.has_stacked_set.Statement.{statement}
 use Rattle.segment_fit.proofs.has_stacked_set.Tie as tie
 

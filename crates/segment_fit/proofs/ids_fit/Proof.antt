@@ -3,8 +3,8 @@ use mathlib.Core.List.{List}
 use Prim.Native.Nat.{ℕ}
 use lib.Dec.{ltb}
 use borrow.Author.Needs.{needs}
-use borrow.Author.Tests.{not-true, not-false}
-use Rattle.segment.proofs.Tests.{stop, past}
+use borrow.Author.Tests.{not-false}
+use Rattle.lists.proofs.Tests.{denied, granted}
 use Rattle.segment_fit.proofs.Laws.{ids-below, below-none}
 use Rattle.segment_fit.specs.Fits.{fitsIds, lastOf}
 use Rattle.segment_fit.proofs.ids_fit.Statement.{statement}
@@ -18,11 +18,11 @@ rises-requires c κs = search needs
 
 returns : tie.Need-returns
 unfolding fitsIds
-returns c = stop _ (sym (c .before .rises .ensures) ∙ not-true _ (c .if1 .taken))
+returns c = denied _ (c .before .rises .ensures) (c .if1 .taken)
 
 returns-2 : tie.Need-returns-2
 unfolding fitsIds
-returns-2 c = past (sym (c .before .before .rises .ensures) ∙ not-false _ (c .before .if1 .left)) (below-none _ _ (c .if2 .taken))
+returns-2 c = granted (c .before .before .rises .ensures) (c .before .if1 .left) (below-none _ _ (c .if2 .taken))
 
 last-of-requires : tie.Need-last-of-requires
 last-of-requires c κs = search needs
@@ -35,7 +35,7 @@ unfolding fitsIds
 returns-3 c =
     let the-rises = c .before .before .before .before .rises in
     let the-if1 = c .before .before .before .if1 in
-    past (sym (the-rises .ensures) ∙ not-false _ (the-if1 .left)) (last-below _ _ _ _ (c .before .last-of .ensures) (c .wide .ensures .0) ∙ ids-below _ _ (sym (the-rises .ensures) ∙ not-false _ (the-if1 .left)) (c .before .before .if2 .left))
+    granted (the-rises .ensures) (the-if1 .left) (last-below _ _ _ _ (c .before .last-of .ensures) (c .wide .ensures .0) ∙ ids-below _ _ (sym (the-rises .ensures) ∙ not-false _ (the-if1 .left)) (c .before .before .if2 .left))
 
 pub ids-fit-spec : {M : Type 1} → statement M
 ids-fit-spec =

@@ -1,6 +1,10 @@
-use mathlib.Core.Path.{sym, _∙_}
+use mathlib.Core.Path.{_∙_}
+use Prim.Native.Nat.{_-_}
+use native.Mathlib.Omega.{arith}
+use lib.ListN.{length}
 use borrow.Author.Needs.{needs}
-use Rattle.segment_fit.proofs.Laws.{last-at}
+use Rattle.lists.proofs.Lists.{last-at}
+use Rattle.segment_fit.specs.Fits.{lastOf}
 use Rattle.segment_fit.proofs.last_of.Statement.{statement}
 use Rattle.segment_fit.proofs.last_of.Tie as tie
 
@@ -17,7 +21,8 @@ wide-requires : tie.Need-wide-requires
 wide-requires c κs = search needs
 
 returns : tie.Need-returns
-returns c = c .wide .ensures .0 ∙ sym (last-at (c .before .before .before .args .xs .now) (c .before .before .before .pre))
+unfolding lastOf
+returns c = let xs = c .before .before .before .args .xs .now in c .wide .ensures .0 ∙ last-at xs (length xs - 1) (omega arith)
 
 pub last-of-spec : {M : Type 1} → statement M
 last-of-spec = tie.close (tie.spec sub-n mul-wide shared-slice-read-wide wide-requires returns)

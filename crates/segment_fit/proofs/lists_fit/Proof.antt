@@ -1,6 +1,6 @@
 use borrow.Author.Needs.{needs}
 use borrow.Author.Tests.{eq-eqb, ne-eqb}
-use Rattle.segment.proofs.Tests.{chosen, other}
+use Rattle.lists.proofs.Tests.{chosen, other}
 use Rattle.segment_fit.specs.Fits.{fitsLists}
 use Rattle.segment_fit.proofs.lists_fit.Statement.{statement}
 use Rattle.segment_fit.proofs.lists_fit.Tie as tie

@@ -1,8 +1,8 @@
 use mathlib.Core.Path.{sym, ap, _∙_}
 use Prim.Native.Nat.{ℕ, _+_}
 use borrow.Author.Needs.{needs}
-use borrow.Author.Tests.{eq-eqb, ne-eqb, not-true, not-false}
-use Rattle.segment.proofs.Tests.{stop, past}
+use borrow.Author.Tests.{eq-eqb, ne-eqb}
+use Rattle.lists.proofs.Tests.{stop, past, denied, granted}
 use Rattle.segment_fit.specs.Fits.{fitsOld}
 use Rattle.segment_fit.proofs.old_fits.Statement.{statement}
 use Rattle.segment_fit.proofs.old_fits.Tie as tie
@@ -26,14 +26,14 @@ offsets-fit-requires c κs = search needs
 
 returns-3 : tie.Need-returns-3
 unfolding fitsOld
-returns-3 c = past (eq-eqb _ _ (c .before .before .before .before .if1 .left)) (past (eq-eqb _ _ (c .before .before .if2 .left ∙ ap (λ (n : ℕ). n + 1) (c .before .before .before .wide .ensures .0))) (stop _ (sym (c .before .offsets-fit .ensures) ∙ not-true _ (c .if3 .taken))))
+returns-3 c = past (eq-eqb _ _ (c .before .before .before .before .if1 .left)) (past (eq-eqb _ _ (c .before .before .if2 .left ∙ ap (λ (n : ℕ). n + 1) (c .before .before .before .wide .ensures .0))) (denied _ (c .before .offsets-fit .ensures) (c .if3 .taken)))
 
 rises-requires : tie.Need-rises-requires
 rises-requires c κs = search needs
 
 returns-4 : tie.Need-returns-4
 unfolding fitsOld
-returns-4 c = past (eq-eqb _ _ (c .before .before .before .before .before .if1 .left)) (past (eq-eqb _ _ (c .before .before .before .if2 .left ∙ ap (λ (n : ℕ). n + 1) (c .before .before .before .before .wide .ensures .0))) (past (sym (c .before .before .offsets-fit .ensures) ∙ not-false _ (c .before .if3 .left)) (c .rises .ensures)))
+returns-4 c = past (eq-eqb _ _ (c .before .before .before .before .before .if1 .left)) (past (eq-eqb _ _ (c .before .before .before .if2 .left ∙ ap (λ (n : ℕ). n + 1) (c .before .before .before .before .wide .ensures .0))) (granted (c .before .before .offsets-fit .ensures) (c .before .if3 .left) (c .rises .ensures)))
 
 pub old-fits-spec : {M : Type 1} → statement M
 old-fits-spec =

@@ -4,7 +4,7 @@ use lib.Dec.{eqb}
 use lib.ListN.{length}
 use borrow.Author.Needs.{needs}
 use borrow.Author.Tests.{eq-eqb, ne-eqb}
-use Rattle.segment.proofs.Tests.{stop, past}
+use Rattle.lists.proofs.Tests.{stop, past}
 use Rattle.segment_fit.specs.Fits.{fitsOptional}
 use Rattle.segment_fit.proofs.optional_fits.Statement.{statement}
 use Rattle.segment_fit.proofs.optional_fits.Tie as tie

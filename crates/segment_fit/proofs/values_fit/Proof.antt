@@ -1,7 +1,5 @@
-use mathlib.Core.Path.{sym, _∙_}
 use borrow.Author.Needs.{needs}
-use borrow.Author.Tests.{not-true, not-false}
-use Rattle.segment.proofs.Tests.{stop, past}
+use Rattle.lists.proofs.Tests.{denied, granted}
 use Rattle.segment_fit.specs.Fits.{fitsValues}
 use Rattle.segment_fit.proofs.values_fit.Statement.{statement}
 use Rattle.segment_fit.proofs.values_fit.Tie as tie
@@ -11,14 +9,14 @@ words-fit-requires c κs = search needs
 
 returns : tie.Need-returns
 unfolding fitsValues
-returns c = stop _ (sym (c .before .words-fit .ensures) ∙ not-true _ (c .if1 .taken))
+returns c = denied _ (c .before .words-fit .ensures) (c .if1 .taken)
 
 terms-fit-requires : tie.Need-terms-fit-requires
 terms-fit-requires c κs = search needs
 
 returns-2 : tie.Need-returns-2
 unfolding fitsValues
-returns-2 c = past (sym (c .before .before .words-fit .ensures) ∙ not-false _ (c .before .if1 .left)) (c .terms-fit .ensures)
+returns-2 c = granted (c .before .before .words-fit .ensures) (c .before .if1 .left) (c .terms-fit .ensures)
 
 pub values-fit-spec : {M : Type 1} → statement M
 values-fit-spec = tie.close (tie.spec words-fit-requires returns terms-fit-requires returns-2)

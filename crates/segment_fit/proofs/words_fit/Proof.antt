@@ -1,7 +1,7 @@
 use mathlib.Core.Path.{refl, sym, _∙_}
 use borrow.Author.Needs.{needs}
 use borrow.Author.Tests.{eq-eqb, ne-eqb}
-use Rattle.segment.proofs.Tests.{chosen, other}
+use Rattle.lists.proofs.Tests.{chosen, other}
 use Rattle.segment_fit.specs.Fits.{fitsWords}
 use Rattle.segment_fit.proofs.words_fit.Statement.{statement}
 use Rattle.segment_fit.proofs.words_fit.Tie as tie

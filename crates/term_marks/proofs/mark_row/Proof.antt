@@ -5,9 +5,10 @@ use lib.ListN.{length}
 use borrow.Author.Needs.{needs}
 use borrow.Author.Tests.{not-true, not-false}
 use Rattle.column_index.proofs.Walk.{sound-readable, sound-rises, sound-inside}
-use Rattle.term_marks.proofs.Laws.{below-part, by-dead, by-alive}
+use Rattle.term_marks.proofs.Laws.{by-dead, by-alive}
 use Rattle.term_marks.proofs.mark_row.Statement.{statement}
 use Rattle.term_marks.proofs.mark_row.Tie as tie
+use Rattle.runs.proofs.Laws.{below-part}
 
 low : (c : tie.After-value-range) → c .value-range .result .start ≤ c .value-range .result .end
 low c =

@@ -21,25 +21,25 @@ i-n : (c : tie.After-wide Inv-loop μ-loop) → c .wide .result ≡ recordFrom (
 i-n c = c .wide .ensures .0 ∙ ap (λ (r : Record). r .ids) (c .before .record-at .ensures)
 
 i-in : (c : tie.After-wide Inv-loop μ-loop) → c .before .before .before .loop .i + c .wide .result ≤ length (c .before .before .before .before .before .before .before .before .before .before .args .ids .now)
-i-in c = run-in (λ (r : SegmentRecord). r .ids) _ _ _ _ _ (c .before .before .before .loop .inv .i-is) (c .before .before .loop-test .taken) (i-n c) (c .before .before .before .before .before .before .before .before .before .before .pre .0 .ids-in)
+i-in c = run-in (λ (r : SegmentRecord). r .ids) (c .before .before .before .before .before .before .before .before .before .before .args .records .now) _ _ _ _ (c .before .before .before .loop .inv .i-is) (c .before .before .loop-test .taken) (i-n c) (c .before .before .before .before .before .before .before .before .before .before .pre .0 .ids-in)
 
 o-n : (c : tie.After-wide2 Inv-loop μ-loop) → c .wide2 .result ≡ recordFrom (getD (c .before .before .before .before .before .before .before .before .before .before .before .args .records .now) (c .before .before .before .before .loop .s) []) .offsets
 o-n c = c .wide2 .ensures .0 ∙ ap (λ (r : Record). r .offsets) (c .before .before .record-at .ensures)
 
 o-in : (c : tie.After-wide2 Inv-loop μ-loop) → c .before .before .before .before .loop .o + c .wide2 .result ≤ length (c .before .before .before .before .before .before .before .before .before .before .before .args .offsets .now)
-o-in c = run-in (λ (r : SegmentRecord). r .offsets) _ _ _ _ _ (c .before .before .before .before .loop .inv .o-is) (c .before .before .before .loop-test .taken) (o-n c) (c .before .before .before .before .before .before .before .before .before .before .before .pre .0 .offsets-in)
+o-in c = run-in (λ (r : SegmentRecord). r .offsets) (c .before .before .before .before .before .before .before .before .before .before .before .args .records .now) _ _ _ _ (c .before .before .before .before .loop .inv .o-is) (c .before .before .before .loop-test .taken) (o-n c) (c .before .before .before .before .before .before .before .before .before .before .before .pre .0 .offsets-in)
 
 v-n : (c : tie.After-wide3 Inv-loop μ-loop) → c .wide3 .result ≡ recordFrom (getD (c .before .before .before .before .before .before .before .before .before .before .before .before .args .records .now) (c .before .before .before .before .before .loop .s) []) .values
 v-n c = c .wide3 .ensures .0 ∙ ap (λ (r : Record). r .values) (c .before .before .before .record-at .ensures)
 
 v-in : (c : tie.After-wide3 Inv-loop μ-loop) → c .before .before .before .before .before .loop .v + c .wide3 .result ≤ length (c .before .before .before .before .before .before .before .before .before .before .before .before .args .values .now)
-v-in c = run-in (λ (r : SegmentRecord). r .values) _ _ _ _ _ (c .before .before .before .before .before .loop .inv .v-is) (c .before .before .before .before .loop-test .taken) (v-n c) (c .before .before .before .before .before .before .before .before .before .before .before .before .pre .0 .values-in)
+v-in c = run-in (λ (r : SegmentRecord). r .values) (c .before .before .before .before .before .before .before .before .before .before .before .before .args .records .now) _ _ _ _ (c .before .before .before .before .before .loop .inv .v-is) (c .before .before .before .before .loop-test .taken) (v-n c) (c .before .before .before .before .before .before .before .before .before .before .before .before .pre .0 .values-in)
 
 w-n : (c : tie.After-alive-words Inv-loop μ-loop) → c .alive-words .result ≡ aliveWords (recordFrom (getD (c .before .before .before .before .before .before .before .before .before .before .before .before .before .args .records .now) (c .before .before .before .before .before .before .loop .s) []))
 w-n c = c .alive-words .ensures .0 ∙ ap (λ (r : Record). aliveWords (recordIn r)) (c .before .before .before .before .record-at .ensures)
 
 w-in : (c : tie.After-alive-words Inv-loop μ-loop) → c .before .before .before .before .before .before .loop .w + c .alive-words .result ≤ length (c .before .before .before .before .before .before .before .before .before .before .before .before .before .args .alive .now)
-w-in c = run-in aliveWords _ _ _ _ _ (c .before .before .before .before .before .before .loop .inv .w-is) (c .before .before .before .before .before .loop-test .taken) (w-n c) (c .before .before .before .before .before .before .before .before .before .before .before .before .before .pre .0 .alive-in)
+w-in c = run-in aliveWords (c .before .before .before .before .before .before .before .before .before .before .before .before .before .args .records .now) _ _ _ _ (c .before .before .before .before .before .before .loop .inv .w-is) (c .before .before .before .before .before .loop-test .taken) (w-n c) (c .before .before .before .before .before .before .before .before .before .before .before .before .before .pre .0 .alive-in)
 
 t-n : (c : tie.After-wide4 Inv-loop μ-loop) → c .wide4 .result ≡ recordFrom (getD (c .before .before .before .before .before .before .before .before .before .before .before .before .before .before .args .records .now) (c .before .before .before .before .before .before .before .loop .s) []) .terms
 t-n c = c .wide4 .ensures .0 ∙ ap (λ (r : Record). r .terms) (c .before .before .before .before .before .record-at .ensures)
@@ -47,7 +47,7 @@ t-n c = c .wide4 .ensures .0 ∙ ap (λ (r : Record). r .terms) (c .before .befo
 t-in : (c : tie.After-wide4 Inv-loop μ-loop) → c .before .before .before .before .before .before .before .loop .t + c .wide4 .result ≤ length (c .before .before .before .before .before .before .before .loop .marks)
 t-in c =
     let g = c .before .before .before .before .before .before .before .loop .inv in
-    run-in (λ (r : SegmentRecord). r .terms) _ _ _ _ _ (g .t-is) (c .before .before .before .before .before .before .loop-test .taken) (t-n c) (omega (arith, going-length _ _ _ _ _ _ _ _ _ _ _ _ _ g))
+    run-in (λ (r : SegmentRecord). r .terms) (c .before .before .before .before .before .before .before .before .before .before .before .before .before .before .args .records .now) _ _ _ _ (g .t-is) (c .before .before .before .before .before .before .loop-test .taken) (t-n c) (omega (arith, going-length _ _ _ _ _ _ _ _ _ _ _ _ _ g))
 
 turn : (c : tie.After-wide4 Inv-loop μ-loop) →
     let s = c .before .before .before .before .before .before .before .before .before .before .before .before .before .before in

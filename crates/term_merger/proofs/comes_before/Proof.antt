@@ -9,12 +9,12 @@ use Rattle.term_merger.proofs.comes_before.Statement.{statement}
 use Rattle.term_merger.proofs.comes_before.Tie as tie
 
 -- src/lib.rt:93:9
-wide-requires : tie.Need-wide-requires
-wide-requires c κs = search needs
+byte-requires : tie.Need-byte-requires
+byte-requires c κs = search needs
 
 -- src/lib.rt:94:9
-wide-requires-2 : tie.Need-wide-requires-2
-wide-requires-2 c κs = search needs
+byte-requires-2 : tie.Need-byte-requires-2
+byte-requires-2 c κs = search needs
 
 -- src/lib.rt:95:13
 mul-x : tie.Need-mul-x
@@ -49,11 +49,11 @@ array-read-ye : tie.Need-array-read-ye
 array-read-ye c = search needs
 
 -- src/lib.rt:101:27
-rd-x : (c : tie.After-y) → (cell (c .before .before .before .before .before .args .rows .now) (c .before .before .before .wide .result) 0 ≤ cell (c .before .before .before .before .before .args .rows .now) (c .before .before .before .wide .result) 1) × (cell (c .before .before .before .before .before .args .rows .now) (c .before .before .before .wide .result) 1 ≤ length (c .before .before .before .before .before .args .bytes .now))
-rd-x c = readable-at _ _ _ (c .before .before .before .before .before .pre .1) (c .before .before .before .wide .ensures .1)
+rd-x : (c : tie.After-y) → (cell (c .before .before .before .before .before .args .cursors .now) (c .before .before .before .byte .result) 0 ≤ cell (c .before .before .before .before .before .args .cursors .now) (c .before .before .before .byte .result) 1) × (cell (c .before .before .before .before .before .args .cursors .now) (c .before .before .before .byte .result) 1 ≤ length (c .before .before .before .before .before .args .bytes .now))
+rd-x c = readable-at _ _ _ (c .before .before .before .before .before .pre .1) (c .before .before .before .byte .ensures .1)
 
-rd-y : (c : tie.After-y) → (cell (c .before .before .before .before .before .args .rows .now) (c .before .before .wide2 .result) 0 ≤ cell (c .before .before .before .before .before .args .rows .now) (c .before .before .wide2 .result) 1) × (cell (c .before .before .before .before .before .args .rows .now) (c .before .before .wide2 .result) 1 ≤ length (c .before .before .before .before .before .args .bytes .now))
-rd-y c = readable-at _ _ _ (c .before .before .before .before .before .pre .1) (c .before .before .wide2 .ensures .1)
+rd-y : (c : tie.After-y) → (cell (c .before .before .before .before .before .args .cursors .now) (c .before .before .byte2 .result) 0 ≤ cell (c .before .before .before .before .before .args .cursors .now) (c .before .before .byte2 .result) 1) × (cell (c .before .before .before .before .before .args .cursors .now) (c .before .before .byte2 .result) 1 ≤ length (c .before .before .before .before .before .args .bytes .now))
+rd-y c = readable-at _ _ _ (c .before .before .before .before .before .pre .1) (c .before .before .byte2 .ensures .1)
 
 sub-compare-terms : tie.Need-sub-compare-terms
 sub-compare-terms c = omega (arith, rd-x c)
@@ -110,7 +110,7 @@ array-read-result-2 c = search needs
 returns : tie.Need-returns
 returns c =
     let w = c .before .before .before .before .before .before .before .before in
-    rw (← w .before .wide .ensures .0, ← w .wide2 .ensures .0) (before-tie _ _ _ _ (sym (c .before .enum-told2 .given .1) ∙ c .before .before .before .compare-terms .ensures) (c .if1 .taken))
+    rw (← w .before .byte .ensures .0, ← w .byte2 .ensures .0) (before-tie _ _ _ _ (sym (c .before .enum-told2 .given .1) ∙ c .before .before .before .compare-terms .ensures) (c .if1 .taken))
 
 -- src/lib.rt:110:29
 enum-told-3 : tie.Need-enum-told-3
@@ -120,26 +120,26 @@ enum-told-3 c = search needs
 returns-2 : tie.Need-returns-2
 returns-2 c =
     let w = c .before .before .before .before .before .before .before in
-    rw (← w .before .wide .ensures .0, ← w .wide2 .ensures .0) (before-lt _ _ _ _ (sym (c .enum-told .given .1) ∙ c .before .before .compare-terms .ensures))
+    rw (← w .before .byte .ensures .0, ← w .byte2 .ensures .0) (before-lt _ _ _ _ (sym (c .enum-told .given .1) ∙ c .before .before .compare-terms .ensures))
 
 -- src/lib.rt:89:1
 returns-3 : tie.Need-returns-3
 returns-3 c =
     let w = c .before .before .before .before .before .before .before .before in
-    rw (← w .before .wide .ensures .0, ← w .wide2 .ensures .0) (before-number _ _ _ _ (sym (c .before .enum-told2 .given .1) ∙ c .before .before .before .compare-terms .ensures) (c .if1 .left))
+    rw (← w .before .byte .ensures .0, ← w .byte2 .ensures .0) (before-number _ _ _ _ (sym (c .before .enum-told2 .given .1) ∙ c .before .before .before .compare-terms .ensures) (c .if1 .left))
 
 -- src/lib.rt:89:1
 returns-4 : tie.Need-returns-4
 returns-4 c =
     let w = c .before .before .before .before .before .before .before in
-    rw (← w .before .wide .ensures .0, ← w .wide2 .ensures .0) (before-gt _ _ _ _ (sym (c .enum-told3 .given .1) ∙ c .before .before .compare-terms .ensures))
+    rw (← w .before .byte .ensures .0, ← w .byte2 .ensures .0) (before-gt _ _ _ _ (sym (c .enum-told3 .given .1) ∙ c .before .before .compare-terms .ensures))
 
 pub comes-before-spec : {M : Type 1} → statement M
 comes-before-spec =
     tie.close
     (tie.spec
-    wide-requires
-    wide-requires-2
+    byte-requires
+    byte-requires-2
     mul-x
     shared-slice-copy-out-x
     mul-y

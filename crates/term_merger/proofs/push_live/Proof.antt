@@ -7,16 +7,16 @@ use Rattle.term_merger.proofs.push_live.Statement.{statement}
 use Rattle.term_merger.proofs.push_live.Tie as tie
 
 -- src/lib.rt:120:9
-wide-requires : tie.Need-wide-requires
-wide-requires c κs = search needs
+byte-requires : tie.Need-byte-requires
+byte-requires c κs = search needs
 
 -- src/lib.rt:121:15
-mul-row : tie.Need-mul-row
-mul-row c = search needs
+mul-cursor : tie.Need-mul-cursor
+mul-cursor c = search needs
 
 -- src/lib.rt:121:15
-shared-slice-copy-out-row : tie.Need-shared-slice-copy-out-row
-shared-slice-copy-out-row c = search needs
+shared-slice-copy-out-cursor : tie.Need-shared-slice-copy-out-cursor
+shared-slice-copy-out-cursor c = search needs
 
 -- src/lib.rt:122:8
 array-read-if1 : tie.Need-array-read-if1
@@ -34,23 +34,23 @@ push-requires c κs = search needs
 returns : tie.Need-returns
 returns c =
     let s = c .before .before .before .before .before in
-    let l : cell (s .args .rows .now) (s .args .s) 3 < cell (s .args .rows .now) (s .args .s) 4 = subst (λ (x : ℕ). cell (s .args .rows .now) x 3 < cell (s .args .rows .now) x 4) (c .before .before .before .wide .ensures .0) (c .before .if1 .taken) in
+    let l : cell (s .args .cursors .now) (s .args .s) 3 < cell (s .args .cursors .now) (s .args .s) 4 = subst (λ (x : ℕ). cell (s .args .cursors .now) x 3 < cell (s .args .cursors .now) x 4) (c .before .before .before .byte .ensures .0) (c .before .if1 .taken) in
     record { live = λ h. c .push .ensures .room (s .pre .1 .0); done = λ h. absurd (omega arith) }
 
 -- src/lib.rt:115:1
 returns-2 : tie.Need-returns-2
 returns-2 c =
     let s = c .before .before .before .before in
-    let l : cell (s .args .rows .now) (s .args .s) 4 ≤ cell (s .args .rows .now) (s .args .s) 3 = subst (λ (x : ℕ). cell (s .args .rows .now) x 4 ≤ cell (s .args .rows .now) x 3) (c .before .before .wide .ensures .0) (c .if1 .left) in
+    let l : cell (s .args .cursors .now) (s .args .s) 4 ≤ cell (s .args .cursors .now) (s .args .s) 3 = subst (λ (x : ℕ). cell (s .args .cursors .now) x 4 ≤ cell (s .args .cursors .now) x 3) (c .before .before .byte .ensures .0) (c .if1 .left) in
     record { live = λ h. absurd (omega arith); done = λ h. refl }
 
 pub push-live-spec : {M : Type 1} → statement M
 push-live-spec =
     tie.close
     (tie.spec
-    wide-requires
-    mul-row
-    shared-slice-copy-out-row
+    byte-requires
+    mul-cursor
+    shared-slice-copy-out-cursor
     array-read-if1
     array-read-if1-2
     push-requires

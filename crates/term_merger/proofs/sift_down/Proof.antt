@@ -11,10 +11,10 @@ use Rattle.term_merger.proofs.sift_down.Statement.{statement}
 use Rattle.term_merger.proofs.sift_down.Tie as tie
 
 abbrev Inv-loop : tie.InvT-loop
-Inv-loop bytes rows n h₀ i₀ h i = (h .len ≡ h₀ .len) × (i ≤ 256) × (length (h .seg) ≡ 256) × ((x : ℕ) → count x (take n (h .seg)) ≡ count x (take n (h₀ .seg))) × Sinking bytes rows (h .seg) i n
+Inv-loop bytes cursors n h₀ i₀ h i = (h .len ≡ h₀ .len) × (i ≤ 256) × (length (h .seg) ≡ 256) × ((x : ℕ) → count x (take n (h .seg)) ≡ count x (take n (h₀ .seg))) × Sinking bytes cursors (h .seg) i n
 
 abbrev μ-loop : tie.MeasureT-loop
-μ-loop bytes rows n h₀ i₀ h i = n - i
+μ-loop bytes cursors n h₀ i₀ h i = n - i
 
 -- src/lib.rt:174:5
 loop-holds : tie.Need-loop-holds Inv-loop μ-loop
@@ -59,11 +59,11 @@ returns c =
     let s = c .before .before .before .before .before .before .before .before .before .before in
     let f = c .before .before .before .before .first-child in
     let seg : List ℕ = l .loop .h .seg in
-    let k : AtMost (s .args .bytes .now) (s .args .rows .now) (getD seg (l .loop .i) 0) (getD seg (f .result) 0) = sym (c .before .comes-before .ensures) ∙ not-true _ (c .if1 .taken) in
+    let k : AtMost (s .args .bytes .now) (s .args .cursors .now) (getD seg (l .loop .i) 0) (getD seg (f .result) 0) = sym (c .before .comes-before .ensures) ∙ not-true _ (c .if1 .taken) in
     record {
       len = l .loop .inv .0;
-      inHeapOrder = down-end (s .args .bytes .now) (s .args .rows .now) seg (l .loop .i) (s .args .n) (l .loop .inv .4)
-          (λ j p q e. at-most-trans (s .args .bytes .now) (s .args .rows .now) _ _ _ k (f .ensures .least j (omega arith) (omega arith) q));
+      inHeapOrder = down-end (s .args .bytes .now) (s .args .cursors .now) seg (l .loop .i) (s .args .n) (l .loop .inv .4)
+          (λ j p q e. at-most-trans (s .args .bytes .now) (s .args .cursors .now) _ _ _ k (f .ensures .least j (omega arith) (omega arith) q));
       holds = l .loop .inv .3;
     }
 
@@ -91,12 +91,12 @@ loop-again c =
     let hi : f .result ≤ 2 * l .loop .i + 1 + 1 = f .ensures .high in
     let n256 : s .args .n ≤ 256 = s .pre .1 .0 in
     let len : length seg ≡ 256 = l .loop .inv .2 in
-    let k : AtMost (s .args .bytes .now) (s .args .rows .now) (getD seg (f .result) 0) (getD seg (l .loop .i) 0) = before-at-most _ _ _ _ (sym (c .before .comes-before .ensures) ∙ not-false _ (c .if1 .left)) in (
+    let k : AtMost (s .args .bytes .now) (s .args .cursors .now) (getD seg (f .result) 0) (getD seg (l .loop .i) 0) = before-at-most _ _ _ _ (sym (c .before .comes-before .ensures) ∙ not-false _ (c .if1 .left)) in (
       l .loop .inv .0,
       omega arith,
       simp length-set len,
       (λ x. count-swap seg (s .args .n) (f .result) (l .loop .i) (omega arith) cf (omega arith) (λ e. omega arith) x ∙ l .loop .inv .3 x),
-      down-swap (s .args .bytes .now) (s .args .rows .now) seg (l .loop .i) (f .result) (s .args .n) (omega arith) (omega arith) cf (omega arith) k
+      down-swap (s .args .bytes .now) (s .args .cursors .now) seg (l .loop .i) (f .result) (s .args .n) (omega arith) (omega arith) cf (omega arith) k
           (λ j p q e. f .ensures .least j (omega arith) (omega arith) q) (l .loop .inv .4),
     )
 
@@ -107,7 +107,7 @@ returns-2 c =
     let s = c .before .before .before in
     record {
       len = l .loop .inv .0;
-      inHeapOrder = down-end (s .args .bytes .now) (s .args .rows .now) (l .loop .h .seg) (l .loop .i) (s .args .n) (l .loop .inv .4) (λ j p q e. absurd (omega (arith, c .loop-test .left)));
+      inHeapOrder = down-end (s .args .bytes .now) (s .args .cursors .now) (l .loop .h .seg) (l .loop .i) (s .args .n) (l .loop .inv .4) (λ j p q e. absurd (omega (arith, c .loop-test .left)));
       holds = l .loop .inv .3;
     }
 

@@ -11,10 +11,10 @@ use Rattle.term_merger.proofs.sift_up.Statement.{statement}
 use Rattle.term_merger.proofs.sift_up.Tie as tie
 
 abbrev Inv-loop : tie.InvT-loop
-Inv-loop bytes rows from h₀ i₀ h i = (h .len ≡ h₀ .len) × (i < from + 1) × (length (h .seg) ≡ 256) × ((x : ℕ) → count x (take (from + 1) (h .seg)) ≡ count x (take (from + 1) (h₀ .seg))) × Up bytes rows (h .seg) i (from + 1)
+Inv-loop bytes cursors from h₀ i₀ h i = (h .len ≡ h₀ .len) × (i < from + 1) × (length (h .seg) ≡ 256) × ((x : ℕ) → count x (take (from + 1) (h .seg)) ≡ count x (take (from + 1) (h₀ .seg))) × Up bytes cursors (h .seg) i (from + 1)
 
 abbrev μ-loop : tie.MeasureT-loop
-μ-loop bytes rows from h₀ i₀ h i = i
+μ-loop bytes cursors from h₀ i₀ h i = i
 
 -- src/lib.rt:122:5
 loop-holds : tie.Need-loop-holds Inv-loop μ-loop
@@ -43,7 +43,7 @@ returns c =
     let s = c .before .before .before .before .before .before .before in
     record {
       len = l .loop .inv .0;
-      inHeapOrder = up-end (s .args .bytes .now) (s .args .rows .now) (l .loop .h .seg) (l .loop .i) (s .args .from + 1) (l .loop .inv .4) (λ p. sym (c .before .comes-before .ensures) ∙ not-true _ (c .if1 .taken));
+      inHeapOrder = up-end (s .args .bytes .now) (s .args .cursors .now) (l .loop .h .seg) (l .loop .i) (s .args .from + 1) (l .loop .inv .4) (λ p. sym (c .before .comes-before .ensures) ∙ not-true _ (c .if1 .taken));
       holds = l .loop .inv .3;
     }
 
@@ -70,12 +70,12 @@ loop-again c =
     let ins : l .loop .i < s .args .from + 1 = l .loop .inv .1 in
     let f256 : s .args .from < 256 = s .pre .1 .0 in
     let len : length seg ≡ 256 = l .loop .inv .2 in
-    let k : AtMost (s .args .bytes .now) (s .args .rows .now) (getD seg (l .loop .i) 0) (getD seg ((l .loop .i - 1) / 2) 0) = before-at-most _ _ _ _ (sym (c .before .comes-before .ensures) ∙ not-false _ (c .if1 .left)) in (
+    let k : AtMost (s .args .bytes .now) (s .args .cursors .now) (getD seg (l .loop .i) 0) (getD seg ((l .loop .i - 1) / 2) 0) = before-at-most _ _ _ _ (sym (c .before .comes-before .ensures) ∙ not-false _ (c .if1 .left)) in (
       l .loop .inv .0,
       omega arith,
       simp length-set len,
       (λ x. count-swap seg (s .args .from + 1) (l .loop .i) ((l .loop .i - 1) / 2) (omega arith) ins (omega arith) (λ e. omega arith) x ∙ l .loop .inv .3 x),
-      up-swap (s .args .bytes .now) (s .args .rows .now) seg (l .loop .i) (s .args .from + 1) pos ins (omega arith) k (l .loop .inv .4),
+      up-swap (s .args .bytes .now) (s .args .cursors .now) seg (l .loop .i) (s .args .from + 1) pos ins (omega arith) k (l .loop .inv .4),
     )
 
 -- src/lib.rt:115:1
@@ -85,7 +85,7 @@ returns-2 c =
     let s = c .before .before .before in
     record {
       len = l .loop .inv .0;
-      inHeapOrder = up-end (s .args .bytes .now) (s .args .rows .now) (l .loop .h .seg) (l .loop .i) (s .args .from + 1) (l .loop .inv .4) (λ p. absurd (omega (arith, c .loop-test .left)));
+      inHeapOrder = up-end (s .args .bytes .now) (s .args .cursors .now) (l .loop .h .seg) (l .loop .i) (s .args .from + 1) (l .loop .inv .4) (λ p. absurd (omega (arith, c .loop-test .left)));
       holds = l .loop .inv .3;
     }
 

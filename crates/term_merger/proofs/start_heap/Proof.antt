@@ -8,10 +8,10 @@ use Rattle.term_merger.proofs.start_heap.Statement.{statement}
 use Rattle.term_merger.proofs.start_heap.Tie as tie
 
 abbrev Inv-loop : tie.InvT-loop
-Inv-loop bytes rows h₀ s₀ h s = Begun bytes rows h s
+Inv-loop bytes cursors h₀ s₀ h s = Begun bytes cursors h s
 
 abbrev μ-loop : tie.MeasureT-loop
-μ-loop bytes rows h₀ s₀ h s = 256 - s
+μ-loop bytes cursors h₀ s₀ h s = 256 - s
 
 -- src/lib.rt:218:9
 empty-requires : tie.Need-empty-requires Inv-loop μ-loop

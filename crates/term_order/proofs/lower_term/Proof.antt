@@ -1,5 +1,5 @@
 use mathlib.Core.Path.{_≡_, sym, _∙_}
-use Prim.Native.Nat.{Ordering, Ordering·lt, Ordering·eq, Ordering·gt}
+use Prim.Native.Nat.{Ordering·lt, Ordering·eq, Ordering·gt}
 use Rattle.definitions.specs.Lists.{compareBytes}
 use Rattle.term_order.proofs.Laws.{told-lt, told-eq, told-gt}
 use borrow.Author.Needs.{needs}

@@ -1,13 +1,7 @@
 use borrow.Author.Needs.{needs}
-use mathlib.Core.Path.{_≡_, ap}
-use Prim.Native.Nat.{ℕ, _+_, _-_}
-use native.Mathlib.Omega.{arith}
-use lib.ListN.{take, drop}
+use Rattle.lists.proofs.Parts.{part-lent}
 use Rattle.term_reader.proofs.term_at.Statement.{statement}
 use Rattle.term_reader.proofs.term_at.Tie as tie
-
-so-long : (at : ℕ) {w x : ℕ} → w ≡ x → at + w - at ≡ x
-so-long at e = omega (arith, e)
 
 mul-wide : tie.Need-mul-wide
 mul-wide c = search needs
@@ -31,7 +25,7 @@ part-result-end : tie.Need-part-result-end
 part-result-end c = search needs
 
 returns : tie.Need-returns
-returns c = let a = c .before .before .before .before .before .args in ap (λ (n : ℕ). take n (drop (a .at) (a .bytes .now))) (so-long (a .at) (c .before .wide .ensures .0))
+returns c = let a = c .before .before .before .before .before .args in part-lent (a .at) _ _ (a .bytes .now) (c .before .wide .ensures .0)
 
 pub term-at-spec : {M : Type 1} → statement M
 term-at-spec =

@@ -4,7 +4,6 @@ use native.Mathlib.Omega.{arith}
 use lib.ListN.{length, drop}
 use borrow.Author.Needs.{needs}
 use borrow.Author.Tests.{not-true, not-false}
-use Rattle.segment.proofs.Tests.{fell, went}
 use Rattle.segment.proofs.Walk.{total-step}
 use Rattle.time_checks.proofs.Laws.{times-step, times-end}
 use Rattle.time_checks.specs.Times.{timesFrom}
@@ -13,6 +12,7 @@ use Rattle.definitions.specs.Segment.{SegmentRecord}
 use Rattle.definitions.specs.Answer.{total}
 use Rattle.time_checks.proofs.all_times_fit.Statement.{statement}
 use Rattle.time_checks.proofs.all_times_fit.Tie as tie
+use Rattle.lists.proofs.Tests.{fell, went}
 
 abbrev Inv-loop : tie.InvT-loop
 Inv-loop records offsets values s₀ o₀ v₀ s o v = (s ≤ length records) × (o + total (λ (r : SegmentRecord). r .offsets) (recordsOf (drop s records)) ≤ length offsets) × (v + total (λ (r : SegmentRecord). r .values) (recordsOf (drop s records)) ≤ length values) × (timesFrom (recordsOf (drop s records)) (drop o offsets) (drop v values) ≡ timesFrom (recordsOf records) offsets values)

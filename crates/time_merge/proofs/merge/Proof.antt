@@ -9,53 +9,54 @@ use Rattle.term_merger.specs.Order.{TermsInside}
 use Rattle.term_merger.specs.Live.{Back, Started}
 use Rattle.definitions.specs.Segment.{Address}
 use Rattle.time_merge.specs.Order.{placedSegments}
-use Rattle.time_merge.proofs.Going.{Going, going-start, going-readable, going-end, s-there, row-fits, rest-left, room, readable-new, len-new, ordered-new, going-more}
+use Rattle.time_merge.proofs.Going.{Going, going-start, going-readable, going-end, s-there, row-fits, rest-left, room, readable-new, going-more}
 use Rattle.time_merge.proofs.merge.Statement.{statement}
 use Rattle.time_merge.proofs.merge.Tie as tie
+use Rattle.term_merger.proofs.Walk.{len-new, ordered-new}
 
 abbrev Inv-loop : tie.InvT-loop
-Inv-loop first places sets ids offsets values alive rows₀ out₀ h₀ k₀ rows out h k = (P : ℕ → ℕ) × (done : List Address) × Going (placedSegments places sets ids offsets values alive) (0 ∷ []) out₀ rows out h k P done
+Inv-loop first places alives ids offsets values alive cursors₀ out₀ h₀ k₀ cursors out h k = (P : ℕ → ℕ) × (done : List Address) × Going (placedSegments places alives ids offsets values alive) (0 ∷ []) out₀ cursors out h k P done
 
 abbrev μ-loop : tie.MeasureT-loop
-μ-loop first places sets ids offsets values alive rows₀ out₀ h₀ k₀ rows out h k = length out - k
+μ-loop first places alives ids offsets values alive cursors₀ out₀ h₀ k₀ cursors out h k = length out - k
 
 -- the array of what is left in the heap
-seg-at : (c : tie.After-wide Inv-loop μ-loop) → length (c .before .pop .result .heap .seg) ≡ 256
+seg-at : (c : tie.After-byte Inv-loop μ-loop) → length (c .before .pop .result .heap .seg) ≡ 256
 seg-at c = search needs
 
 loop-holds : tie.Need-loop-holds Inv-loop μ-loop
 loop-holds c =
     let the-pre = c .before .before .before .before .before .pre in
     let the-args = c .before .before .before .before .before .args in
-    (_, _, going-start (the-pre .0) _ (the-pre .1 .1 .1 .0) (subst (λ (f : List ℕ). Started f (the-args .rows .now) (the-args .heap)) (the-pre .1 .1 .0) (the-pre .1 .1 .1 .1)))
+    (_, _, going-start (the-pre .0) _ (the-pre .1 .1 .1 .0) (subst (λ (f : List ℕ). Started f (the-args .cursors .now) (the-args .heap)) (the-pre .1 .1 .0) (the-pre .1 .1 .1 .1)))
 
 pop-requires : tie.Need-pop-requires Inv-loop μ-loop
-pop-requires c κs = subst (λ (f : List ℕ). ((256 ≤ length (c .before .before .before .loop .rows)) × TermsInside f (c .before .before .before .loop .rows)) × ((0 < c .before .before .before .loop .h .len) × (c .before .before .before .loop .h .len ≤ 256) × Ordered f (c .before .before .before .loop .rows) (c .before .before .before .loop .h .seg) (c .before .before .before .loop .h .len))) (sym (c .before .before .before .before .before .before .before .before .before .pre .1 .1 .0)) ((omega (arith, c .before .before .before .loop .inv .2 .size), going-readable (c .before .before .before .before .before .before .before .before .before .pre .0) (c .before .before .before .before .before .before .before .before .before .pre .1 .0) (c .before .before .before .loop .inv .2)), (c .before .if1 .taken, c .before .before .before .loop .inv .2 .len, c .before .before .before .loop .inv .2 .inHeapOrder))
+pop-requires c κs = subst (λ (f : List ℕ). ((256 ≤ length (c .before .before .before .loop .cursors)) × TermsInside f (c .before .before .before .loop .cursors)) × ((0 < c .before .before .before .loop .h .len) × (c .before .before .before .loop .h .len ≤ 256) × Ordered f (c .before .before .before .loop .cursors) (c .before .before .before .loop .h .seg) (c .before .before .before .loop .h .len))) (sym (c .before .before .before .before .before .before .before .before .before .pre .1 .1 .0)) ((omega (arith, c .before .before .before .loop .inv .2 .size), going-readable (c .before .before .before .before .before .before .before .before .before .pre .0) (c .before .before .before .before .before .before .before .before .before .pre .1 .0) (c .before .before .before .loop .inv .2)), (c .before .if1 .taken, c .before .before .before .loop .inv .2 .heap .len, c .before .before .before .loop .inv .2 .heap .inHeapOrder))
 
-wide-requires : tie.Need-wide-requires Inv-loop μ-loop
-wide-requires c κs = search needs
+byte-requires : tie.Need-byte-requires Inv-loop μ-loop
+byte-requires c κs = search needs
 
-mul-row : tie.Need-mul-row Inv-loop μ-loop
-mul-row c = omega (arith, c .wide .ensures .1)
+mul-cursor : tie.Need-mul-cursor Inv-loop μ-loop
+mul-cursor c = omega (arith, c .byte .ensures .1)
 
-slice-copy-out-row : tie.Need-slice-copy-out-row Inv-loop μ-loop
-slice-copy-out-row c = omega (arith, c .wide .ensures .1, c .before .before .before .before .before .loop .inv .2 .size)
+slice-copy-out-cursor : tie.Need-slice-copy-out-cursor Inv-loop μ-loop
+slice-copy-out-cursor c = omega (arith, c .byte .ensures .1, c .before .before .before .before .before .loop .inv .2 .size)
 
 cast-t25 : tie.Need-cast-t25 Inv-loop μ-loop
-cast-t25 c = omega (arith, c .before .wide .ensures .1)
+cast-t25 c = omega (arith, c .before .byte .ensures .1)
 
 array-read-t22 : tie.Need-array-read-t22 Inv-loop μ-loop
 array-read-t22 c = search needs
 
 cast-t28 : tie.Need-cast-t28 Inv-loop μ-loop
 cast-t28 c =
-    let o = (subst (λ (f : List ℕ). Out f (c .before .before .before .before .before .before .loop .rows) (c .before .before .before .before .before .before .loop .h) (c .before .before .pop .result .heap) (c .before .wide .result)) (c .before .before .before .before .before .before .before .before .before .before .before .before .pre .1 .1 .0) (subst (λ (n : ℕ). Out (c .before .before .before .before .before .before .before .before .before .before .before .before .args .first .now) (c .before .before .before .before .before .before .loop .rows) (c .before .before .before .before .before .before .loop .h) (c .before .before .pop .result .heap) n) (sym (c .before .wide .ensures .0)) (c .before .before .pop .ensures))) in
+    let o = (subst (λ (f : List ℕ). Out f (c .before .before .before .before .before .before .loop .cursors) (c .before .before .before .before .before .before .loop .h) (c .before .before .pop .result .heap) (c .before .byte .result)) (c .before .before .before .before .before .before .before .before .before .before .before .before .pre .1 .1 .0) (subst (λ (n : ℕ). Out (c .before .before .before .before .before .before .before .before .before .before .before .before .args .first .now) (c .before .before .before .before .before .before .loop .cursors) (c .before .before .before .before .before .before .loop .h) (c .before .before .pop .result .heap) n) (sym (c .before .byte .ensures .0)) (c .before .before .pop .ensures))) in
     let e = row-fits (c .before .before .before .before .before .before .before .before .before .before .before .before .pre .0) (c .before .before .before .before .before .before .before .before .before .before .before .before .pre .1 .0) (c .before .before .before .before .before .before .loop .inv .2) o in
     omega (arith, e)
 
 mul-t30 : tie.Need-mul-t30 Inv-loop μ-loop
 mul-t30 c =
-    let o = (subst (λ (f : List ℕ). Out f (c .before .before .before .before .before .before .loop .rows) (c .before .before .before .before .before .before .loop .h) (c .before .before .pop .result .heap) (c .before .wide .result)) (c .before .before .before .before .before .before .before .before .before .before .before .before .pre .1 .1 .0) (subst (λ (n : ℕ). Out (c .before .before .before .before .before .before .before .before .before .before .before .before .args .first .now) (c .before .before .before .before .before .before .loop .rows) (c .before .before .before .before .before .before .loop .h) (c .before .before .pop .result .heap) n) (sym (c .before .wide .ensures .0)) (c .before .before .pop .ensures))) in
+    let o = (subst (λ (f : List ℕ). Out f (c .before .before .before .before .before .before .loop .cursors) (c .before .before .before .before .before .before .loop .h) (c .before .before .pop .result .heap) (c .before .byte .result)) (c .before .before .before .before .before .before .before .before .before .before .before .before .pre .1 .1 .0) (subst (λ (n : ℕ). Out (c .before .before .before .before .before .before .before .before .before .before .before .before .args .first .now) (c .before .before .before .before .before .before .loop .cursors) (c .before .before .before .before .before .before .loop .h) (c .before .before .pop .result .heap) n) (sym (c .before .byte .ensures .0)) (c .before .before .pop .ensures))) in
     let e = room (c .before .before .before .before .before .before .before .before .before .before .before .before .pre .0) (c .before .before .before .before .before .before .before .before .before .before .before .before .pre .1 .0) (c .before .before .before .before .before .before .loop .inv .2) o in
     omega (arith, e, c .before .before .before .before .before .before .loop .inv .2 .out-size, c .before .before .before .before .before .before .before .before .before .before .before .before .good)
 
@@ -64,26 +65,26 @@ slice-set-from-out c =
     let the-loop = c .before .before .before .before .before .before .loop in
     let the-pop = c .before .before .pop in
     let the-pre = c .before .before .before .before .before .before .before .before .before .before .before .before .pre in
-    let o = (subst (λ (f : List ℕ). Out f (the-loop .rows) (the-loop .h) (the-pop .result .heap) (c .before .wide .result)) (the-pre .1 .1 .0) (subst (λ (n : ℕ). Out (c .before .before .before .before .before .before .before .before .before .before .before .before .args .first .now) (the-loop .rows) (the-loop .h) (the-pop .result .heap) n) (sym (c .before .wide .ensures .0)) (the-pop .ensures))) in
+    let o = (subst (λ (f : List ℕ). Out f (the-loop .cursors) (the-loop .h) (the-pop .result .heap) (c .before .byte .result)) (the-pre .1 .1 .0) (subst (λ (n : ℕ). Out (c .before .before .before .before .before .before .before .before .before .before .before .before .args .first .now) (the-loop .cursors) (the-loop .h) (the-pop .result .heap) n) (sym (c .before .byte .ensures .0)) (the-pop .ensures))) in
     room (the-pre .0) (the-pre .1 .0) (the-loop .inv .2) o
 
 mul-first-from : tie.Need-mul-first-from Inv-loop μ-loop
-mul-first-from c = omega (arith, c .before .wide .ensures .1)
+mul-first-from c = omega (arith, c .before .byte .ensures .1)
 
 shared-slice-copy-out-first-from : tie.Need-shared-slice-copy-out-first-from Inv-loop μ-loop
 shared-slice-copy-out-first-from c =
     let the-loop = c .before .before .before .before .before .before .loop in
     let the-pop = c .before .before .pop in
     let the-pre = c .before .before .before .before .before .before .before .before .before .before .before .before .pre in
-    let o = (subst (λ (f : List ℕ). Out f (the-loop .rows) (the-loop .h) (the-pop .result .heap) (c .before .wide .result)) (the-pre .1 .1 .0) (subst (λ (n : ℕ). Out (c .before .before .before .before .before .before .before .before .before .before .before .before .args .first .now) (the-loop .rows) (the-loop .h) (the-pop .result .heap) n) (sym (c .before .wide .ensures .0)) (the-pop .ensures))) in
+    let o = (subst (λ (f : List ℕ). Out f (the-loop .cursors) (the-loop .h) (the-pop .result .heap) (c .before .byte .result)) (the-pre .1 .1 .0) (subst (λ (n : ℕ). Out (c .before .before .before .before .before .before .before .before .before .before .before .before .args .first .now) (the-loop .cursors) (the-loop .h) (the-pop .result .heap) n) (sym (c .before .byte .ensures .0)) (the-pop .ensures))) in
     s-there (the-pre .0) (the-pre .1 .0) (the-loop .inv .2) o
 
 mul-first-from-2 : tie.Need-mul-first-from-2 Inv-loop μ-loop
-mul-first-from-2 c = omega (arith, c .before .before .wide .ensures .1)
+mul-first-from-2 c = omega (arith, c .before .before .byte .ensures .1)
 
 shared-slice-copy-out-first-from-2 : tie.Need-shared-slice-copy-out-first-from-2 Inv-loop μ-loop
 shared-slice-copy-out-first-from-2 c =
-    let o = (subst (λ (f : List ℕ). Out f (c .before .before .before .before .before .before .before .loop .rows) (c .before .before .before .before .before .before .before .loop .h) (c .before .before .before .pop .result .heap) (c .before .before .wide .result)) (c .before .before .before .before .before .before .before .before .before .before .before .before .before .pre .1 .1 .0) (subst (λ (n : ℕ). Out (c .before .before .before .before .before .before .before .before .before .before .before .before .before .args .first .now) (c .before .before .before .before .before .before .before .loop .rows) (c .before .before .before .before .before .before .before .loop .h) (c .before .before .before .pop .result .heap) n) (sym (c .before .before .wide .ensures .0)) (c .before .before .before .pop .ensures))) in
+    let o = (subst (λ (f : List ℕ). Out f (c .before .before .before .before .before .before .before .loop .cursors) (c .before .before .before .before .before .before .before .loop .h) (c .before .before .before .pop .result .heap) (c .before .before .byte .result)) (c .before .before .before .before .before .before .before .before .before .before .before .before .before .pre .1 .1 .0) (subst (λ (n : ℕ). Out (c .before .before .before .before .before .before .before .before .before .before .before .before .before .args .first .now) (c .before .before .before .before .before .before .before .loop .cursors) (c .before .before .before .before .before .before .before .loop .h) (c .before .before .before .pop .result .heap) n) (sym (c .before .before .byte .ensures .0)) (c .before .before .before .pop .ensures))) in
     let e = s-there (c .before .before .before .before .before .before .before .before .before .before .before .before .before .pre .0) (c .before .before .before .before .before .before .before .before .before .before .before .before .before .pre .1 .0) (c .before .before .before .before .before .before .before .loop .inv .2) o in
     omega (arith, e, c .before .before .before .before .before .before .before .before .before .before .before .before .before .pre .0 .both)
 
@@ -92,7 +93,7 @@ array-read-first-from c = search needs
 
 add-first-from : tie.Need-add-first-from Inv-loop μ-loop
 add-first-from c =
-    let o = (subst (λ (f : List ℕ). Out f (c .before .before .before .before .before .before .before .before .loop .rows) (c .before .before .before .before .before .before .before .before .loop .h) (c .before .before .before .before .pop .result .heap) (c .before .before .before .wide .result)) (c .before .before .before .before .before .before .before .before .before .before .before .before .before .before .pre .1 .1 .0) (subst (λ (n : ℕ). Out (c .before .before .before .before .before .before .before .before .before .before .before .before .before .before .args .first .now) (c .before .before .before .before .before .before .before .before .loop .rows) (c .before .before .before .before .before .before .before .before .loop .h) (c .before .before .before .before .pop .result .heap) n) (sym (c .before .before .before .wide .ensures .0)) (c .before .before .before .before .pop .ensures))) in
+    let o = (subst (λ (f : List ℕ). Out f (c .before .before .before .before .before .before .before .before .loop .cursors) (c .before .before .before .before .before .before .before .before .loop .h) (c .before .before .before .before .pop .result .heap) (c .before .before .before .byte .result)) (c .before .before .before .before .before .before .before .before .before .before .before .before .before .before .pre .1 .1 .0) (subst (λ (n : ℕ). Out (c .before .before .before .before .before .before .before .before .before .before .before .before .before .before .args .first .now) (c .before .before .before .before .before .before .before .before .loop .cursors) (c .before .before .before .before .before .before .before .before .loop .h) (c .before .before .before .before .pop .result .heap) n) (sym (c .before .before .before .byte .ensures .0)) (c .before .before .before .before .pop .ensures))) in
     let e = row-fits (c .before .before .before .before .before .before .before .before .before .before .before .before .before .before .pre .0) (c .before .before .before .before .before .before .before .before .before .before .before .before .before .before .pre .1 .0) (c .before .before .before .before .before .before .before .before .loop .inv .2) o in
     omega (arith, e)
 
@@ -103,32 +104,32 @@ first-from-requires : tie.Need-first-from-requires Inv-loop μ-loop
 first-from-requires c κs =
     let the-loop = c .before .before .before .before .before .before .before .before .loop in
     let the-pop = c .before .before .before .before .pop in
-    let the-wide = c .before .before .before .wide in
+    let the-byte = c .before .before .before .byte in
     let the-pre = c .before .before .before .before .before .before .before .before .before .before .before .before .before .before .pre in
-    let o = (subst (λ (f : List ℕ). Out f (the-loop .rows) (the-loop .h) (the-pop .result .heap) (the-wide .result)) (the-pre .1 .1 .0) (subst (λ (n : ℕ). Out (c .before .before .before .before .before .before .before .before .before .before .before .before .before .before .args .first .now) (the-loop .rows) (the-loop .h) (the-pop .result .heap) n) (sym (the-wide .ensures .0)) (the-pop .ensures))) in
+    let o = (subst (λ (f : List ℕ). Out f (the-loop .cursors) (the-loop .h) (the-pop .result .heap) (the-byte .result)) (the-pre .1 .1 .0) (subst (λ (n : ℕ). Out (c .before .before .before .before .before .before .before .before .before .before .before .before .before .before .args .first .now) (the-loop .cursors) (the-loop .h) (the-pop .result .heap) n) (sym (the-byte .ensures .0)) (the-pop .ensures))) in
     (the-pre .0 .timed _ (s-there (the-pre .0) (the-pre .1 .0) (the-loop .inv .2) o), rest-left (the-pre .0) (the-pre .1 .0) (the-loop .inv .2) o)
 
 mul-next : tie.Need-mul-next Inv-loop μ-loop
-mul-next c = omega (arith, c .before .before .before .before .wide .ensures .1)
+mul-next c = omega (arith, c .before .before .before .before .byte .ensures .1)
 
 slice-set-from-next : tie.Need-slice-set-from-next Inv-loop μ-loop
-slice-set-from-next c = omega (arith, c .before .before .before .before .wide .ensures .1, c .before .before .before .before .before .before .before .before .before .loop .inv .2 .size)
+slice-set-from-next c = omega (arith, c .before .before .before .before .byte .ensures .1, c .before .before .before .before .before .before .before .before .before .loop .inv .2 .size)
 
 push-live-requires : tie.Need-push-live-requires Inv-loop μ-loop
 push-live-requires c κs =
-    let o = (subst (λ (f : List ℕ). Out f (c .before .before .before .before .before .before .before .before .before .before .before .loop .rows) (c .before .before .before .before .before .before .before .before .before .before .before .loop .h) (c .before .before .before .before .before .before .before .pop .result .heap) (c .before .before .before .before .before .before .wide .result)) (c .before .before .before .before .before .before .before .before .before .before .before .before .before .before .before .before .before .pre .1 .1 .0) (subst (λ (n : ℕ). Out (c .before .before .before .before .before .before .before .before .before .before .before .before .before .before .before .before .before .args .first .now) (c .before .before .before .before .before .before .before .before .before .before .before .loop .rows) (c .before .before .before .before .before .before .before .before .before .before .before .loop .h) (c .before .before .before .before .before .before .before .pop .result .heap) n) (sym (c .before .before .before .before .before .before .wide .ensures .0)) (c .before .before .before .before .before .before .before .pop .ensures))) in
+    let o = (subst (λ (f : List ℕ). Out f (c .before .before .before .before .before .before .before .before .before .before .before .loop .cursors) (c .before .before .before .before .before .before .before .before .before .before .before .loop .h) (c .before .before .before .before .before .before .before .pop .result .heap) (c .before .before .before .before .before .before .byte .result)) (c .before .before .before .before .before .before .before .before .before .before .before .before .before .before .before .before .before .pre .1 .1 .0) (subst (λ (n : ℕ). Out (c .before .before .before .before .before .before .before .before .before .before .before .before .before .before .before .before .before .args .first .now) (c .before .before .before .before .before .before .before .before .before .before .before .loop .cursors) (c .before .before .before .before .before .before .before .before .before .before .before .loop .h) (c .before .before .before .before .before .before .before .pop .result .heap) n) (sym (c .before .before .before .before .before .before .byte .ensures .0)) (c .before .before .before .before .before .before .before .pop .ensures))) in
     let e = c .before .before .first-from .ensures in
-    subst (λ (f : List ℕ). ((256 ≤ length (set (c .before .before .before .before .before .before .before .before .before .before .before .loop .rows) (c .before .before .before .before .before .before .wide .result) (c .before .before .first-from .result))) × TermsInside f (set (c .before .before .before .before .before .before .before .before .before .before .before .loop .rows) (c .before .before .before .before .before .before .wide .result) (c .before .before .first-from .result))) × ((c .before .before .before .before .before .before .before .pop .result .heap .len < 256) × Ordered f (set (c .before .before .before .before .before .before .before .before .before .before .before .loop .rows) (c .before .before .before .before .before .before .wide .result) (c .before .before .first-from .result)) (c .before .before .before .before .before .before .before .pop .result .heap .seg) (c .before .before .before .before .before .before .before .pop .result .heap .len))) (sym (c .before .before .before .before .before .before .before .before .before .before .before .before .before .before .before .before .before .pre .1 .1 .0)) ((simp length-set (omega (arith, c .before .before .before .before .before .before .before .before .before .before .before .loop .inv .2 .size)), readable-new (c .before .before .before .before .before .before .before .before .before .before .before .before .before .before .before .before .before .pre .0) (c .before .before .before .before .before .before .before .before .before .before .before .before .before .before .before .before .before .pre .1 .0) (c .before .before .before .before .before .before .before .before .before .before .before .loop .inv .2) o e), (len-new (c .before .before .before .before .before .before .before .before .before .before .before .before .before .before .before .before .before .pre .0) (c .before .before .before .before .before .before .before .before .before .before .before .before .before .before .before .before .before .pre .1 .0) (c .before .before .before .before .before .before .before .before .before .before .before .loop .inv .2) o e, ordered-new (c .before .before .before .before .before .before .before .before .before .before .before .before .before .before .before .before .before .pre .0) (c .before .before .before .before .before .before .before .before .before .before .before .before .before .before .before .before .before .pre .1 .0) (c .before .before .before .before .before .before .before .before .before .before .before .loop .inv .2) o e (let l : length (c .before .before .before .before .before .before .before .pop .result .heap .seg) ≡ 256 = search needs in l)))
+    subst (λ (f : List ℕ). ((256 ≤ length (set (c .before .before .before .before .before .before .before .before .before .before .before .loop .cursors) (c .before .before .before .before .before .before .byte .result) (c .before .before .first-from .result))) × TermsInside f (set (c .before .before .before .before .before .before .before .before .before .before .before .loop .cursors) (c .before .before .before .before .before .before .byte .result) (c .before .before .first-from .result))) × ((c .before .before .before .before .before .before .before .pop .result .heap .len < 256) × Ordered f (set (c .before .before .before .before .before .before .before .before .before .before .before .loop .cursors) (c .before .before .before .before .before .before .byte .result) (c .before .before .first-from .result)) (c .before .before .before .before .before .before .before .pop .result .heap .seg) (c .before .before .before .before .before .before .before .pop .result .heap .len))) (sym (c .before .before .before .before .before .before .before .before .before .before .before .before .before .before .before .before .before .pre .1 .1 .0)) ((simp length-set (omega (arith, c .before .before .before .before .before .before .before .before .before .before .before .loop .inv .2 .size)), readable-new (c .before .before .before .before .before .before .before .before .before .before .before .before .before .before .before .before .before .pre .0) (c .before .before .before .before .before .before .before .before .before .before .before .before .before .before .before .before .before .pre .1 .0) (c .before .before .before .before .before .before .before .before .before .before .before .loop .inv .2) o e), (len-new (c .before .before .before .before .before .before .before .before .before .before .before .loop .inv .2 .heap) o, ordered-new (c .before .before .before .before .before .before .before .before .before .before .before .loop .inv .2 .heap) o _ (let l : length (c .before .before .before .before .before .before .before .pop .result .heap .seg) ≡ 256 = search needs in l)))
 
 add-k : tie.Need-add-k Inv-loop μ-loop
 add-k c =
-    let o = (subst (λ (f : List ℕ). Out f (c .before .before .before .before .before .before .before .before .before .before .before .before .loop .rows) (c .before .before .before .before .before .before .before .before .before .before .before .before .loop .h) (c .before .before .before .before .before .before .before .before .pop .result .heap) (c .before .before .before .before .before .before .before .wide .result)) (c .before .before .before .before .before .before .before .before .before .before .before .before .before .before .before .before .before .before .pre .1 .1 .0) (subst (λ (n : ℕ). Out (c .before .before .before .before .before .before .before .before .before .before .before .before .before .before .before .before .before .before .args .first .now) (c .before .before .before .before .before .before .before .before .before .before .before .before .loop .rows) (c .before .before .before .before .before .before .before .before .before .before .before .before .loop .h) (c .before .before .before .before .before .before .before .before .pop .result .heap) n) (sym (c .before .before .before .before .before .before .before .wide .ensures .0)) (c .before .before .before .before .before .before .before .before .pop .ensures))) in
+    let o = (subst (λ (f : List ℕ). Out f (c .before .before .before .before .before .before .before .before .before .before .before .before .loop .cursors) (c .before .before .before .before .before .before .before .before .before .before .before .before .loop .h) (c .before .before .before .before .before .before .before .before .pop .result .heap) (c .before .before .before .before .before .before .before .byte .result)) (c .before .before .before .before .before .before .before .before .before .before .before .before .before .before .before .before .before .before .pre .1 .1 .0) (subst (λ (n : ℕ). Out (c .before .before .before .before .before .before .before .before .before .before .before .before .before .before .before .before .before .before .args .first .now) (c .before .before .before .before .before .before .before .before .before .before .before .before .loop .cursors) (c .before .before .before .before .before .before .before .before .before .before .before .before .loop .h) (c .before .before .before .before .before .before .before .before .pop .result .heap) n) (sym (c .before .before .before .before .before .before .before .byte .ensures .0)) (c .before .before .before .before .before .before .before .before .pop .ensures))) in
     let e = room (c .before .before .before .before .before .before .before .before .before .before .before .before .before .before .before .before .before .before .pre .0) (c .before .before .before .before .before .before .before .before .before .before .before .before .before .before .before .before .before .before .pre .1 .0) (c .before .before .before .before .before .before .before .before .before .before .before .before .loop .inv .2) o in
     omega (arith, e, c .before .before .before .before .before .before .before .before .before .before .before .before .loop .inv .2 .out-size, c .before .before .before .before .before .before .before .before .before .before .before .before .before .before .before .before .before .before .good)
 
 loop-less : tie.Need-loop-less Inv-loop μ-loop
 loop-less c =
-    let o = (subst (λ (f : List ℕ). Out f (c .before .before .before .before .before .before .before .before .before .before .before .before .loop .rows) (c .before .before .before .before .before .before .before .before .before .before .before .before .loop .h) (c .before .before .before .before .before .before .before .before .pop .result .heap) (c .before .before .before .before .before .before .before .wide .result)) (c .before .before .before .before .before .before .before .before .before .before .before .before .before .before .before .before .before .before .pre .1 .1 .0) (subst (λ (n : ℕ). Out (c .before .before .before .before .before .before .before .before .before .before .before .before .before .before .before .before .before .before .args .first .now) (c .before .before .before .before .before .before .before .before .before .before .before .before .loop .rows) (c .before .before .before .before .before .before .before .before .before .before .before .before .loop .h) (c .before .before .before .before .before .before .before .before .pop .result .heap) n) (sym (c .before .before .before .before .before .before .before .wide .ensures .0)) (c .before .before .before .before .before .before .before .before .pop .ensures))) in
+    let o = (subst (λ (f : List ℕ). Out f (c .before .before .before .before .before .before .before .before .before .before .before .before .loop .cursors) (c .before .before .before .before .before .before .before .before .before .before .before .before .loop .h) (c .before .before .before .before .before .before .before .before .pop .result .heap) (c .before .before .before .before .before .before .before .byte .result)) (c .before .before .before .before .before .before .before .before .before .before .before .before .before .before .before .before .before .before .pre .1 .1 .0) (subst (λ (n : ℕ). Out (c .before .before .before .before .before .before .before .before .before .before .before .before .before .before .before .before .before .before .args .first .now) (c .before .before .before .before .before .before .before .before .before .before .before .before .loop .cursors) (c .before .before .before .before .before .before .before .before .before .before .before .before .loop .h) (c .before .before .before .before .before .before .before .before .pop .result .heap) n) (sym (c .before .before .before .before .before .before .before .byte .ensures .0)) (c .before .before .before .before .before .before .before .before .pop .ensures))) in
     let e = room (c .before .before .before .before .before .before .before .before .before .before .before .before .before .before .before .before .before .before .pre .0) (c .before .before .before .before .before .before .before .before .before .before .before .before .before .before .before .before .before .before .pre .1 .0) (c .before .before .before .before .before .before .before .before .before .before .before .before .loop .inv .2) o in
     simp length-set (omega (arith, e))
 
@@ -136,13 +137,13 @@ loop-again : tie.Need-loop-again Inv-loop μ-loop
 loop-again c =
     let the-loop = c .before .before .before .before .before .before .before .before .before .before .before .before .loop in
     let the-pop = c .before .before .before .before .before .before .before .before .pop in
-    let the-wide = c .before .before .before .before .before .before .before .wide in
+    let the-byte = c .before .before .before .before .before .before .before .byte in
     let the-pre = c .before .before .before .before .before .before .before .before .before .before .before .before .before .before .before .before .before .before .pre in
     let the-args = c .before .before .before .before .before .before .before .before .before .before .before .before .before .before .before .before .before .before .args in
     let the-first-from = c .before .before .before .first-from in
-    let o = (subst (λ (f : List ℕ). Out f (the-loop .rows) (the-loop .h) (the-pop .result .heap) (the-wide .result)) (the-pre .1 .1 .0) (subst (λ (n : ℕ). Out (the-args .first .now) (the-loop .rows) (the-loop .h) (the-pop .result .heap) n) (sym (the-wide .ensures .0)) (the-pop .ensures))) in
+    let o = (subst (λ (f : List ℕ). Out f (the-loop .cursors) (the-loop .h) (the-pop .result .heap) (the-byte .result)) (the-pre .1 .1 .0) (subst (λ (n : ℕ). Out (the-args .first .now) (the-loop .cursors) (the-loop .h) (the-pop .result .heap) n) (sym (the-byte .ensures .0)) (the-pop .ensures))) in
     let e = the-first-from .ensures in
-    (_, _, going-more (the-pre .0) (the-pre .1 .0) (the-loop .inv .2) o e (seg-at (c .before .before .before .before .before .before .before)) (subst (λ (f : List ℕ). Back f (set (the-loop .rows) (the-wide .result) (the-first-from .result)) (the-pop .result .heap) (the-wide .result) (c .push-live .result)) (the-pre .1 .1 .0) (subst (λ (n : ℕ). Back (the-args .first .now) (set (the-loop .rows) (the-wide .result) (the-first-from .result)) (the-pop .result .heap) n (c .push-live .result)) (sym (the-wide .ensures .0)) (c .push-live .ensures))))
+    (_, _, going-more (the-pre .0) (the-pre .1 .0) (the-loop .inv .2) o e (seg-at (c .before .before .before .before .before .before .before)) (subst (λ (f : List ℕ). Back f (set (the-loop .cursors) (the-byte .result) (the-first-from .result)) (the-pop .result .heap) (the-byte .result) (c .push-live .result)) (the-pre .1 .1 .0) (subst (λ (n : ℕ). Back (the-args .first .now) (set (the-loop .cursors) (the-byte .result) (the-first-from .result)) (the-pop .result .heap) n (c .push-live .result)) (sym (the-byte .ensures .0)) (c .push-live .ensures))))
 
 same-length : tie.Need-same-length Inv-loop μ-loop
 same-length c = omega (arith, c .before .before .loop .inv .2 .size, c .before .before .before .before .before .before .before .before .pre .1 .1 .1 .0 .size)
@@ -163,9 +164,9 @@ merge-spec =
     μ-loop
     loop-holds
     pop-requires
-    wide-requires
-    mul-row
-    slice-copy-out-row
+    byte-requires
+    mul-cursor
+    slice-copy-out-cursor
     cast-t25
     array-read-t22
     cast-t28

@@ -9,6 +9,7 @@ use Rattle.runs.specs.Put.{put}
 use Rattle.wire.proofs.Words.{words-length}
 use Rattle.wire.proofs.Sections.{bounded}
 use Rattle.runs.proofs.Laws.{front-lent}
+use Rattle.lists.proofs.Tests.{left, chosen}
 use Rattle.wire.proofs.Input as laws
 use borrow.Author.Needs.{needs}
 use Rattle.wire.proofs.read_input.Statement.{statement}
@@ -17,12 +18,12 @@ use Rattle.wire.proofs.read_input.Tie as tie
 returns : tie.Need-returns
 returns c =
     let w = laws.too-long (c .before .before .before .before .args .input .now) (c .if1 .taken) in
-    (laws.no-fit _ w, (laws.kept _ _ w, laws.kept _ _ w))
+    (laws.no-fit _ w, (left _ _ w, left _ _ w))
 
 returns-2 : tie.Need-returns-2
 returns-2 c =
     let w = laws.not-whole (c .before .before .before .before .before .args .input .now) (c .before .if1 .left) (c .if2 .taken) in
-    (laws.no-fit _ w, (laws.kept _ _ w, laws.kept _ _ w))
+    (laws.no-fit _ w, (left _ _ w, left _ _ w))
 
 read-words-requires : tie.Need-read-words-requires
 read-words-requires c κs = omega (arith, words-length (c .before .before .before .before .before .before .args .input .now), c .before .before .if1 .left, c .before .before .before .before .before .before .pre .0)
@@ -64,7 +65,7 @@ returns-3 c =
     let input : List ℕ = c .before .before .before .before .before .before .before .before .before .before .before .before .before .before .before .before .before .args .input .now in
     let w = laws.whole input (c .before .before .before .before .before .before .before .before .before .before .before .before .before .if1 .left) (c .before .before .before .before .before .before .before .before .before .before .before .before .if2 .left) in
     let p = front-lent (wordsOf input) (c .before .before .before .before .before .before .before .before .before .before .before .before .before .before .before .before .before .args .words .now) _ _ (c .before .before .before .before .before .before .before .before .before .before .read-words .ensures .0) (c .before .before .before .before .before .before .before .before .before .before .read-words .ensures .1) in
-    (laws.fit input _ w (c .words-fit .ensures ∙ ap wordsFit p), (laws.chosen _ w (c .before .before .before .before .before .before .before .before .before .before .read-words .ensures .1), laws.chosen _ w (c .before .before .before .before .before .section-bounds .ensures .1 ∙ ap (λ (v : List ℕ). put 0 (boundsOf v) (c .before .before .before .before .before .before .before .before .before .before .before .before .before .before .before .before .before .args .bounds .now)) p)))
+    (laws.fit input _ w (c .words-fit .ensures ∙ ap wordsFit p), (chosen _ w (c .before .before .before .before .before .before .before .before .before .before .read-words .ensures .1), chosen _ w (c .before .before .before .before .before .section-bounds .ensures .1 ∙ ap (λ (v : List ℕ). put 0 (boundsOf v) (c .before .before .before .before .before .before .before .before .before .before .before .before .before .before .before .before .before .args .bounds .now)) p)))
 
 pub read-input-spec : {M : Type 1} → statement M
 read-input-spec =

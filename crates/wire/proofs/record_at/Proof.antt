@@ -1,9 +1,10 @@
 use mathlib.Core.Path.{refl, ap, _∙_}
+use Prim.Native.Nat.{_+_, _-_}
 use native.Mathlib.Omega.{arith}
-use lib.ListN.{length, drop, length-drop}
+use lib.ListN.{length}
 use borrow.Author.Needs.{needs}
-use Rattle.wire.proofs.Sections as laws
-use lib.Seq.{length-take-le}
+use Rattle.lists.proofs.Parts.{part-lent, part-length}
+use Rattle.runs.proofs.Laws.{put-whole, below-part}
 use Rattle.wire.proofs.record_at.Statement.{statement}
 use Rattle.wire.proofs.record_at.Tie as tie
 
@@ -27,14 +28,15 @@ slice-aggregate-fill-numbers c = search needs
 
 fill-numbers-requires : tie.Need-fill-numbers-requires
 fill-numbers-requires c κs =
-    let m = length-take-le 8 (drop (c .before .before .before .args .at) (c .before .before .before .args .words .now)) (omega (arith, c .before .before .before .pre .1, length-drop (c .before .before .before .args .at) (c .before .before .before .args .words .now))) in
-    (laws.below-part 4294967296 8 (c .before .before .before .args .at) (c .before .before .before .args .words .now) _ (c .before .before .before .pre .1) (laws.part-lent (c .before .before .before .args .at) 8 (c .before .before .before .args .words .now)) (c .before .before .before .pre .0), omega arith)
+    let s = c .before .before .before in
+    let m = part-length 8 (s .args .at) (s .args .words .now) (s .pre .1) in
+    (below-part 4294967296 (s .args .at) (s .args .at + 8 - s .args .at) (s .args .words .now) (s .pre .0), omega arith)
 
 returns : tie.Need-returns
 returns c =
-    let p = laws.part-lent (c .before .before .before .before .before .args .at) 8 (c .before .before .before .before .before .args .words .now) in
-    let m = length-take-le 8 (drop (c .before .before .before .before .before .args .at) (c .before .before .before .before .before .args .words .now)) (omega (arith, c .before .before .before .before .before .pre .1, length-drop (c .before .before .before .before .before .args .at) (c .before .before .before .before .before .args .words .now))) in
-    laws.put-whole 8 _ _ _ (ap length p ∙ m) refl (c .before .fill-numbers .ensures) ∙ p
+    let s = c .before .before .before .before .before in
+    let p = part-lent (s .args .at) 8 8 (s .args .words .now) refl in
+    c .before .fill-numbers .ensures ∙ put-whole _ _ (ap length p ∙ part-length 8 (s .args .at) (s .args .words .now) (s .pre .1)) ∙ p
 
 pub record-at-spec : {M : Type 1} → statement M
 record-at-spec =

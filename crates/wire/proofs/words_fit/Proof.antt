@@ -4,6 +4,8 @@ use Prim.Native.Nat.{ℕ}
 use native.Mathlib.Omega.{arith}
 use lib.ListN.{length}
 use Rattle.definitions.specs.Wire.{wordSections, sectionAt, wordsFit}
+use borrow.Author.Tests.{eq-eqb, ne-eqb}
+use Rattle.lists.proofs.Tests.{stop, past}
 use Rattle.wire.proofs.Sections as laws
 use borrow.Author.Needs.{needs}
 use Rattle.wire.proofs.words_fit.Statement.{statement}
@@ -11,7 +13,7 @@ use Rattle.wire.proofs.words_fit.Tie as tie
 
 returns : tie.Need-returns
 unfolding wordsFit
-returns c = laws.stop-eq (length (wordSections (c .before .before .before .args .words .now))) 9 _ (λ e. c .if1 .taken (c .before .before .before .pre .1 ∙ e))
+returns c = stop _ (ne-eqb (length (wordSections (c .before .before .before .args .words .now))) 9 (λ e. c .if1 .taken (c .before .before .before .pre .1 ∙ e)))
 
 shared-slice-read-last : tie.Need-shared-slice-read-last
 shared-slice-read-last c = search needs
@@ -21,7 +23,7 @@ unfolding wordsFit
 returns-2 c =
     let w : List ℕ = c .before .before .before .before .before .args .words .now in
     let h : length (wordSections w) ≡ 9 = sym (c .before .before .before .before .before .pre .1) ∙ c .before .before .if1 .left in
-    laws.past-eq (length (wordSections w)) 9 _ h (laws.stop-eq _ _ _ (λ e. c .if2 .taken (laws.last-bound w (c .before .before .before .before .before .args .bounds .now) (c .before .before .before .before .before .pre .0) h ∙ e)))
+    past (eq-eqb (length (wordSections w)) 9 h) (stop _ (ne-eqb _ _ (λ e. c .if2 .taken (laws.last-bound w (c .before .before .before .before .before .args .bounds .now) (c .before .before .before .before .before .pre .0) h ∙ e))))
 
 shared-slice-read-first : tie.Need-shared-slice-read-first
 shared-slice-read-first c = search needs
@@ -32,7 +34,7 @@ returns-3 c =
     let w : List ℕ = c .before .before .before .before .before .before .before .args .words .now in
     let h : length (wordSections w) ≡ 9 = sym (c .before .before .before .before .before .before .before .pre .1) ∙ c .before .before .before .before .if1 .left in
     let f = laws.first-bound w (c .before .before .before .before .before .before .before .args .bounds .now) (c .before .before .before .before .before .before .before .pre .0) h in
-    laws.past-eq (length (wordSections w)) 9 _ h (laws.past-eq _ _ _ (sym (laws.last-bound w (c .before .before .before .before .before .before .before .args .bounds .now) (c .before .before .before .before .before .before .before .pre .0) h) ∙ c .before .before .if2 .left) (laws.stop-eq (length (sectionAt (wordSections w) 0)) 2 _ (λ e. c .if3 .taken (omega arith))))
+    past (eq-eqb (length (wordSections w)) 9 h) (past (eq-eqb _ _ (sym (laws.last-bound w (c .before .before .before .before .before .before .before .args .bounds .now) (c .before .before .before .before .before .before .before .pre .0) h) ∙ c .before .before .if2 .left)) (stop _ (ne-eqb (length (sectionAt (wordSections w) 0)) 2 (λ e. c .if3 .taken (omega arith)))))
 
 widths-fit-requires : tie.Need-widths-fit-requires
 widths-fit-requires c κs = search needs
@@ -43,7 +45,7 @@ returns-4 c =
     let w : List ℕ = c .before .before .before .before .before .before .before .before .args .words .now in
     let h : length (wordSections w) ≡ 9 = sym (c .before .before .before .before .before .before .before .before .pre .1) ∙ c .before .before .before .before .before .if1 .left in
     let f = laws.first-bound w (c .before .before .before .before .before .before .before .before .args .bounds .now) (c .before .before .before .before .before .before .before .before .pre .0) h in
-    laws.past-eq (length (wordSections w)) 9 _ h (laws.past-eq _ _ _ (sym (laws.last-bound w (c .before .before .before .before .before .before .before .before .args .bounds .now) (c .before .before .before .before .before .before .before .before .pre .0) h) ∙ c .before .before .before .if2 .left) (laws.past-eq (length (sectionAt (wordSections w) 0)) 2 _ (omega (arith, c .before .if3 .left)) (c .widths-fit .ensures)))
+    past (eq-eqb (length (wordSections w)) 9 h) (past (eq-eqb _ _ (sym (laws.last-bound w (c .before .before .before .before .before .before .before .before .args .bounds .now) (c .before .before .before .before .before .before .before .before .pre .0) h) ∙ c .before .before .before .if2 .left)) (past (eq-eqb (length (sectionAt (wordSections w) 0)) 2 (omega (arith, c .before .if3 .left))) (c .widths-fit .ensures)))
 
 pub words-fit-spec : {M : Type 1} → statement M
 words-fit-spec =

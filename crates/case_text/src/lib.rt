@@ -1,0 +1,216 @@
+// Cases as text: hexadecimal numbers, parted by anything that is no digit, and lists of them, each after its count. A number too wide for its place
+// is taken as the widest, and a list longer than its place is cut.
+ghost use Prim.Native.Nat.{_≤_};
+ghost use Rattle.case_text.specs.Counts.{Counts};
+
+// A number, and the place behind it.
+pub struct Found {
+    pub value: u64,
+    pub at: usize,
+}
+
+// How many elements were read, and the place behind them.
+pub struct Part {
+    pub count: usize,
+    pub at: usize,
+}
+
+struct RecordAt {
+    record: [u32; 8],
+    at: usize,
+}
+
+struct PairAt {
+    pair: [u32; 2],
+    at: usize,
+}
+
+// The number of a hexadecimal digit, 16 for another byte.
+fn digit(b: u8) -> u64
+    ensures { λ r. ⌜ r ≤ 16 ⌝ }
+{
+    if b < 48 {
+        return 16;
+    }
+    if b < 58 {
+        return (b - 48) as u64;
+    }
+    if b < 97 {
+        return 16;
+    }
+    if b < 103 {
+        return (b - 87) as u64;
+    }
+    16
+}
+
+// The first place from the given one on that has a digit.
+fn skip(text: &[u8], from: usize) -> usize {
+    let mut i = from;
+    while i < text.len() {
+        if digit(text[i]) < 16 {
+            return i;
+        }
+        i += 1;
+    }
+    i
+}
+
+// The next number; 0 at the end of the text.
+pub fn number(text: &[u8], from: usize) -> Found {
+    let mut i = skip(text, from);
+    let mut n: u64 = 0;
+    while i < text.len() {
+        let d = digit(text[i]);
+        if d == 16 {
+            return Found { value: n, at: i };
+        }
+        if 1152921504606846975 < n {
+            return Found { value: n, at: i };
+        }
+        n = n * 16 + d;
+        i += 1;
+    }
+    Found { value: n, at: i }
+}
+
+pub fn narrow(n: u64) -> u32 {
+    if n < 4294967296 {
+        return n as u32;
+    }
+    4294967295
+}
+
+fn byte(n: u64) -> u8 {
+    if n < 256 {
+        return n as u8;
+    }
+    255
+}
+
+// A count that a place of so many elements can hold.
+pub fn capped(n: u64, most: usize) -> usize
+    ensures { λ r. ⌜ r ≤ most ⌝ }
+{
+    let k = n as usize;
+    if k < most {
+        return k;
+    }
+    most
+}
+
+pub fn read_words(text: &[u8], from: usize, out: &mut [u64]) -> Part
+    ensures { λ r. ⌜ Counts (r .count) (now (out .exit)) ⌝ }
+{
+    let c = number(text, from);
+    let n = capped(c.value, out.len());
+    let mut at = c.at;
+    let mut i: usize = 0;
+    while i < n {
+        let x = number(text, at);
+        out[i] = x.value;
+        at = x.at;
+        i += 1;
+    }
+    Part { count: n, at: at }
+}
+
+pub fn read_numbers(text: &[u8], from: usize, out: &mut [u32]) -> Part
+    ensures { λ r. ⌜ Counts (r .count) (now (out .exit)) ⌝ }
+{
+    let c = number(text, from);
+    let n = capped(c.value, out.len());
+    let mut at = c.at;
+    let mut i: usize = 0;
+    while i < n {
+        let x = number(text, at);
+        out[i] = narrow(x.value);
+        at = x.at;
+        i += 1;
+    }
+    Part { count: n, at: at }
+}
+
+pub fn read_bytes(text: &[u8], from: usize, out: &mut [u8]) -> Part
+    ensures { λ r. ⌜ Counts (r .count) (now (out .exit)) ⌝ }
+{
+    let c = number(text, from);
+    let n = capped(c.value, out.len());
+    let mut at = c.at;
+    let mut i: usize = 0;
+    while i < n {
+        let x = number(text, at);
+        out[i] = byte(x.value);
+        at = x.at;
+        i += 1;
+    }
+    Part { count: n, at: at }
+}
+
+fn read_record(text: &[u8], from: usize) -> RecordAt {
+    let a = number(text, from);
+    let b = number(text, a.at);
+    let c = number(text, b.at);
+    let d = number(text, c.at);
+    let e = number(text, d.at);
+    let f = number(text, e.at);
+    let g = number(text, f.at);
+    let h = number(text, g.at);
+    let r = [
+        narrow(a.value),
+        narrow(b.value),
+        narrow(c.value),
+        narrow(d.value),
+        narrow(e.value),
+        narrow(f.value),
+        narrow(g.value),
+        narrow(h.value),
+    ];
+    RecordAt {
+        record: r,
+        at: h.at,
+    }
+}
+
+// Segment records, counted whole.
+pub fn read_records(text: &[u8], from: usize, out: &mut [[u32; 8]]) -> Part
+    ensures { λ r. ⌜ Counts (r .count) (now (out .exit)) ⌝ }
+{
+    let c = number(text, from);
+    let n = capped(c.value, out.len());
+    let mut at = c.at;
+    let mut i: usize = 0;
+    while i < n {
+        let x = read_record(text, at);
+        let r = x.record;
+        out[i] = r;
+        at = x.at;
+        i += 1;
+    }
+    Part { count: n, at: at }
+}
+
+fn read_pair(text: &[u8], from: usize) -> PairAt {
+    let a = number(text, from);
+    let b = number(text, a.at);
+    let p = [narrow(a.value), narrow(b.value)];
+    PairAt { pair: p, at: b.at }
+}
+
+// Addresses (segment, row), counted in pairs.
+pub fn read_pairs(text: &[u8], from: usize, out: &mut [[u32; 2]]) -> Part
+    ensures { λ r. ⌜ Counts (r .count) (now (out .exit)) ⌝ }
+{
+    let c = number(text, from);
+    let n = capped(c.value, out.len());
+    let mut at = c.at;
+    let mut i: usize = 0;
+    while i < n {
+        let x = read_pair(text, at);
+        let p = x.pair;
+        out[i] = p;
+        at = x.at;
+        i += 1;
+    }
+    Part { count: n, at: at }
+}

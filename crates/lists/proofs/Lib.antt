@@ -1,0 +1,6 @@
+pub mod Tests
+pub mod Numbers
+pub mod Lists
+pub mod Parts
+pub mod Sums
+pub mod Cuts

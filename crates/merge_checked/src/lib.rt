@@ -1,0 +1,176 @@
+// The join of an input that has passed the checks 1 to 9 (columnar/merge/mod.rs, `merge_column`).
+ghost use mathlib.Core.Path.{_≡_};
+ghost use Rattle.definitions.specs.Outcome.{lentOf, joinOutcome};
+ghost use Rattle.merge_checked.specs.Call.{outcomeOf, buffersOf, AfterNine, Tables};
+
+// What comes with acceptance: type, class and rows, and the number of elements of each list.
+pub struct Numbers {
+    pub typ: u32,
+    pub class: u32,
+    pub rows: usize,
+    pub ids: usize,
+    pub offsets: usize,
+    pub values: usize,
+    pub terms: usize,
+    pub bytes: usize,
+    pub map: usize,
+}
+
+pub enum Answer {
+    Accepted(Numbers),
+    Refused(u32),
+}
+
+// The join with its tables: an element of each for each record.
+fn join_tables(
+    mode: u32,
+    required: u32,
+    records: &[[u32; 8]],
+    ids: &[u32],
+    offsets: &[u32],
+    values: &[u64],
+    lengths: &[u32],
+    bytes: &[u8],
+    alive: &[u64],
+    addresses: &[[u32; 2]],
+    work: &mut [u8],
+    out_ids: &mut [u32],
+    out_offsets: &mut [u32],
+    out_values: &mut [u64],
+    out_lengths: &mut [u32],
+    out_bytes: &mut [u8],
+    out_map: &mut [u32],
+    places: &mut [[usize; 8]],
+    alives: &mut [[usize; 3]],
+    held: &mut [u8],
+    sources: &mut [[usize; 3]],
+) -> Answer
+    requires { ⌜ AfterNine mode required (now records) (now ids) (now offsets) (now values) (now lengths) (now bytes) (now alive) (now addresses) (now work) ⌝ }
+    requires { ⌜ Tables (now records) (now places) (now alives) (now held) (now sources) ⌝ }
+    ensures { λ r. ⌜ outcomeOf r (buffersOf (now («out_ids» .exit)) (now («out_offsets» .exit)) (now («out_values» .exit)) (now («out_lengths» .exit)) (now («out_bytes» .exit)) (now («out_map» .exit)) (now (work .exit))) ≡ joinOutcome (lentOf mode required (now (records .entry)) (now (ids .entry)) (now (offsets .entry)) (now (values .entry)) (now (lengths .entry)) (now (bytes .entry)) (now (alive .entry)) (now (addresses .entry)) (buffersOf (now («out_ids» .entry)) (now («out_offsets» .entry)) (now («out_values» .entry)) (now («out_lengths» .entry)) (now («out_bytes» .entry)) (now («out_map» .entry)) (now (work .entry)))) ⌝ }
+{
+    merge_column::prepare(records, ids, offsets, alive, places, alives, held, sources);
+    let space = merge_column::Space {
+        ids: out_ids.len(),
+        offsets: out_offsets.len(),
+        values: out_values.len(),
+        lengths: out_lengths.len(),
+        bytes: out_bytes.len(),
+        map: out_map.len(),
+    };
+    let p = merge_column::measure(
+        mode,
+        required,
+        records,
+        ids,
+        offsets,
+        values,
+        lengths,
+        alive,
+        addresses,
+        places,
+        alives,
+        held,
+        space,
+    );
+    match p {
+        merge_column::Plan::Refused(k) => Answer::Refused(k),
+        merge_column::Plan::Column(x) => {
+            let c = merge_dict_column::fill_dictionary(
+                mode,
+                records,
+                held,
+                ids,
+                offsets,
+                values,
+                lengths,
+                bytes,
+                alive,
+                work,
+                out_lengths,
+                out_bytes,
+                out_map,
+            );
+            merge_column::fill_rows(
+                mode,
+                x.class,
+                x.typ,
+                addresses,
+                places,
+                sources,
+                ids,
+                offsets,
+                values,
+                out_map,
+                work,
+                out_ids,
+                out_offsets,
+                out_values,
+            );
+            Answer::Accepted(Numbers {
+                typ: x.typ,
+                class: x.class,
+                rows: x.rows,
+                ids: x.ids,
+                offsets: x.offsets,
+                values: x.values,
+                terms: c.terms,
+                bytes: c.bytes,
+                map: x.map,
+            })
+        }
+    }
+}
+
+// The join of an input that has passed the checks 1 to 9, whose working bytes are zero.
+pub fn join_checked(
+    mode: u32,
+    required: u32,
+    records: &[[u32; 8]],
+    ids: &[u32],
+    offsets: &[u32],
+    values: &[u64],
+    lengths: &[u32],
+    bytes: &[u8],
+    alive: &[u64],
+    addresses: &[[u32; 2]],
+    work: &mut [u8],
+    out_ids: &mut [u32],
+    out_offsets: &mut [u32],
+    out_values: &mut [u64],
+    out_lengths: &mut [u32],
+    out_bytes: &mut [u8],
+    out_map: &mut [u32],
+) -> Answer
+    requires { ⌜ AfterNine mode required (now records) (now ids) (now offsets) (now values) (now lengths) (now bytes) (now alive) (now addresses) (now work) ⌝ }
+    ensures { λ r. ⌜ outcomeOf r (buffersOf (now («out_ids» .exit)) (now («out_offsets» .exit)) (now («out_values» .exit)) (now («out_lengths» .exit)) (now («out_bytes» .exit)) (now («out_map» .exit)) (now (work .exit))) ≡ joinOutcome (lentOf mode required (now (records .entry)) (now (ids .entry)) (now (offsets .entry)) (now (values .entry)) (now (lengths .entry)) (now (bytes .entry)) (now (alive .entry)) (now (addresses .entry)) (buffersOf (now («out_ids» .entry)) (now («out_offsets» .entry)) (now («out_values» .entry)) (now («out_lengths» .entry)) (now («out_bytes» .entry)) (now («out_map» .entry)) (now (work .entry)))) ⌝ }
+{
+    let n = records.len();
+    let mut places = [[0usize; 8]; 256];
+    let mut alives = [[0usize; 3]; 256];
+    let mut held = [0u8; 256];
+    let mut sources = [[0usize; 3]; 256];
+    join_tables(
+        mode,
+        required,
+        records,
+        ids,
+        offsets,
+        values,
+        lengths,
+        bytes,
+        alive,
+        addresses,
+        work,
+        out_ids,
+        out_offsets,
+        out_values,
+        out_lengths,
+        out_bytes,
+        out_map,
+        &mut places[..n],
+        &mut alives[..n],
+        &mut held[..n],
+        &mut sources[..n],
+    )
+}

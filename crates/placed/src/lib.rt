@@ -1,1 +1,0 @@
-// No code: what the passes over the records leave, and what the fills write, in the words of the definitions.

@@ -1,0 +1,95 @@
+-- One segment's rows in time order: the next alive row, its key, and both as the cursor that the heap orders by (term_merger, Order).
+-- Assumes nothing.
+use Prim.Native.Nat.{ℕ, zero, suc, _-_, _*_, _≤_, _<_}
+use mathlib.Core.Path.{_≡_}
+use mathlib.Core.List.{List, [], _∷_}
+use mathlib.Core.Bool.{Bool, true, cond}
+use lib.ListN.{length, getD}
+use lib.Dec.{eqb, ltb}
+use Rattle.definitions.specs.Segment.{Segment, byKind}
+use Rattle.definitions.specs.Row.{bitAt}
+use Rattle.definitions.specs.TimeOrder.{timeOf}
+use Rattle.column_index.specs.Lookup.{rankIn}
+use Rattle.places.specs.Place.{run, kindAt, rowsAt, idsAt, offsetsAt, valuesAt}
+use Rattle.places.specs.Stack.{SoundAt}
+
+-- ---- the next alive row
+
+-- the first of m numbers from n on that passes, else the one after them
+abbrev pub seek : (ℕ → Bool) → ℕ → ℕ → ℕ
+seek p n zero = n
+seek p n (suc m) = cond (p n) n (seek p (suc n) m)
+
+abbrev pub aliveBit : ℕ → List ℕ → ℕ → Bool
+aliveBit flag alive r = cond (eqb flag 1) (bitAt alive r) true
+
+-- the first alive row from the given one on, or the number of rows
+unfoldable pub nextRow : ℕ → List ℕ → ℕ → ℕ → ℕ
+nextRow flag alive rows from = seek (aliveBit flag alive) from (rows - from)
+
+-- ---- its key
+
+-- how many values stand before the end of the row; k ids are at most the row
+unfoldable pub valuesUntil : ℕ → List ℕ → ℕ → ℕ → ℕ
+valuesUntil kind offsets row k = byKind kind 0 (suc row) k (getD offsets (suc row) 0) (getD offsets k 0)
+
+-- the key of the last of n times: the time, above 0, and 0 if there is none
+abbrev pub lastKey : List ℕ → ℕ → ℕ
+lastKey values zero = 0
+lastKey values (suc n) = suc (timeOf (getD values n 0))
+
+-- ---- the cursor: six numbers
+-- 0 and 1: an empty term before all times, else a term of one byte; 2: the time in the order of two's complement
+-- 3 and 4: the row, and the number of rows; 5: how many ids are at most the row
+
+unfoldable pub keyCursor : ℕ → ℕ → ℕ → ℕ → List ℕ
+keyCursor zero row rows k = 0 ∷ 0 ∷ 0 ∷ row ∷ rows ∷ k ∷ []
+keyCursor (suc t) row rows k = 0 ∷ 1 ∷ t ∷ row ∷ rows ∷ k ∷ []
+
+-- of a row of the segment; no row is left at the number of rows
+unfoldable pub cursorAt : Segment → ℕ → List ℕ
+unfolding keyCursor valuesUntil
+cursorAt s n =
+    cond (ltb n (s .rows))
+    (keyCursor (lastKey (s .values) (valuesUntil (s .kind) (s .offsets) n (rankIn (suc n) (s .ids)))) n (s .rows) (rankIn (suc n) (s .ids)))
+    (keyCursor 0 (s .rows) (s .rows) 0)
+
+-- of the first alive row from the given one on
+unfoldable pub firstFrom : Segment → ℕ → List ℕ
+unfolding cursorAt nextRow
+firstFrom s from = cursorAt s (nextRow (s .flag) (s .alive) (s .rows) from)
+
+-- ---- a segment by its place
+
+-- a set has three numbers: the flag, then start and end of the segment's alive words
+abbrev pub wordsAt : List ℕ → List ℕ → List ℕ
+wordsAt set alive = run (getD set 1 0) (getD set 2 0) alive
+
+-- the segment that stands there, without its type and terms
+unfoldable pub segmentIn : List ℕ → List ℕ → List ℕ → List ℕ → List ℕ → List ℕ → Segment
+segmentIn place set ids offsets values alive =
+    record {
+      type = 0;
+      kind = kindAt place;
+      rows = rowsAt place;
+      ids = idsAt place ids;
+      offsets = offsetsAt place offsets;
+      values = valuesAt place values;
+      terms = [];
+      flag = getD set 0 0;
+      alive = wordsAt set alive;
+    }
+
+-- the runs lie within the sections, and what the checks say of them
+pub record Timed (place set ids offsets values alive : List ℕ) : Type 0 where
+  pub sound : SoundAt place ids offsets
+  pub values-end : getD place 7 0 ≤ length values
+  pub alive-run : getD set 1 0 ≤ getD set 2 0
+  pub alive-end : getD set 2 0 ≤ length alive
+  pub words : getD set 0 0 ≡ 1 → rowsAt place ≤ 64 * (getD set 2 0 - getD set 1 0)
+  pub small : rowsAt place < 4294967296
+
+-- the rows from the given one on are left, and k ids are below it
+pub record Left (place ids : List ℕ) (from k : ℕ) : Type 0 where
+  pub row : from ≤ rowsAt place
+  pub ids-before : k ≡ rankIn from (idsAt place ids)

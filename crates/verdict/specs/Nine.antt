@@ -1,0 +1,12 @@
+-- The definitions' answer, cut at check 9. Assumes nothing.
+use Prim.Native.Nat.{ℕ}
+use mathlib.Core.List.{List, _++_}
+use Rattle.definitions.specs.Segment.{Input}
+use Rattle.definitions.specs.Checks.{Check, firstOf}
+use Rattle.definitions.specs.Answer.{sevenChecks, orderChecks}
+
+abbrev pub nineChecks : Input → List Check
+nineChecks i = sevenChecks i ++ orderChecks i
+
+unfoldable pub answerToNine : Input → ℕ
+answerToNine i = firstOf (nineChecks i)
