@@ -1,4 +1,4 @@
-/* The proved joiner of play-log columns and their time order, for C. Link with target/staticlib/libjadmirus.a (rt staticlib jadmirus).
+/* The proved joiner of play-log columns, their time order and the converter of old segments, for C. Link with target/staticlib/libjadmirus.a (rt staticlib jadmirus).
  *
  * The proof takes for granted what a caller in C must see to: each pointer is of as many elements as the count after it says (where the count is 0, any aligned
  * one that is not NULL), and no run that is written overlaps another run. */
@@ -14,15 +14,16 @@ extern "C" {
 
 /* Joins the segments of one column.
  *
- * Types: 0 I64, 1 U64, 2 F64, 3 Bytes, 4 Str, 5 Bool, 7 DateTime, 255 no column. Kinds: 0 Empty, 1 Full, 2 Optional, 3 old multivalued, 4 new multivalued.
- * Classes: 0 Full, 1 Optional, 2 Multivalued.
+ * Types: 0 I64, 1 U64, 2 F64, 3 Bytes, 4 Str, 5 Bool, 7 DateTime, 255 no column. Kinds: 0 Empty, 1 Full, 2 Optional, 4 new multivalued; 3, old
+ * multivalued, is for jadmirus_convert alone. Classes: 0 Full, 1 Optional, 2 Multivalued.
  *
- * Returns the answer, the least number that applies:
+ * Returns the answer. The checks run in the order of this list, each over all segments, and the first that fails gives its number:
  *
  *    0  accepted: the lists are written, and out_numbers
  *    1  more than 256 segments
  *    2  a section's length differs from the records' sum, or the term bytes from the term lengths' sum
  *    3  unknown mode, type, required type, kind or flag, or type 255 with a kind or lengths
+ *   19  a segment of kind 3: jadmirus_convert makes it one of kind 4
  *    4  row ids, offsets or the number of values don't fit their kind
  *    5  a value or the terms don't fit their type
  *    6  an alive bit past the rows, or an alive set in a stacked join
@@ -35,13 +36,13 @@ extern "C" {
  * Check 2 compares sums: lists of two segments whose wrong lengths cancel are cut where the records say, and later checks see what stands there. A caller that builds
  * the lists segment by segment sees to it that each has the length that its record announces.
  *
- * With 1 to 11 no output is changed. Elements beyond a list keep their values. The working bytes are zero on return. */
+ * With any number but 0 no output is changed. Elements beyond a list keep their values. The working bytes are zero on return. */
 uint32_t jadmirus_join(
     uint32_t mode,                                               /* 0 stacked, 1 in the order of the addresses */
     uint32_t required,                                           /* the required type, 255 for none */
     const uint32_t (*records)[8], size_t records_count,          /* type, kind, rows, numbers of ids, offsets, values and terms, flag */
     const uint32_t *ids, size_t ids_count,                       /* row ids of kinds 2 and 4, one segment's after another's; so all lists up to alive */
-    const uint32_t *offsets, size_t offsets_count,               /* kind 3: one more than rows; kind 4: one more than ids */
+    const uint32_t *offsets, size_t offsets_count,               /* of kind 4, one more than ids */
     const uint64_t *values, size_t values_count,                 /* 64-bit words: two's complement (0, 7), IEEE bits (2), ordinals of the segment's terms (3, 4), 0 or 1 (5) */
     const uint32_t *term_lengths, size_t term_lengths_count,     /* bytes of each term */
     const uint8_t *term_bytes, size_t term_bytes_count,          /* the terms, each segment's bytewise ascending */
@@ -60,11 +61,11 @@ uint32_t jadmirus_join(
  * last one before it in its segment; before the first one it comes before all times. Returns the answer:
  *
  *    0  accepted: the addresses are written, and out_count
- *    1 to 7  as above, but for mode and required type in 3, and for stacked joins in 6
+ *    1 2 3 19 4 5 6 7  as above and in this order, but for mode and required type in 3, and for stacked joins in 6
  *   11  fewer elements of out_addresses than alive rows
  *   12  a column of another type, a row of several times, or times that fall within a segment
  *
- * With 1 to 12 neither output is changed. Elements beyond the addresses keep their values. */
+ * With any number but 0 neither output is changed. Elements beyond the addresses keep their values. */
 uint32_t jadmirus_time_order(
     const uint32_t (*records)[8], size_t records_count,          /* as above, and so the next six */
     const uint32_t *ids, size_t ids_count,
@@ -75,6 +76,32 @@ uint32_t jadmirus_time_order(
     const uint64_t *alive, size_t alive_count,
     uint32_t (*out_addresses)[2], size_t out_addresses_count,    /* segment and row; what jadmirus_join takes as addresses */
     uint64_t out_count[1]);                                      /* the number of addresses, which is the number of alive rows */
+
+/* Converts one stored segment of kind 3, old multivalued, to kind 4: each row has the same values in the same order afterwards. Only row ids, offsets and the
+ * record's kind and numbers of both are new; values, terms and alive set stay what they are, and are not copied. Returns the answer, the first in the order of
+ * this list:
+ *
+ *    0  accepted: the lists are written, and out_record
+ *    2  a list's length differs from the record's number, or the term bytes from the term lengths' sum
+ *    3  a kind other than 3, an unknown type or flag, or type 255
+ *    4  there are row ids, or not one more offset than rows; the offsets don't begin with 0, they fall, or the last one is not the number of values
+ *    5  a value or the terms don't fit their type
+ *    6  an alive bit past the rows
+ *   11  an output is shorter than its list
+ *
+ * With any number but 0 no output is changed. Elements beyond a list keep their values. It doesn't convert in place: out_offsets is not offsets, nor out_record
+ * record. */
+uint32_t jadmirus_convert(
+    const uint32_t record[8],                                    /* as one of the records above; the lists are this segment's alone */
+    const uint32_t *ids, size_t ids_count,                       /* none: kind 3 has no row ids */
+    const uint32_t *offsets, size_t offsets_count,               /* one more than rows: where each row's values begin, and their number at the end */
+    const uint64_t *values, size_t values_count,
+    const uint32_t *term_lengths, size_t term_lengths_count,
+    const uint8_t *term_bytes, size_t term_bytes_count,
+    const uint64_t *alive, size_t alive_count,
+    uint32_t *out_ids, size_t out_ids_count,                     /* the rows with a value, ascending; values_count elements always suffice, and so does the number of rows */
+    uint32_t *out_offsets, size_t out_offsets_count,             /* 0, then the running total after each such row; one more than for out_ids suffices */
+    uint32_t out_record[8]);                                     /* the record, with kind 4 and the numbers of new ids and offsets */
 
 #ifdef __cplusplus
 }

@@ -7,10 +7,10 @@ It reads the cases with what is expected of them (cases.txt says in what form), 
 output. It does not join: no list of an answer is computed from the segments, but for the terms and the map of a `dictionary`, which are a set of
 byte strings, sorted, in which each old term is looked up.
 
-Standard input is hexadecimal numbers. First how many cases; then of each case its name (its bytes, after their number), 0 for a join or 1 for a time
-order, mode, required type; records (each of its numbers), ids, offsets, values, term lengths, term bytes, alive words and addresses, each list after
+Standard input is hexadecimal numbers. First how many cases; then of each case its name (its bytes, after their number), 0 for a join, 1 for a time
+order or 2 for a conversion, mode, required type; records (each of its numbers), ids, offsets, values, term lengths, term bytes, alive words and addresses, each list after
 its count (records and addresses counted whole); the working bytes lent and the elements lent of ids, offsets, values, term lengths, term bytes and
-map, or, of a time order, the addresses lent. This file alone knows that order, with the program: RECORD, SECTIONS and OUTPUTS below.
+map, or, of a time order, the addresses lent, or, of a conversion, the ids and offsets lent. This file alone knows that order, with the program: RECORD, SECTIONS and OUTPUTS below.
 
 A case in standard output: the name, the answer and its numbers, then each output to its last element, and the working bytes."""
 import re
@@ -108,8 +108,15 @@ JOINED = {
     "map": (MANY, number),
 }
 SORTED = {"addresses": (MANY, address)}
+CONVERTED = {"ids": (MANY, number), "offsets": (MANY, number), "record": (MANY, number)}
+# The entries: their number in a stored case, what an answer of 0 has, and the spaces lent.
+ENTRIES = {
+    "join": (0, JOINED, SPACES),
+    "time-order": (1, SORTED, ["addresses"]),
+    "convert": (2, CONVERTED, ["ids", "offsets"]),
+}
 DICTIONARY = {"held": (MANY, number), "kept": (MANY, term)}
-PARTS = ["join", "time-order", "segment", "space", "answer", "dictionary", "rule"]
+PARTS = ["join", "time-order", "convert", "segment", "space", "answer", "dictionary", "rule"]
 
 
 def entries(words, form):
@@ -151,11 +158,13 @@ def read_case(name, words):
         else:
             raise ValueError("what is " + word + "?")
     for part, words in parts:
+        if part in ENTRIES:
+            case["entry"] = part
+            case["call"] = {"mode": 0, "required": TYPES["none"], "addresses": []}
         if part == "join":
             case["call"] = {"mode": named(MODES)(words[0]), "required": TYPES["none"], "addresses": []}
             case["call"].update(entries(words[1:], JOIN))
-        elif part == "time-order":
-            case["call"] = None
+        elif part in ENTRIES:
             entries(words, {})
         elif part == "segment":
             case["segments"] += segments_of(words)
@@ -166,7 +175,7 @@ def read_case(name, words):
             case["space"].update(entries(words, SPACE))
         elif part == "answer":
             case["answer"] = number(words[0])
-            form = JOINED if case["call"] else SORTED
+            form = ENTRIES[case["entry"]][1]
             case["column"] = {n: [] for n, (many, _) in form.items() if many}
             case["column"].update(entries(words[1:], {} if case["answer"] else form))
         elif part == "dictionary":
@@ -239,7 +248,7 @@ RULES = {"letters": letters}
 
 
 def spaces(case):
-    return [case["space"].get(n, USUAL) for n in (SPACES if case["call"] else ["addresses"])]
+    return [case["space"].get(n, USUAL) for n in ENTRIES[case["entry"]][2]]
 
 
 def stored(case):
@@ -253,8 +262,8 @@ def stored(case):
     name, segments = list(case["name"].encode()), case["segments"]
     if len(name) > NAME or max(spaces(case)) > LIST:
         sys.exit("case %s: the name or a space is larger than the program's place for it" % case["name"])
-    call = case["call"] or {"mode": 0, "required": TYPES["none"], "addresses": []}
-    numbers = counted(name) + [0 if case["call"] else 1, call["mode"], call["required"]]
+    call = case["call"]
+    numbers = counted(name) + [ENTRIES[case["entry"]][0], call["mode"], call["required"]]
     numbers += counted([s.get("announced-" + n, usual(s)) for s in segments for n, usual in RECORD], len(RECORD))
     for _, run in SECTIONS:
         numbers += counted([x for s in segments for x in run(s)])
@@ -272,7 +281,11 @@ def printed(case):
     """the lines that the program must print for a case"""
     answer, column, lent = case["answer"], case["column"], spaces(case)
     head = "%s: answer %d" % (case["name"], answer)
-    if not case["call"]:
+    if case["entry"] == "convert":
+        if answer == 0:
+            head += ", record" + "".join(" %d" % n for n in column["record"])
+        return [head] + [line(case, n, column[n], space, str(BEFORE)) for n, space in zip(["ids", "offsets"], lent)]
+    if case["entry"] == "time-order":
         pairs = ["%d,%d" % p for p in column["addresses"]]
         if answer == 0:
             head += ", addresses %d" % len(pairs)

@@ -7,14 +7,15 @@ files. From the repository's root:
 A case is made as rows: for each segment the list of its rows' times (signed), which rows are alive, and a kind that can hold them. From that the sections
 are laid out, as document 01 says. The expected order is Python's sort of (key, segment, row) over the alive rows, where a key is the row's last time, else
 the last time before it in the segment, else before all: nothing of the merge, of two's complement words or of the heap is used. The expected answer is
-known by how the case was made: 0; 11 where the output is made too short; 12, 2, 3, 4, 5, 6 where one fault is put in.
+known by how the case was made: 0; 11 where the output is made too short; 12 and 1 to 7 where one fault is put in; 19 where a segment is of kind 3 and
+nothing before it is wrong, whatever stands after it.
 
 Input: hexadecimal numbers. First how many cases; each has records, ids, offsets, values, term lengths, term bytes and alive words, each after its count
 (records counted whole), and the number of addresses lent. Output: a line for each case, the answer, the number of addresses, and the whole output, segment
 and row; places that are not written keep ffffffff."""
 import random
 
-random.seed(20261115)
+random.seed(20261120)
 FOLDER = "crates/time_orders/"
 KEPT = 0xFFFFFFFF
 
@@ -31,7 +32,7 @@ def times(n):
 
 def segment(max_rows):
     """rows: a list of times for each row; kind; alive: None, or a bool for each row; type"""
-    kind = random.randrange(5)
+    kind = random.choice([0, 1, 2, 4])
     rows = random.choice([0, 1, random.randrange(max_rows + 1), random.randrange(max_rows + 1)])
     if random.random() < 0.03:
         rows = random.choice([63, 64, 65, 70])
@@ -103,7 +104,7 @@ def accepted():
 
 
 def refused(fault):
-    """one fault in a case that has, before it, nothing to refuse; 11 comes before 12, so the output is long enough"""
+    """one fault, or kind 3 with another one, in a case that has, before it, nothing to refuse; 11 comes before 12, so the output is long enough"""
     segments = [segment(4) for _ in range(2)]
     bad = {"type": 7, "kind": 1, "cells": [[5], [6]], "alive": None}
     if fault == "falling":
@@ -114,17 +115,21 @@ def refused(fault):
         bad["cells"], bad["alive"] = [[5], [4], [6]], [True, False, True]
     if fault == "falling, optional":
         bad["kind"], bad["cells"] = 2, [[], [2], [], [1]]
-    if fault == "several, kind 3":
-        bad["kind"], bad["cells"] = 3, [[1], [1, 2]]
-    if fault == "several, kind 4":
+    if fault == "several":
         bad["kind"], bad["cells"] = 4, [[], [1, 1]]
     if fault == "several, withdrawn":
         bad["kind"], bad["cells"], bad["alive"] = 4, [[1, 1], [2]], [False, True]
     if fault == "type":
         bad["type"] = random.choice([0, 1, 2])
+    old = fault.startswith("kind 3")
+    if old:
+        bad["kind"], bad["cells"], bad["alive"] = 3, random.choice([[], [[]], [[5], [], [6]], [[1], [1, 2]], [[5], [4]]]), None
+    two = {"type": 7, "kind": 2, "cells": [[1], [2], []], "alive": None}
+    if fault == "kind 3 beside ids 1 1":
+        segments[1] = two
     segments.insert(random.randrange(3), bad)
     x = sections(segments)
-    answer = 12
+    answer = 19 if old else 12
     at = segments.index(bad)
     if fault == "lengths":
         x["values"].append(0)
@@ -132,6 +137,23 @@ def refused(fault):
     if fault == "unknown type":
         x["records"][at][0] = 6
         answer = 3
+    if fault == "kind 3, no column":
+        x["records"][at][0] = 255
+        answer = 3
+    if fault == "kind 3 beside an unknown type":
+        x["records"][at - 1][0] = 9
+        answer = 3
+    if fault == "kind 3, unknown flag":
+        x["records"][at][7] = 2
+        answer = 3
+    if fault == "kind 3, lengths":
+        x["offsets"].append(0)
+        answer = 2
+    if fault == "kind 3, wrong lists":
+        x["records"][at][2] += 1
+    if fault == "kind 3 beside ids 1 1":
+        k = sum(r[3] for r in x["records"][:segments.index(two)])
+        x["ids"][k:k + 2] = [1, 1]
     if fault == "lists":
         x["records"][at][2] += 1
         answer = 4
@@ -150,12 +172,13 @@ def refused(fault):
     if fault == "rows":
         x = {"records": [[255, 0, 2**32 - 1, 0, 0, 0, 0, 0]], "ids": [], "offsets": [], "values": [], "lengths": [], "bytes": [], "alive": []}
         answer = 7
-    return x, random.randrange(20, 24), answer, []
+    return x, len(order(segments)) + random.randrange(4), answer, []
 
 
 def main():
-    cases = [accepted() for _ in range(400)]
-    faults = ["falling", "falling across zero", "falling, withdrawn", "falling, optional", "several, kind 3", "several, kind 4", "several, withdrawn", "type", "lengths", "unknown type", "lists", "bool", "past rows", "rows"]
+    cases = [accepted() for _ in range(382)]
+    faults = ["falling", "falling across zero", "falling, withdrawn", "falling, optional", "several", "several, withdrawn", "type", "lengths", "unknown type", "lists", "bool", "past rows", "rows"]
+    faults += ["kind 3", "kind 3, wrong lists", "kind 3 beside ids 1 1", "kind 3 beside an unknown type", "kind 3, no column", "kind 3, unknown flag", "kind 3, lengths"]
     cases += [refused(f) for f in faults for _ in range(3)] + [refused("many")]
     # C13 of document 01
     c13 = [{"type": 7, "kind": 2, "cells": [[10], [], [30]], "alive": None}, {"type": 7, "kind": 2, "cells": [[], [20]], "alive": None}]
@@ -163,6 +186,8 @@ def main():
     cases.append((sections(c13), 5, 0, order(c13)))
     given, told = ["%x" % len(cases)], []
     for x, space, answer, out in cases:
+        # What the program holds of a case.
+        assert space <= 96 and max(len(x["ids"]), len(x["offsets"]), len(x["values"])) <= 80 and len(x["alive"]) <= 16
         line = ["%x" % len(x["records"])] + ["%x" % n for r in x["records"] for n in r]
         for name in ["ids", "offsets", "values", "lengths", "bytes", "alive"]:
             line += ["%x" % len(x[name])] + ["%x" % n for n in x[name]]

@@ -2,9 +2,9 @@
 //!
 //! The library reads and writes only what it is lent, for every input. Its proof takes for granted
 //! that each pointer is of as many elements as the number after it says, and that nothing that is
-//! written lies over anything else that is lent. Rust slices are just that, which is why the two
+//! written lies over anything else that is lent. Rust slices are just that, which is why the
 //! functions here are safe.
-use crate::sections::{Address, Record, Sections};
+use crate::sections::{Address, Cut, Record, Sections};
 
 // The library counts in 64 bits, and so do the sums of lengths in this crate.
 const _: () = assert!(usize::BITS == 64);
@@ -64,6 +64,27 @@ unsafe extern "C" {
         out_addresses: *mut Address,
         out_addresses_count: usize,
         out_count: *mut [u64; 1],
+    ) -> u32;
+
+    fn jadmirus_convert(
+        record: *const Record,
+        ids: *const u32,
+        ids_count: usize,
+        offsets: *const u32,
+        offsets_count: usize,
+        values: *const u64,
+        values_count: usize,
+        term_lengths: *const u32,
+        term_lengths_count: usize,
+        term_bytes: *const u8,
+        term_bytes_count: usize,
+        alive: *const u64,
+        alive_count: usize,
+        out_ids: *mut u32,
+        out_ids_count: usize,
+        out_offsets: *mut u32,
+        out_offsets_count: usize,
+        out_record: *mut Record,
     ) -> u32;
 }
 
@@ -153,6 +174,40 @@ pub(crate) fn time_order(s: &Sections, addresses: &mut [Address], count: &mut [u
     }
 }
 
+/// The converter's answer. 0: the new record is written, and the lists that it announces are the
+/// first elements of `ids` and `offsets`.
+pub(crate) fn convert(
+    old: &Cut<'_>,
+    ids: &mut [u32],
+    offsets: &mut [u32],
+    record: &mut Record,
+) -> u32 {
+    let alive = old.alive.unwrap_or_default();
+    // Sound for the reasons given in `join`.
+    unsafe {
+        jadmirus_convert(
+            &old.record,
+            old.ids.as_ptr(),
+            old.ids.len(),
+            old.offsets.as_ptr(),
+            old.offsets.len(),
+            old.values.as_ptr(),
+            old.values.len(),
+            old.term_lengths.as_ptr(),
+            old.term_lengths.len(),
+            old.term_bytes.as_ptr(),
+            old.term_bytes.len(),
+            alive.as_ptr(),
+            alive.len(),
+            ids.as_mut_ptr(),
+            ids.len(),
+            offsets.as_mut_ptr(),
+            offsets.len(),
+            record,
+        )
+    }
+}
+
 #[cfg(test)]
 mod tests {
     use super::*;
@@ -203,5 +258,91 @@ mod tests {
         assert_eq!((addresses[0], count), (Address::default(), [77]));
         assert_eq!(time_order(&sections, &mut addresses, &mut count), 0);
         assert_eq!((addresses[1], count), (Address { segment: 0, row: 1 }, [2]));
+    }
+
+    /// 3 rows of 2, 0 and 1 values.
+    const OLD: Cut<'_> = Cut {
+        record: Record {
+            typ: 1,
+            kind: 3,
+            rows: 3,
+            ids: 0,
+            offsets: 4,
+            values: 3,
+            terms: 0,
+            flag: 0,
+        },
+        ids: &[],
+        offsets: &[0, 2, 2, 3],
+        values: &[7, 8, 9],
+        term_lengths: &[],
+        term_bytes: &[],
+        alive: None,
+    };
+
+    /// The answer, and all that was lent.
+    fn converted(old: &Cut<'_>, ids: usize, offsets: usize) -> (u32, Vec<u32>, Vec<u32>, Record) {
+        let (mut ids, mut offsets) = (vec![77; ids], vec![77; offsets]);
+        let mut record = Record::default();
+        let answer = convert(old, &mut ids, &mut offsets, &mut record);
+        (answer, ids, offsets, record)
+    }
+
+    /// Space for 1 id, and for 2 offsets; what is beyond the lists stays.
+    #[test]
+    fn answer_11_of_the_converter() {
+        let refused = |ids, offsets| {
+            let kept = (11, vec![77; ids], vec![77; offsets], Record::default());
+            assert_eq!(converted(&OLD, ids, offsets), kept);
+        };
+        refused(1, 9);
+        refused(9, 2);
+        refused(0, 0);
+        let record = Record {
+            kind: 4,
+            ids: 2,
+            offsets: 3,
+            ..OLD.record
+        };
+        let exact = (0, vec![0, 2], vec![0, 2, 3], record);
+        assert_eq!(converted(&OLD, 2, 3), exact);
+        let ample = (0, vec![0, 2, 77, 77], vec![0, 2, 3, 77], record);
+        assert_eq!(converted(&OLD, 4, 4), ample);
+    }
+
+    /// What this crate's own calls can't hand over: other kinds, no column, runs that don't fit.
+    #[test]
+    fn answers_2_and_3_of_the_converter() {
+        let answer = |change: fn(&mut Cut<'_>)| {
+            let mut cut = OLD;
+            change(&mut cut);
+            let (answer, ids, offsets, record) = converted(&cut, 9, 9);
+            assert_eq!((ids, offsets), (vec![77; 9], vec![77; 9]));
+            assert_eq!(record, Record::default());
+            answer
+        };
+        for kind in [0, 1, 2, 4, 7] {
+            let mut cut = OLD;
+            cut.record.kind = kind;
+            assert_eq!(converted(&cut, 9, 9).0, 3, "kind {kind}");
+        }
+        assert_eq!(answer(|cut| cut.record.typ = 6), 3);
+        assert_eq!(answer(|cut| cut.record.typ = 255), 3);
+        assert_eq!(answer(|cut| cut.record.flag = 2), 3);
+        assert_eq!(answer(|cut| cut.values = &[7, 8]), 2);
+        assert_eq!(answer(|cut| cut.offsets = &[0, 2, 2, 3, 3]), 2);
+        assert_eq!(answer(|cut| cut.ids = &[0]), 2);
+        assert_eq!(answer(|cut| cut.alive = Some(&[7])), 2);
+        assert_eq!(answer(|cut| cut.record.flag = 1), 2);
+        assert_eq!(answer(|cut| cut.term_bytes = &[97]), 2);
+        // 2 comes before 3, and 3 before 4.
+        assert_eq!(
+            answer(|cut| (cut.record.kind, cut.values) = (4, &[7, 8])),
+            2
+        );
+        assert_eq!(
+            answer(|cut| (cut.record.kind, cut.offsets) = (4, &[1, 2, 2, 3])),
+            3
+        );
     }
 }

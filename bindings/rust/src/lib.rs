@@ -2,8 +2,8 @@
 //!
 //! A column is kept in segments. [`join`] makes them one: stacked, segment after segment, or in
 //! the order of a list of addresses, from which withdrawn rows are left out. [`time_order`] gives
-//! that list for a column of times. What can't be joined is refused with a [`Refusal`], by its
-//! number.
+//! that list for a column of times. [`convert`] makes an old stored segment one that can be joined.
+//! What can't be done is refused with a [`Refusal`], by its number.
 //!
 //! ```
 //! use jadmirus::{Class, Order, Refusal, Segment, Value, join, time_order};
@@ -47,6 +47,7 @@
 //! ```
 mod alive;
 mod codes;
+mod convert;
 pub mod explain;
 mod ffi;
 mod joined;
@@ -60,6 +61,7 @@ mod wire;
 
 pub use alive::AliveSet;
 pub use codes::{Class, ColumnType};
+pub use convert::OldSegment;
 pub use joined::{Joined, Value};
 pub use refusal::Refusal;
 pub use sections::{Address, Record, Sections};
@@ -100,4 +102,28 @@ pub fn join(
 /// [`Refusal::OutputSpace`] means that there is no memory for so many addresses.
 pub fn time_order(segments: &[Segment]) -> Result<Vec<Address>, Refusal> {
     Sections::of(segments)?.time_order()
+}
+
+/// Converts a stored segment of kind 3, old multivalued, to kind 4, which can be joined. Each row
+/// has the same values in the same order afterwards, and terms and alive set are kept.
+///
+/// It is refused with [`Refusal::Lengths`], [`Refusal::RowLists`], [`Refusal::Contents`] or
+/// [`Refusal::AliveSet`], the first of them that applies.
+///
+/// ```
+/// use jadmirus::{ColumnType, Index, OldSegment, Order, Refusal, convert, join};
+///
+/// # fn main() -> Result<(), Refusal> {
+/// // Three plays: one with two artists, a jingle, one with one artist.
+/// let stored = OldSegment::new(ColumnType::U64, 3, vec![0, 2, 2, 3], vec![7, 8, 9]);
+/// let segment = convert(stored)?;
+/// let (ids, offsets) = (vec![0, 2], vec![0, 2, 3]);
+/// assert_eq!(segment.index(), &Index::NewMultivalued { ids, offsets });
+/// assert_eq!(segment.values(), [7, 8, 9]);
+/// assert_eq!(join(&[segment], Order::Stacked, None)?.rows(), 3);
+/// # Ok(())
+/// # }
+/// ```
+pub fn convert(segment: OldSegment) -> Result<Segment, Refusal> {
+    segment.convert()
 }

@@ -1,8 +1,9 @@
 use std::error::Error;
 use std::fmt;
 
-/// Why a join or a time order was refused: the library's answers 1 to 12. The checks run in the
-/// order of these numbers, each over all segments, and the first that fails is told.
+/// Why a join, a time order or a conversion was refused: the library's answers 1 to 12 and 19. The
+/// checks run in the order in which they stand here, 19 between 3 and 4, each over all segments,
+/// and the first that fails is told.
 #[derive(Clone, Copy, Debug, PartialEq, Eq, Hash)]
 #[non_exhaustive]
 pub enum Refusal {
@@ -12,6 +13,8 @@ pub enum Refusal {
     Lengths,
     /// 3: an unknown mode, type, kind or flag, or lists of no column.
     UnknownCode,
+    /// 19: a segment of kind 3, old multivalued, which [`convert`](crate::convert) alone takes.
+    OldMultivalued,
     /// 4: row ids, offsets or the number of values don't fit the kind.
     RowLists,
     /// 5: values or terms don't fit the type.
@@ -34,70 +37,88 @@ pub enum Refusal {
     Unlisted(u32),
 }
 
-/// The answers from 1 on, each with its name and its meaning.
-const LISTED: [(Refusal, &str, &str); 12] = [
+/// The answers but 0 in the order of the checks, each with its number, its name and its meaning.
+const LISTED: [(Refusal, u32, &str, &str); 13] = [
     (
         Refusal::TooManySegments,
+        1,
         "too many segments",
         "There are more than 256 segments; join them in groups and then join the results.",
     ),
     (
         Refusal::Lengths,
+        2,
         "lengths",
         "A list is longer or shorter than the segments announce it.",
     ),
     (
         Refusal::UnknownCode,
+        3,
         "unknown code",
         "A mode, type, kind or flag is none of the known ones, or a segment without a column has \
          a kind or lists.",
     ),
     (
+        Refusal::OldMultivalued,
+        19,
+        "old multivalued",
+        "A segment is of kind 3, old multivalued; convert it first ('jadmirus convert').",
+    ),
+    (
         Refusal::RowLists,
+        4,
         "row lists",
         "A segment's row ids, its offsets or the number of its values don't fit its kind and its \
          rows.",
     ),
     (
         Refusal::Contents,
+        5,
         "values or terms",
         "A value is impossible for its type, or a segment's terms are not strictly ascending or \
          stand where there can be none.",
     ),
     (
         Refusal::AliveSet,
+        6,
         "alive set",
         "An alive set marks a row past the segment's rows, or stands in a stacked join.",
     ),
     (
         Refusal::TooLarge,
+        7,
         "too large",
         "All rows, all values or all bytes of terms together are more than 4294967294.",
     ),
     (
         Refusal::WorkingSpace,
+        8,
         "working space",
         "The working space is less than a byte for each row and each term.",
     ),
     (
         Refusal::Addresses,
+        9,
         "addresses",
         "The addresses don't name every row that isn't withdrawn exactly once, or they stand in a \
          stacked join.",
     ),
     (
         Refusal::Types,
+        10,
         "types",
         "The columns and the required type can't be one column, or a value doesn't fit the joined \
          type.",
     ),
     (
         Refusal::OutputSpace,
+        11,
         "output space",
         "The space for a list of the result is too short.",
     ),
     (
         Refusal::Times,
+        12,
         "times",
         "A column is not one of times, a row has several times, or times fall within a segment.",
     ),
@@ -109,9 +130,9 @@ const UNLISTED: (&str, &str) = (
 );
 
 impl Refusal {
-    /// The answers 1 to 12, in their order.
-    pub fn all() -> [Refusal; 12] {
-        LISTED.map(|(refusal, _, _)| refusal)
+    /// The answers 1 to 12 and 19, in the order of the checks.
+    pub fn all() -> [Refusal; 13] {
+        LISTED.map(|(refusal, _, _, _)| refusal)
     }
 
     /// The refusal that an answer other than 0 stands for.
@@ -123,7 +144,7 @@ impl Refusal {
     /// The answer's number.
     pub fn number(self) -> u32 {
         match (self, self.place()) {
-            (_, Some(place)) => place as u32 + 1,
+            (_, Some(place)) => LISTED[place].1,
             (Refusal::Unlisted(answer), None) => answer,
             (_, None) => unreachable!("all others are listed"),
         }
@@ -131,16 +152,18 @@ impl Refusal {
 
     /// The answer in a word or two.
     pub fn name(self) -> &'static str {
-        self.place().map_or(UNLISTED.0, |place| LISTED[place].1)
+        self.place().map_or(UNLISTED.0, |place| LISTED[place].2)
     }
 
     /// The answer in a plain sentence.
     pub fn sentence(self) -> &'static str {
-        self.place().map_or(UNLISTED.1, |place| LISTED[place].2)
+        self.place().map_or(UNLISTED.1, |place| LISTED[place].3)
     }
 
     fn place(self) -> Option<usize> {
-        LISTED.iter().position(|(refusal, _, _)| *refusal == self)
+        LISTED
+            .iter()
+            .position(|(refusal, _, _, _)| *refusal == self)
     }
 }
 

@@ -12,7 +12,7 @@ use std::ops::Range;
 pub struct Record {
     /// A [`ColumnType`]'s code, or 255 for no column.
     pub typ: u32,
-    /// 0 Empty, 1 Full, 2 Optional, 3 old multivalued, 4 new multivalued.
+    /// 0 Empty, 1 Full, 2 Optional, 3 old multivalued (for the converter alone), 4 new multivalued.
     pub kind: u32,
     pub rows: u32,
     /// How many row ids the segment has; the next three likewise.
@@ -32,6 +32,11 @@ impl Record {
         } else {
             0
         }
+    }
+
+    /// Whether the segment is one that only the converter takes.
+    pub(crate) fn is_old(&self) -> bool {
+        self.kind == kind::OLD_MULTIVALUED
     }
 }
 
@@ -91,7 +96,7 @@ impl Sections {
         let mut outputs = self.outputs(all_listed);
         match ffi::join(self, &mut outputs) {
             0 => Ok(joined::from_outputs(outputs, self)),
-            // No working space was lent, because 9 is certain once 1 to 7 have passed.
+            // No working space was lent, because 9 is certain once the checks before 8 have passed.
             8 if !all_listed => Err(Refusal::Addresses),
             answer => Err(Refusal::from_answer(answer)),
         }
@@ -120,7 +125,7 @@ impl Sections {
         }
     }
 
-    /// The time order's answers 1 to 7: with no space lent, 11 comes after them.
+    /// The time order's answers before 11, which comes next if no space is lent.
     fn ask_time_order(&self) -> Result<(), Refusal> {
         match ffi::time_order(self, &mut [], &mut [0]) {
             0 | 11 => Ok(()),

@@ -14,8 +14,6 @@ pub enum Index {
     Full,
     /// The rows of the ids have one value each.
     Optional { ids: Vec<u32> },
-    /// A row has the values between its number's offset and the next: one offset more than rows.
-    OldMultivalued { offsets: Vec<u32> },
     /// A row of the ids has the values between the offset at its place and the next: one offset
     /// more than ids.
     NewMultivalued { ids: Vec<u32>, offsets: Vec<u32> },
@@ -27,7 +25,6 @@ impl Index {
             Index::Empty => kind::EMPTY,
             Index::Full => kind::FULL,
             Index::Optional { .. } => kind::OPTIONAL,
-            Index::OldMultivalued { .. } => kind::OLD_MULTIVALUED,
             Index::NewMultivalued { .. } => kind::NEW_MULTIVALUED,
         }
     }
@@ -36,7 +33,6 @@ impl Index {
         match self {
             Index::Empty | Index::Full => (&[], &[]),
             Index::Optional { ids } => (ids, &[]),
-            Index::OldMultivalued { offsets } => (&[], offsets),
             Index::NewMultivalued { ids, offsets } => (ids, offsets),
         }
     }
@@ -85,17 +81,7 @@ impl Segment {
         Segment::new(typ, Index::Optional { ids }, rows, values)
     }
 
-    /// Any number of values in each row, by the old index; see [`Index::OldMultivalued`].
-    pub fn old_multivalued(
-        typ: ColumnType,
-        rows: u32,
-        offsets: Vec<u32>,
-        values: Vec<u64>,
-    ) -> Segment {
-        Segment::new(typ, Index::OldMultivalued { offsets }, rows, values)
-    }
-
-    /// Any number of values in each row, by the new index; see [`Index::NewMultivalued`].
+    /// Any number of values in each row; see [`Index::NewMultivalued`].
     pub fn new_multivalued(
         typ: ColumnType,
         rows: u32,
@@ -288,7 +274,7 @@ impl Sections {
             ids: length(ids)?,
             offsets: length(offsets)?,
             values: length(&segment.values)?,
-            terms: u32::try_from(segment.terms.len()).map_err(|_| Refusal::Lengths)?,
+            terms: count(segment.terms.len())?,
             flag: u32::from(segment.alive.is_some()),
         };
         if let Some(alive) = &segment.alive {
@@ -309,8 +295,12 @@ impl Sections {
     }
 }
 
-fn length<T>(list: &[T]) -> Result<u32, Refusal> {
-    u32::try_from(list.len()).map_err(|_| Refusal::Lengths)
+pub(crate) fn length<T>(list: &[T]) -> Result<u32, Refusal> {
+    count(list.len())
+}
+
+pub(crate) fn count(elements: usize) -> Result<u32, Refusal> {
+    u32::try_from(elements).map_err(|_| Refusal::Lengths)
 }
 
 #[cfg(test)]

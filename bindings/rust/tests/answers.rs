@@ -1,8 +1,8 @@
 //! Each answer's example in document 01's table, by the safe interface, or by the sections where
 //! that can't reach it. (8 and 11 need space that this crate never lends: see src/ffi.rs.)
 use jadmirus::{
-    Address, AliveSet, Class, ColumnType, Order, Record, Refusal, Sections, Segment, join,
-    time_order,
+    Address, AliveSet, Class, ColumnType, Order, Record, Refusal, Sections, Segment, explain, join,
+    sheet, time_order,
 };
 
 fn stacked(segments: &[Segment]) -> Refusal {
@@ -19,7 +19,8 @@ fn ordered(segments: &[Segment], addresses: &[(u32, u32)]) -> Refusal {
 
 #[test]
 fn numbers_names_and_sentences() {
-    for (number, refusal) in (1..).zip(Refusal::all()) {
+    let numbers = [1, 2, 3, 19, 4, 5, 6, 7, 8, 9, 10, 11, 12];
+    for (number, refusal) in numbers.into_iter().zip(Refusal::all()) {
         assert_eq!(refusal.number(), number);
         assert!(refusal.sentence().ends_with('.'));
         let text = refusal.to_string();
@@ -68,6 +69,46 @@ fn three() {
         ..Sections::default()
     };
     assert_eq!(sections.join(), Err(Refusal::UnknownCode));
+}
+
+/// A segment of kind 3, which only sections can hold. It is tested after 3 and before 4, each over
+/// all segments.
+#[test]
+fn nineteen() {
+    let answers = |sheet: &str| {
+        let sections = sheet::read(sheet.as_bytes()).unwrap();
+        let answers = [sections.join().err(), sections.time_order().err()];
+        let [found, times] = [explain::join(&sections), explain::time_order(&sections)];
+        assert_eq!([found, times].map(|f| f.map(|f| f.refusal)), answers);
+        answers.map(|answer| answer.map_or(0, Refusal::number))
+    };
+    let old = "segment type DateTime kind OldMultivalued offsets 0 1 1 values 7\n";
+    let beside = |other: &str| answers(&format!("{old}{other}"));
+    assert_eq!(answers(old), [19, 19]);
+    assert_eq!(beside("segment rows 2"), [19, 19]);
+    assert_eq!(
+        beside("segment type DateTime kind Optional rows 3 ids 1 1 values 0 0"),
+        [19, 19]
+    );
+    assert_eq!(beside("segment type 9 kind Full values 0"), [3, 3]);
+    assert_eq!(beside("segment rows 1 flag 2"), [3, 3]);
+    // Its own lists play no part, but their lengths do.
+    assert_eq!(
+        answers("segment type U64 kind OldMultivalued rows 7 ids 9 offsets 1 0"),
+        [19, 19]
+    );
+    assert_eq!(answers("record 1 3 1 0 2 1 0 0 offsets 0 1"), [2, 2]);
+    assert_eq!(
+        answers("segment type none kind OldMultivalued rows 0"),
+        [3, 3]
+    );
+    assert_eq!(answers(&format!("mode 2\n{old}")), [3, 19]);
+    assert_eq!(answers(&format!("required 8\n{old}")), [3, 19]);
+    assert_eq!(answers(&old.repeat(256)), [19, 19]);
+    assert_eq!(answers(&old.repeat(257)), [1, 1]);
+    // An alive set and an address in a stacked join, and two categories, come later.
+    let later = "segment type Str kind Empty rows 1 withdrawn\naddresses 9:9\n";
+    assert_eq!(beside(later), [19, 19]);
 }
 
 #[test]

@@ -134,7 +134,11 @@ fn places_of_faults() {
         ),
         (
             "segment type U64 kind OldMultivalued offsets 0 2 1 values 7",
-            "segment 0, offset 1 (the 3rd): below the one before it",
+            "segment 0, kind OldMultivalued: convert it first ('jadmirus convert')",
+        ),
+        (
+            "segment type U64 kind NewMultivalued rows 3 ids 0 1 offsets 0 1 1 values 7",
+            "segment 0, offset 1 (the 3rd): not above the one before it",
         ),
         (
             "segment type Str kind Full values 0 terms \"b\" \"a\"",
@@ -184,6 +188,201 @@ fn places_of_faults() {
     for (sheet, text) in cases {
         assert_eq!(told(sheet), text);
     }
+}
+
+/// C5's segment as it was stored before.
+const OLD: &str = "segment type U64 kind OldMultivalued offsets 0 2 2 3 values 7 8 9\n";
+const CONVERTED: &str = "segment type U64 kind NewMultivalued rows 3 ids 0 2 offsets 0 2 3 \
+    values 7 8 9\n";
+
+/// Old segments are for the converter alone, which is said.
+#[test]
+fn old_segments_are_refused() {
+    let convert_it = "A segment is of kind 3, old multivalued; convert it first \
+        ('jadmirus convert').\n";
+    for command in ["join", "order"] {
+        let (out, err, status) = run(&[command, "-"], OLD.as_bytes());
+        assert_eq!((&*out, status), ("answer 19\n", 1));
+        let text = "jadmirus: standard input: answer 19 (old multivalued): ";
+        assert_eq!(err, format!("{text}{convert_it}"));
+    }
+    let second = format!("segment rows 1\n{OLD}{OLD}");
+    for words in [&["check", "-"][..], &["check", "--times", "-"]] {
+        let (out, err, status) = run(words, second.as_bytes());
+        let text = "answer 19 (old multivalued)\n\
+            segment 1, kind OldMultivalued: convert it first ('jadmirus convert')\n";
+        assert_eq!((&*out, &*err, status), (text, "", 1));
+    }
+    // 3 comes before it.
+    let unknown = format!("{OLD}segment type 9 kind Full values 1");
+    let (out, _, _) = run(&["check", "-"], unknown.as_bytes());
+    assert_eq!(
+        out,
+        "answer 3 (unknown code)\nsegment 1, type 9: no known type\n"
+    );
+}
+
+#[test]
+fn conversion_of_a_sheet_and_of_its_wire_form() {
+    assert_eq!(accepted(&["convert", "-"], OLD.as_bytes()), CONVERTED);
+    let listing = "answer 0\ntype 1\nclass 2\nrows 3\nids 2 0 2\noffsets 3 0 2 3\n\
+        values 3 7 8 9\nterms 0\nmaps 0\n";
+    assert_eq!(accepted(&["join", "-"], CONVERTED.as_bytes()), listing);
+    let encode = |sheet: &str| jadmirus(&["encode", "-"], sheet.as_bytes()).stdout;
+    let converted = jadmirus(&["convert", "-"], &encode(OLD)).stdout;
+    let words = [
+        2, 0, 255, 1, 1, 4, 3, 2, 3, 3, 0, 0, 2, 0, 2, 3, 0, 2, 3, 3, 7, 8, 9, 0, 0, 0, 0,
+    ];
+    assert_eq!(converted, wire(&words));
+    assert_eq!(converted, encode(CONVERTED));
+}
+
+/// Several segments, terms, an alive set, mode and addresses: all that isn't old stays.
+#[test]
+fn all_else_stays() {
+    let sheet = |old: [&str; 2]| {
+        format!(
+            "mode ordered\nrequired Str\n\n\
+             segment\ntype Str\nkind {}\nvalues 0 1 0\nterms \"a\" \"b\"\nalive 0x5\n\n\
+             segment\ntype none\nkind Empty\nrows 1\n\n\
+             segment\ntype Str\nkind {}\n\n\
+             segment\ntype Str\nkind Full\nrows 1\nvalues 0\nterms \"c\"\n\n\
+             addresses 3:0 2:0 0:2 1:0 0:0\n",
+            old[0], old[1]
+        )
+    };
+    let old = sheet([
+        "OldMultivalued\nrows 3\noffsets 0 2 2 3",
+        "OldMultivalued\nrows 1\noffsets 0 0",
+    ]);
+    let new = sheet([
+        "NewMultivalued\nrows 3\nids 0 2\noffsets 0 2 3",
+        "NewMultivalued\nrows 1\noffsets 0",
+    ]);
+    assert_eq!(accepted(&["convert", "-"], old.as_bytes()), new);
+    let rows = "0 \"c\"\n2 \"a\"\n4 \"a\" \"b\"\n";
+    assert_eq!(accepted(&["join", "--rows", "-"], new.as_bytes()), rows);
+    let [old, new] = [old, new].map(|sheet| jadmirus(&["encode", "-"], sheet.as_bytes()).stdout);
+    assert_eq!(jadmirus(&["convert", "-"], &old).stdout, new);
+}
+
+/// What has no old segment comes out as it went in, also if it is damaged.
+#[test]
+fn nothing_to_convert() {
+    let sheets = [
+        C1,
+        CONVERTED,
+        "# A comment, and no line end\nsegment type U64 kind Optional rows 3 ids 1 1 values 0 0",
+        "record 1 1 1 0 0 1 0 0\r\n",
+    ];
+    for sheet in sheets {
+        assert_eq!(accepted(&["convert", "-"], sheet.as_bytes()), sheet);
+        let encoded = jadmirus(&["encode", "-"], sheet.as_bytes()).stdout;
+        assert_eq!(jadmirus(&["convert", "-"], &encoded).stdout, encoded);
+    }
+}
+
+#[test]
+fn conversions_into_files() {
+    let (path, other) = (file("old.sheet"), file("new.sheet"));
+    fs::write(&path, OLD).unwrap();
+    assert_eq!(accepted(&["convert", &path, "--output", &other], b""), "");
+    assert_eq!(fs::read_to_string(&other).unwrap(), CONVERTED);
+    assert_eq!(fs::read_to_string(&path).unwrap(), OLD);
+    // A file may be replaced by its own conversion.
+    accepted(&["convert", &path, "--output", &path], b"");
+    assert_eq!(fs::read_to_string(&path).unwrap(), CONVERTED);
+    let encoded = jadmirus(&["encode", "-"], OLD.as_bytes()).stdout;
+    fs::write(&path, encoded).unwrap();
+    accepted(&["convert", "--from=wire", "--output", &path, &path], b"");
+    let encoded = jadmirus(&["encode", "-"], CONVERTED.as_bytes()).stdout;
+    assert_eq!(fs::read(&path).unwrap(), encoded);
+    // A refusal leaves both as they are.
+    let falling = format!("{OLD}{}", OLD.replace("0 2 2 3", "0 2 1 3"));
+    fs::write(&path, &falling).unwrap();
+    fs::write(&other, "mine").unwrap();
+    let (out, _, status) = run(&["convert", &path, "--output", &other], b"");
+    assert_eq!((&*out, status), ("answer 4\n", 1));
+    assert_eq!(fs::read_to_string(&other).unwrap(), "mine");
+    assert_eq!(run(&["convert", &path, "--output", &path], b"").2, 1);
+    assert_eq!(fs::read_to_string(&path).unwrap(), falling);
+}
+
+/// Which segment can't be converted, and why.
+#[test]
+fn refused_conversions() {
+    let told = |sheet: &str| {
+        let sheet = format!("{OLD}segment rows 1\n{sheet}");
+        let (out, err, status) = run(&["convert", "-"], sheet.as_bytes());
+        assert_eq!(status, 1, "{sheet}");
+        let mut lines = err
+            .lines()
+            .map(|line| line.strip_prefix("jadmirus: standard input: ").unwrap());
+        let refusal = lines.next().unwrap();
+        assert!(refusal.starts_with(out.trim_end()), "{out}{err}");
+        let place = lines.next().unwrap().to_string();
+        assert_eq!(lines.next(), None);
+        (out, place)
+    };
+    let cases = [
+        (
+            3,
+            "segment type 9 kind OldMultivalued offsets 0",
+            "segment 2, type 9: no known type",
+        ),
+        (
+            3,
+            "segment type none kind OldMultivalued offsets 0",
+            "segment 2, kind OldMultivalued: a segment without a column is of kind Empty",
+        ),
+        (
+            4,
+            "segment type U64 kind OldMultivalued offsets 0 2 1 values 7",
+            "segment 2, offset 1 (the 3rd): below the one before it",
+        ),
+        (
+            4,
+            "segment type U64 kind OldMultivalued offsets 1 2 values 7 8",
+            "segment 2, offset 1 (the 1st): the first offset is 0",
+        ),
+        (
+            4,
+            "segment type U64 kind OldMultivalued rows 2 offsets 0 1 values 7",
+            "segment 2, offsets: 2 there, and kind OldMultivalued has 3, one more than rows",
+        ),
+        (
+            4,
+            "segment type U64 kind OldMultivalued rows 1 ids 0 offsets 0 1 values 7",
+            "segment 2, row ids: 1 there, and kind OldMultivalued has none",
+        ),
+        (
+            5,
+            "segment type Bool kind OldMultivalued offsets 0 0 2 values 1 2",
+            "segment 2, row 1, value 2 (the 2nd): a Bool is 0 or 1",
+        ),
+        (
+            6,
+            "segment type U64 kind OldMultivalued offsets 0 1 values 7 alive 2",
+            "segment 2, alive word 2 (the 1st): marks row 1, not below the number of rows, 1",
+        ),
+    ];
+    for (answer, sheet, text) in cases {
+        assert_eq!(
+            told(sheet),
+            (format!("answer {answer}\n"), text.to_string())
+        );
+    }
+    let unfit = "record 1 3 1 0 2 1 0 0 offsets 0 1";
+    let (out, err, status) = run(&["convert", "-"], unfit.as_bytes());
+    assert_eq!((&*out, status), ("answer 2\n", 1));
+    let place = "segment 0, values: the segments up to this one announce 1, and 0 are there\n";
+    assert!(err.ends_with(place), "{err}");
+    let (out, err, status) = run(&["convert", "-"], &wire(&[2, 0, 255, 0, 0]));
+    assert_eq!((&*out, status), ("answer 2\n", 1));
+    assert!(err.contains("byte 40: the input is cut"), "{err}");
+    let (out, err, status) = run(&["convert", "-"], b"segment kind Old");
+    assert_eq!((&*out, status), ("", 2));
+    assert!(err.contains("line 1: kind: 'Old' is no kind"), "{err}");
 }
 
 #[test]
@@ -449,13 +648,13 @@ fn usage() {
     ] {
         assert!(accepted(words, b"").contains("jadmirus"), "{words:?}");
     }
-    for command in ["join", "order", "check", "encode", "show"] {
+    for command in ["join", "order", "check", "convert", "encode", "show"] {
         let help = accepted(&[command, "--help"], b"");
         assert!(help.starts_with(&format!("jadmirus {command} ")));
         assert!(help.contains("Exit status: "));
     }
     assert!(accepted(&["--version"], b"").starts_with("jadmirus "));
-    let wrong: [&[&str]; 13] = [
+    let wrong: [&[&str]; 19] = [
         &[],
         &["merge"],
         &["join"],
@@ -469,6 +668,12 @@ fn usage() {
         &["join", "--as", "wire", "a"],
         &["join", "--rows", "--output", "-", "a"],
         &["join", "--", "--rows", "a"],
+        &["convert"],
+        &["convert", "a", "b"],
+        &["convert", "a", "--output"],
+        &["convert", "--as", "wire", "--output", "b", "a"],
+        &["convert", "--rows", "a"],
+        &["convert", "--times", "a"],
     ];
     for words in wrong {
         let (out, err, status) = run(words, b"");

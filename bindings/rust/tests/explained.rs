@@ -76,24 +76,18 @@ fn segment(chance: &mut Chance, typ: ColumnType) -> Segment {
         *end += row.len() as u32;
         Some(*end)
     });
-    let offsets: Vec<u32> = std::iter::once(0).chain(ends).collect();
+    let offsets: BTreeSet<u32> = std::iter::once(0).chain(ends).collect();
+    let offsets = Vec::from_iter(offsets);
+    let several = chance.once_in(4);
     let count = rows.len() as u32;
     let filled: Vec<u32> = (0..count)
         .filter(|&row| !rows[row as usize].is_empty())
         .collect();
     let segment = match rows.iter().map(Vec::len).max().unwrap_or(0) {
-        _ if chance.once_in(4) => Segment::old_multivalued(typ, count, offsets, words),
-        0 => Segment::empty(typ, count),
-        1 if filled.len() == rows.len() => Segment::full(typ, words),
-        1 => Segment::optional(typ, count, filled, words),
-        _ => {
-            let offsets = offsets
-                .into_iter()
-                .collect::<BTreeSet<u32>>()
-                .into_iter()
-                .collect();
-            Segment::new_multivalued(typ, count, filled, offsets, words)
-        }
+        0 if !several => Segment::empty(typ, count),
+        1 if !several && filled.len() == rows.len() => Segment::full(typ, words),
+        1 if !several => Segment::optional(typ, count, filled, words),
+        _ => Segment::new_multivalued(typ, count, filled, offsets, words),
     };
     let empty = rows.iter().all(Vec::is_empty);
     if typ.has_terms() && !empty {
@@ -135,6 +129,24 @@ fn call(chance: &mut Chance) -> Sections {
         }
     }
     sections
+}
+
+/// Makes some segments of kind 4 what they would have been as kind 3: the converter's way back.
+fn age(chance: &mut Chance, s: &mut Sections) {
+    let (mut ids, mut offsets) = (s.ids.clone().into_iter(), s.offsets.clone().into_iter());
+    (s.ids, s.offsets) = (Vec::new(), Vec::new());
+    for r in &mut s.records {
+        let ids: Vec<u32> = ids.by_ref().take(r.ids as usize).collect();
+        let offsets: Vec<u32> = offsets.by_ref().take(r.offsets as usize).collect();
+        if r.kind == 4 && chance.once_in(2) {
+            let ends = (0..=r.rows).map(|row| ids.iter().filter(|&&id| id < row).count());
+            s.offsets.extend(ends.map(|rank| offsets[rank]));
+            (r.kind, r.ids, r.offsets) = (3, 0, r.rows + 1);
+        } else {
+            s.ids.extend(ids);
+            s.offsets.extend(offsets);
+        }
+    }
 }
 
 fn withdraw(chance: &mut Chance, segment: Segment) -> Segment {
@@ -189,6 +201,7 @@ fn damage(chance: &mut Chance, s: &mut Sections) {
         4 => damage_list(chance, &mut s.values, word),
         5 => damage_list(chance, &mut s.term_lengths, number.min(3)),
         6 => damage_list(chance, &mut s.term_bytes, number as u8),
+        7 if chance.once_in(2) => s.alive.iter_mut().for_each(|alive| *alive = word),
         7 => damage_list(chance, &mut s.alive, word),
         8 => damage_list(chance, &mut s.addresses, address),
         _ => damage_record(chance, s, number),
@@ -266,9 +279,12 @@ fn consistent(joined: &Joined, segments: usize) {
 #[test]
 fn answers_are_explained() {
     let mut chance = Chance(0x9e37_79b9_7f4a_7c15);
-    let mut met = BTreeSet::new();
+    let (mut met, mut met_converting) = (BTreeSet::new(), BTreeSet::new());
     for case in 0..20_000 {
         let mut sections = call(&mut chance);
+        if chance.once_in(4) {
+            age(&mut chance, &mut sections);
+        }
         for _ in 0..chance.below(3) {
             damage(&mut chance, &mut sections);
         }
@@ -296,10 +312,49 @@ fn answers_are_explained() {
             text()
         );
         met.extend([join, times].map(|answer| answer.map_or(0, Refusal::number)));
+        let mut converted = sections.clone();
+        let conversion = converted.convert().err();
+        let fault = explain::convert(&sections);
+        assert_eq!(
+            fault.as_ref().map(|f| f.refusal),
+            conversion,
+            "{} {fault:?}",
+            text()
+        );
+        assert!(conversion.is_none() || converted == sections, "{}", text());
+        met_converting.insert(conversion.map_or(0, Refusal::number));
         comes_back(&sections);
     }
     // 1 needs 257 segments; 8 and 11 need less space than is ever lent.
-    assert_eq!(Vec::from_iter(met), [0, 2, 3, 4, 5, 6, 7, 9, 10, 12]);
+    assert_eq!(Vec::from_iter(met), [0, 2, 3, 4, 5, 6, 7, 9, 10, 12, 19]);
+    assert_eq!(Vec::from_iter(met_converting), [0, 2, 3, 4, 5, 6]);
+}
+
+/// Old segments, converted, are just the new ones that hold the same rows.
+#[test]
+fn old_segments_become_new() {
+    let mut chance = Chance(0x0dd0_5e95_0dd0_5e95);
+    let mut old_ones = 0;
+    for _ in 0..5_000 {
+        let sections = call(&mut chance);
+        let mut aged = sections.clone();
+        age(&mut chance, &mut aged);
+        let old = aged.has_old_segments();
+        assert_eq!(aged == sections, !old);
+        assert!(!old || aged.join() == Err(Refusal::OldMultivalued));
+        let mut text = Vec::new();
+        sheet::write(&aged, &mut text).unwrap();
+        assert_eq!(aged.convert(), Ok(()));
+        assert_eq!(aged, sections);
+        // Its sheet becomes the one of the new segments.
+        let (mut converted, mut new) = (Vec::new(), Vec::new());
+        let text = String::from_utf8(text).unwrap();
+        sheet::write_converted(&text, &aged, &mut converted).unwrap();
+        sheet::write(&sections, &mut new).unwrap();
+        assert_eq!(converted, new, "{text}");
+        old_ones += usize::from(old);
+    }
+    assert!(old_ones > 1_000);
 }
 
 /// Bytes that are changed, added or removed in sheets and wire forms: nothing makes the readers fail

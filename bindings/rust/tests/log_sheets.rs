@@ -1,6 +1,7 @@
 //! The log sheets C1 to C13 of document 01, by the safe interface.
 use jadmirus::{
-    Address, AliveSet, Class, ColumnType, Joined, Order, Refusal, Segment, Value, join, time_order,
+    Address, AliveSet, Class, ColumnType, Joined, OldSegment, Order, Refusal, Segment, Value,
+    convert, join, time_order,
 };
 
 fn stacked(segments: &[Segment]) -> Joined {
@@ -17,7 +18,8 @@ fn ordered(segment: Segment, rows: &[u32]) -> Joined {
 
 /// C5's segment.
 fn multivalued() -> Segment {
-    Segment::old_multivalued(ColumnType::U64, 3, vec![0, 2, 2, 3], vec![7, 8, 9])
+    let (ids, offsets) = (vec![0, 2], vec![0, 2, 3]);
+    Segment::new_multivalued(ColumnType::U64, 3, ids, offsets, vec![7, 8, 9])
 }
 
 fn alive(word: u64) -> AliveSet {
@@ -80,6 +82,17 @@ fn c5() {
         (row(1), row(2), row(3)),
         (vec![], vec![Value::U64(9)], vec![])
     );
+}
+
+/// C5's segment as it was stored before, with and without an alive set.
+#[test]
+fn c5_converted() {
+    let old = OldSegment::new(ColumnType::U64, 3, vec![0, 2, 2, 3], vec![7, 8, 9]);
+    assert_eq!(convert(old.clone()).unwrap(), multivalued());
+    for word in [5, 4, 2] {
+        let converted = convert(old.clone().with_alive(alive(word))).unwrap();
+        assert_eq!(converted, multivalued().with_alive(alive(word)));
+    }
 }
 
 #[test]

@@ -1,13 +1,13 @@
-// Stored cases through `merge::join` and `time_order::time_order`: the answer of each with its numbers, and all that stands in the lent memory
-// afterwards. Every element is 9 before a call, so what stands beyond a list is 9, and so is everything after a refusal but the working bytes.
-// cases.txt has the cases and what is expected of them, written from document 01; tools/cases.py makes standard input and the expected output of it,
+// Stored cases through `merge::join`, `time_order::time_order` and `convert::convert`: the answer of each with its numbers, and all that stands in the
+// lent memory afterwards. Every element is 9 before a call, so what stands beyond a list is 9, and so is everything after a refusal but the working bytes.
+// cases.txt has the cases and what is expected of them, written from documents 01 and 02; tools/cases.py makes standard input and the expected output of it,
 // and says in what order a case is stored. Each list has place for 300 elements, a name for 100 bytes.
 ghost use Prim.Native.Nat.{ℕ};
 ghost use mathlib.Core.List.{List};
 ghost use lib.ListN.{replicate};
 ghost use Rattle.case_text.specs.Counts.{Counts};
 
-// Which entry is called, 1 for the time order, and the numbers that only a join takes.
+// Which entry is called, 1 for the time order and 2 for the converter, and the numbers that only a join takes.
 struct Call {
     entry: u64,
     mode: u32,
@@ -41,6 +41,23 @@ fn put_times(a: time_order::TimeAnswer) {
     match a {
         time_order::TimeAnswer::Refused(k) => case_lines::put(k as u64),
         time_order::TimeAnswer::Sorted(n) => case_lines::put_named(b" 0, addresses", n as u64),
+    }
+    case_lines::end_line();
+}
+
+fn put_converted(a: convert::ConvertAnswer) {
+    match a {
+        convert::ConvertAnswer::Refused(k) => case_lines::put(k as u64),
+        convert::ConvertAnswer::Converted(r) => {
+            case_lines::put_named(b" 0, record", r.typ as u64);
+            case_lines::put(r.kind as u64);
+            case_lines::put(r.rows as u64);
+            case_lines::put(r.ids as u64);
+            case_lines::put(r.offsets as u64);
+            case_lines::put(r.values as u64);
+            case_lines::put(r.terms as u64);
+            case_lines::put(r.flag as u64);
+        }
     }
     case_lines::end_line();
 }
@@ -174,6 +191,46 @@ fn time_case(
     s.at
 }
 
+// The first record alone, where there is one.
+fn convert_case(
+    text: &[u8],
+    from: usize,
+    records: &[[u32; 8]],
+    ids: &[u32],
+    offsets: &[u32],
+    values: &[u64],
+    lengths: &[u32],
+    bytes: &[u8],
+    alive: &[u64],
+) -> usize {
+    let i = room(text, from);
+    let o = room(text, i.at);
+    let ic = i.count;
+    let oc = o.count;
+    let mut ids_memory = [9u32; 300];
+    let mut offsets_memory = [9u32; 300];
+    let out_ids = &mut ids_memory[..ic];
+    let out_offsets = &mut offsets_memory[..oc];
+    if 0 < records.len() {
+        let r = segment::record_at(records, 0);
+        let a = convert::convert(
+            r,
+            ids,
+            offsets,
+            values,
+            lengths,
+            bytes,
+            alive,
+            out_ids,
+            out_offsets,
+        );
+        put_converted(a);
+        case_lines::put_numbers(b"  ids", out_ids);
+        case_lines::put_numbers(b"  offsets", out_offsets);
+    }
+    o.at
+}
+
 fn run(
     text: &[u8],
     from: usize,
@@ -189,6 +246,19 @@ fn run(
 ) -> usize {
     if call.entry == 1 {
         return time_case(
+            text,
+            from,
+            records,
+            ids,
+            offsets,
+            values,
+            lengths,
+            bytes,
+            alive,
+        );
+    }
+    if call.entry == 2 {
+        return convert_case(
             text,
             from,
             records,

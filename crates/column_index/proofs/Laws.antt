@@ -13,8 +13,9 @@ use lib.Ieee.Fits.{and-l, and-r}
 use borrow.Author.Tests.{lt-ltb, le-ltb, ne-eqb, ltb-true, ltb-false, eqb-true, eqb-false, leb-true, leb-false}
 use Rattle.definitions.specs.Lists.{elem, ascending, ascendingFrom}
 use Rattle.definitions.specs.Segment.{Segment}
-use Rattle.definitions.specs.Row.{rank, rowValues}
+use Rattle.definitions.specs.Row.{rank, oneAt, between, ifListed, rowValues}
 use Rattle.definitions.proofs.Fit.{rank-lt, rank-le}
+use Rattle.segment.proofs.Kind.{by-index}
 use Rattle.column_index.specs.Lookup.{rankIn, lesser, isIn, startOf, endOf}
 use Rattle.definitions.proofs.Lists.{mem-elem, mem-at}
 use mathlib.Core.Logic.{_⊎_, inl, inr}
@@ -252,13 +253,9 @@ module _ (kind : ℕ) (ids offsets : List ℕ) (row : ℕ) where
   unfolding startOf endOf
   range-full r e q = rw (e, q, add-one row) (refl, refl)
 
-  pub range-old : (r s t : ℕ) → kind ≡ 3 → r ≡ row → s ≡ getD offsets r 0 → t ≡ getD offsets (r + 1) 0 → RangeIs kind ids offsets row s t
+  pub range-none : (kind ≡ 0 → ⊥) → (kind ≡ 1 → ⊥) → false ≡ isIn row ids → RangeIs kind ids offsets row 0 0
   unfolding startOf endOf
-  range-old r s t e q p o = rw (e, p, o, q, add-one row) (refl, refl)
-
-  pub range-none : (kind ≡ 0 → ⊥) → (kind ≡ 1 → ⊥) → (kind ≡ 3 → ⊥) → false ≡ isIn row ids → RangeIs kind ids offsets row 0 0
-  unfolding startOf endOf
-  range-none n0 n1 n3 e = rw (ne-eqb kind 0 n0, ne-eqb kind 1 n1, ne-eqb kind 3 n3, ← e) (go (eqb kind 2), go (eqb kind 2))
+  range-none n0 n1 e = rw (ne-eqb kind 0 n0, ne-eqb kind 1 n1, ← e) (go (eqb kind 2), go (eqb kind 2))
     where
       go : (b : Bool) → _≡_ {A = ℕ} 0 (cond b 0 0)
       go true = refl
@@ -268,36 +265,36 @@ module _ (kind : ℕ) (ids offsets : List ℕ) (row : ℕ) where
   unfolding startOf endOf
   range-optional k e q t = rw (e, q, ← t, add-one (rankIn row ids)) (refl, refl)
 
-  pub range-new : (k s t : ℕ) → (kind ≡ 0 → ⊥) → (kind ≡ 1 → ⊥) → (kind ≡ 2 → ⊥) → (kind ≡ 3 → ⊥) → k ≡ rankIn row ids → true ≡ isIn row ids
+  pub range-multi : (k s t : ℕ) → (kind ≡ 0 → ⊥) → (kind ≡ 1 → ⊥) → (kind ≡ 2 → ⊥) → k ≡ rankIn row ids → true ≡ isIn row ids
       → s ≡ getD offsets k 0 → t ≡ getD offsets (k + 1) 0 → RangeIs kind ids offsets row s t
   unfolding startOf endOf
-  range-new k s t n0 n1 n2 n3 q e p o =
-      rw (ne-eqb kind 0 n0, ne-eqb kind 1 n1, ne-eqb kind 2 n2, ne-eqb kind 3 n3, ← e, p, o, q, add-one (rankIn row ids)) (refl, refl)
+  range-multi k s t n0 n1 n2 q e p o =
+      rw (ne-eqb kind 0 n0, ne-eqb kind 1 n1, ne-eqb kind 2 n2, ← e, p, o, q, add-one (rankIn row ids)) (refl, refl)
 
 -- ---- what stands there is the row's values
 
-pub row-slice : (s : Segment) (r : ℕ) → rowValues s r ≡ slice (startOf (s .kind) (s .ids) (s .offsets) r) (endOf (s .kind) (s .ids) (s .offsets) r) (s .values)
+pub row-slice : (s : Segment) (r : ℕ) → eqb (s .kind) 3 ≡ false → rowValues s r ≡ slice (startOf (s .kind) (s .ids) (s .offsets) r) (endOf (s .kind) (s .ids) (s .offsets) r) (s .values)
 unfolding rowValues startOf endOf rankIn isIn
-row-slice s r = go (eqb (s .kind) 0) (eqb (s .kind) 1) (eqb (s .kind) 2) (eqb (s .kind) 3) (elem r (s .ids))
+row-slice s r current =
+    by-index (s .kind) [] (oneAt s r) (ifListed s r (oneAt s (rank r (s .ids)))) (between s r) (ifListed s r (between s (rank r (s .ids)))) current
+    ∙ go (eqb (s .kind) 0) (eqb (s .kind) 1) (eqb (s .kind) 2) (elem r (s .ids))
   where
     k : ℕ
     k = rank r (s .ids)
 
-    go : (a b c d e : Bool)
-        → cond a [] (cond b (slice r (suc r) (s .values)) (cond c (cond e (slice k (suc k) (s .values)) []) (cond d (slice (getD (s .offsets) r 0) (getD (s .offsets) (suc r) 0) (s .values)) (cond e (slice (getD (s .offsets) k 0) (getD (s .offsets) (suc k) 0) (s .values)) []))))
-        ≡ slice (cond a 0 (cond b r (cond c (cond e k 0) (cond d (getD (s .offsets) r 0) (cond e (getD (s .offsets) k 0) 0)))))
-        (cond a 0 (cond b (suc r) (cond c (cond e (suc k) 0) (cond d (getD (s .offsets) (suc r) 0) (cond e (getD (s .offsets) (suc k) 0) 0))))) (s .values)
-    go true b c d e = refl
-    go false true c d e = refl
-    go false false true d true = refl
-    go false false true d false = refl
-    go false false false true e = refl
-    go false false false false true = refl
-    go false false false false false = refl
+    go : (a b c e : Bool)
+        → cond a [] (cond b (slice r (suc r) (s .values)) (cond c (cond e (slice k (suc k) (s .values)) []) (cond e (slice (getD (s .offsets) k 0) (getD (s .offsets) (suc k) 0) (s .values)) [])))
+        ≡ slice (cond a 0 (cond b r (cond c (cond e k 0) (cond e (getD (s .offsets) k 0) 0))))
+        (cond a 0 (cond b (suc r) (cond c (cond e (suc k) 0) (cond e (getD (s .offsets) (suc k) 0) 0)))) (s .values)
+    go true b c e = refl
+    go false true c e = refl
+    go false false true true = refl
+    go false false true false = refl
+    go false false false true = refl
+    go false false false false = refl
 
-pub four-le : (kind : ℕ) → (kind ≡ 0 → ⊥) → (kind ≡ 1 → ⊥) → (kind ≡ 2 → ⊥) → (kind ≡ 3 → ⊥) → 4 ≤ kind
-four-le zero a b c d = absurd (a refl)
-four-le (suc zero) a b c d = absurd (b refl)
-four-le (suc (suc zero)) a b c d = absurd (c refl)
-four-le (suc (suc (suc zero))) a b c d = absurd (d refl)
-four-le (suc (suc (suc (suc k)))) a b c d = omega arith
+pub three-le : (kind : ℕ) → (kind ≡ 0 → ⊥) → (kind ≡ 1 → ⊥) → (kind ≡ 2 → ⊥) → 3 ≤ kind
+three-le zero a b c = absurd (a refl)
+three-le (suc zero) a b c = absurd (b refl)
+three-le (suc (suc zero)) a b c = absurd (c refl)
+three-le (suc (suc (suc k))) a b c = omega arith

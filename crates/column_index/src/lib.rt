@@ -109,7 +109,7 @@ fn between(offsets: &[u32], k: usize) -> Range
 
 // Where the values of a row of kind 2 or 4 stand.
 fn ranked_range(kind: usize, ids: &[u32], offsets: &[u32], row: u32, near: usize) -> Range
-    requires { ⌜ Readable kind (now ids) (now offsets) row ⌝ }
+    requires { ⌜ Readable kind (now ids) (now offsets) ⌝ }
     requires { ⌜ Ranked kind ⌝ }
     ensures { λ r. ⌜ r .start ≡ startOf kind (now (ids .entry)) (now (offsets .entry)) row ⌝ }
     ensures { λ r. ⌜ r .end ≡ endOf kind (now (ids .entry)) (now (offsets .entry)) row ⌝ }
@@ -129,7 +129,7 @@ fn ranked_range(kind: usize, ids: &[u32], offsets: &[u32], row: u32, near: usize
 
 // Where the row's values stand; `near` is a guess at the row's rank.
 pub fn value_range(kind: usize, ids: &[u32], offsets: &[u32], row: u32, near: usize) -> Range
-    requires { ⌜ Readable kind (now ids) (now offsets) row ⌝ }
+    requires { ⌜ Readable kind (now ids) (now offsets) ⌝ }
     ensures { λ r. ⌜ r .start ≡ startOf kind (now (ids .entry)) (now (offsets .entry)) row ⌝ }
     ensures { λ r. ⌜ r .end ≡ endOf kind (now (ids .entry)) (now (offsets .entry)) row ⌝ }
 {
@@ -142,9 +142,6 @@ pub fn value_range(kind: usize, ids: &[u32], offsets: &[u32], row: u32, near: us
             start: r,
             end: r + 1,
         };
-    }
-    if kind == 3 {
-        return between(offsets, r);
     }
     ranked_range(kind, ids, offsets, row, near)
 }

@@ -16,7 +16,6 @@ use Rattle.definitions.specs.Class.{rowClass}
 use Rattle.column_index.specs.Lookup.{widthOf}
 use Rattle.places.specs.Place.{run, kindAt, rowsAt, idsAt, offsetsAt, startIn, endIn, widthIn}
 use Rattle.places.proofs.Stack.{width-empty, width-full, width-none, width-optional}
-use Rattle.definitions.proofs.Group as group
 use Rattle.lists.proofs.Parts.{run-length}
 use Rattle.column_index_merge.specs.Class.{widthClass, rowClassIn, aliveClassFrom, kindClassOf, classIn, greatestIn, Classed}
 
@@ -62,15 +61,18 @@ kind-optional kind rows e = rw e
 
 pub kind-multi : (kind rows : ℕ) → (kind ≡ 0 → ⊥) → (kind ≡ 1 → ⊥) → (kind ≡ 2 → ⊥) → 2 ≡ kindClassOf kind rows
 unfolding kindClassOf
-kind-multi kind rows a b c = rw (ne-eqb kind 0 a, ne-eqb kind 1 b, ne-eqb kind 2 c) (go (eqb kind 3))
-  where
-    go : (d : Bool) → _≡_ {A = ℕ} 2 (cond d 2 2)
-    go true = refl
-    go false = refl
+kind-multi kind rows a b c = rw (ne-eqb kind 0 a, ne-eqb kind 1 b, ne-eqb kind 2 c)
 
 kind-le : (kind rows : ℕ) → kindClassOf kind rows ≤ 2
 unfolding kindClassOf
-kind-le kind rows = group.kind-le kind rows
+kind-le kind rows = go (eqb kind 0) (eqb rows 0) (eqb kind 1) (eqb kind 2)
+  where
+    go : (a r b c : Bool) → cond a (cond r 0 1) (cond b 0 (cond c 1 2)) ≤ 2
+    go true true b c = zero-le
+    go true false b c = omega arith
+    go false r true c = zero-le
+    go false r false true = omega arith
+    go false r false false = le-refl 2
 
 -- no row raises the class above that of its kind
 class-top : (kind rows : ℕ) (ids offsets : List ℕ) (r : ℕ) → r < rows → widthClass (widthOf kind ids offsets r) ≤ kindClassOf kind rows
@@ -85,7 +87,7 @@ class-top kind rows ids offsets r h = go (eqb kind 0) refl (eqb kind 1) refl (eq
     go false p false q true s true u = let x = ap widthClass (width-optional kind ids offsets r (eqb-true kind 2 s) u) in omega arith
     go false p false q true s false u =
         let e = eqb-true kind 2 s in
-        let x = ap widthClass (width-none kind ids offsets r (λ z. omega arith) (λ z. omega arith) (λ z. omega arith) u) in
+        let x = ap widthClass (width-none kind ids offsets r (λ z. omega arith) (λ z. omega arith) u) in
         let y = kind-optional kind rows e in
         omega arith
     go false p false q false s d u =

@@ -9,21 +9,23 @@ use mathlib.Core.Bool.{Bool, true, false, cond}
 use mathlib.Core.Logic.{_⊎_, inl, inr}
 use lib.ListN.{length, getD, drop, drop-of-length-le}
 use lib.Seq.{drop-cons}
-use lib.Dec.{T, ltb, ltb→lt}
-use borrow.Author.Tests.{eq-eqb, ne-eqb}
+use lib.Dec.{T, eqb, ltb, ltb→lt}
+use borrow.Author.Tests.{eq-eqb, ne-eqb, eqb-true, eqb-false}
 use Rattle.definitions.specs.Lists.{count, upFrom, elem, all, ascending, ascendingFrom}
 use Rattle.definitions.specs.Lists.{sum}
 use Rattle.places.specs.Width.{idPart, idsOf}
 use Rattle.definitions.specs.Row.{bitAt}
 use Rattle.places.specs.Place.{run, kindAt, rowsAt, idsAt, offsetsAt, startIn, endIn, widthIn}
 use Rattle.column_index.specs.Lookup.{widthOf, Ranked}
-use Rattle.column_index.proofs.Laws.{asc-tail, asc-at, elem-above, four-le}
-use Rattle.places.proofs.Stack.{width-full, width-none}
-use Rattle.places.specs.Stack.{diffs, segmentWidths, stackedWidths, SoundAt}
-use Rattle.places.proofs.Bulk.{diffs-now}
-use Rattle.column_index_merge.specs.Counted.{aliveWidth, aliveWidths, countedIn, countedAll}
+use Rattle.column_index.proofs.Laws.{asc-tail, asc-at, elem-above, three-le}
+use Rattle.places.proofs.Stack.{width-empty, width-full, width-none}
+use Rattle.places.specs.Stack.{segmentWidths, stackedWidths, SoundAt}
+use Rattle.column_index_merge.specs.Counted.{listedAt, aliveWidth, aliveWidths, countedIn, countedAll}
+use Rattle.places.proofs.Bulk.{seg-ids-empty, seg-ids-full, seg-ids-listed, ids-length}
+use Rattle.runs.proofs.Laws.{shifted-length}
+use Rattle.definitions.proofs.Lists.{length-upFrom}
 use Rattle.lists.proofs.Sums.{sum-append}
-use Rattle.lists.proofs.Lists.{up-step, up-end, all-at}
+use Rattle.lists.proofs.Lists.{all-at}
 use Rattle.lists.proofs.Numbers.{same?}
 use Rattle.lists.proofs.Parts.{run-length, part-at}
 use lib.Arith.{lt-of-le-ne}
@@ -67,9 +69,6 @@ count-is ws = refl
 
 -- ---- turns
 
-pub count-risen : (os : List ℕ) (j : ℕ) → j + 1 < length os → (w : ℕ) → w ≡ getD os (j + 1) 0 - getD os j 0 → countOf (diffs (drop j os)) ≡ length (idPart 0 w) + countOf (diffs (drop (j + 1) os))
-count-risen os j h w q = ap countOf (diffs-now os j h q) ∙ count-cons w (diffs (drop (j + 1) os))
-
 pub count-done : (ws whole : List ℕ) (n : ℕ) → ws ≡ [] → n + countOf ws ≡ countOf whole → n ≡ length (idsOf 0 whole)
 count-done ws whole n e f =
     let z : countOf ws ≡ 0 = ap countOf e ∙ count-nil in
@@ -84,24 +83,6 @@ sum-done ws whole n e f = let z : sum ws ≡ 0 = ap sum e in omega arith
 pub alive-width : (place ids offsets words : List ℕ) (r w v : ℕ) → w ≡ widthIn place ids offsets r → v ≡ cond (bitAt words r) w 0 → v ≡ aliveWidth place ids offsets words r
 unfolding aliveWidth
 alive-width place ids offsets words r w v e f = f ∙ ap (λ (n : ℕ). cond (bitAt words r) n 0) e
-
-module _ (f : ℕ → ℕ) where
-  pub rows-step : (r rows : ℕ) → r < rows → map f (upFrom r (rows - r)) ≡ f r ∷ map f (upFrom (r + 1) (rows - (r + 1)))
-  rows-step r rows h = ap (map f) (up-step r rows h)
-
-  pub rows-count : (r rows : ℕ) → r < rows → (w : ℕ) → w ≡ f r → countOf (map f (upFrom r (rows - r))) ≡ length (idPart 0 w) + countOf (map f (upFrom (r + 1) (rows - (r + 1))))
-  rows-count r rows h w e =
-      ap countOf (rows-step r rows h) ∙ count-cons (f r) (map f (upFrom (r + 1) (rows - (r + 1))))
-      ∙ ap (λ (n : ℕ). length (idPart 0 n) + countOf (map f (upFrom (r + 1) (rows - (r + 1))))) (sym e)
-
-  pub rows-sum : (r rows : ℕ) → r < rows → (w : ℕ) → w ≡ f r → sum (map f (upFrom r (rows - r))) ≡ w + sum (map f (upFrom (r + 1) (rows - (r + 1))))
-  rows-sum r rows h w e = ap sum (rows-step r rows h) ∙ ap (λ (n : ℕ). n + sum (map f (upFrom (r + 1) (rows - (r + 1))))) (sym e)
-
-  pub rows-begin : (g : List ℕ → ℕ) (rows : ℕ) → 0 + g (map f (upFrom 0 (rows - 0))) ≡ g (map f (upFrom 0 rows))
-  rows-begin g rows = zero-add (g (map f (upFrom 0 (rows - 0)))) ∙ ap (λ (n : ℕ). g (map f (upFrom 0 n))) (let z : rows - 0 ≡ rows = omega arith in z)
-
-  pub rows-end : (r rows : ℕ) → rows ≤ r → map f (upFrom r (rows - r)) ≡ []
-  rows-end r rows h = ap (map f) (up-end r rows h)
 
 -- ---- rows by their ids
 
@@ -154,11 +135,11 @@ module _ {place ids offsets : List ℕ} (words : List ℕ) (sa : SoundAt place i
         where
           pick : (kindAt place ≡ 2) ⊎ (kindAt place ≡ 2 → ⊥) → T (all (λ n. ltb n (rowsAt place)) own)
           pick (inl e) = sa .sound .optional e .0
-          pick (inr d) = sa .sound .new (four-le (kindAt place) (rk .0) (rk .1) d (rk .2)) .0
+          pick (inr d) = sa .sound .multi (three-le (kindAt place) (rk .0) (rk .1) d) .0
 
   no-width : (r : ℕ) → elem r own ≡ false → w r ≡ 0
   unfolding aliveWidth widthIn startIn endIn widthOf
-  no-width r e = ap (λ (x : ℕ). cond (bitAt words r) x 0) (width-none (kindAt place) own (offsetsAt place offsets) r (rk .0) (rk .1) (rk .2) e) ∙ none (bitAt words r)
+  no-width r e = ap (λ (x : ℕ). cond (bitAt words r) x 0) (width-none (kindAt place) own (offsetsAt place offsets) r (rk .0) (rk .1) e) ∙ none (bitAt words r)
     where
       none : (b : Bool) → _≡_ {A = ℕ} (cond b 0 0) 0
       none true = refl
@@ -200,6 +181,26 @@ module _ {place ids offsets : List ℕ} (words : List ℕ) (sa : SoundAt place i
   pub own-row : (k row : ℕ) → k < getD place 3 0 - getD place 2 0 → row ≡ getD ids (getD place 2 0 + k) 0 → row < rowsAt place
   own-row k row h e = let x = own-small k (omega (arith, own-long)) in let y = own-at k h in omega arith
 
+-- no row of kind 0 has a value
+module _ (place ids offsets words : List ℕ) (e : kindAt place ≡ 0) where
+  pub empty-sum : (s n : ℕ) → 0 ≡ sum (aliveWidths place ids offsets words s n)
+  unfolding aliveWidth widthIn startIn endIn widthOf
+  empty-sum s zero = refl
+  empty-sum s (suc n) =
+      let z = width-empty (kindAt place) (idsAt place ids) (offsetsAt place offsets) s e in
+      empty-sum (suc s) n ∙ sym (zero-add (sum (aliveWidths place ids offsets words (suc s) n))) ∙ ap (λ (w : ℕ). w + sum (aliveWidths place ids offsets words (suc s) n)) (sym (ap (λ (w : ℕ). cond (bitAt words s) w 0) z ∙ none (bitAt words s)))
+    where
+      none : (b : Bool) → _≡_ {A = ℕ} (cond b 0 0) 0
+      none true = refl
+      none false = refl
+
+  pub empty-count : (n : ℕ) → 0 ≡ length (idsOf 0 (aliveWidths place ids offsets words 0 n))
+  empty-count n =
+      let p = count-sum (aliveWidths place ids offsets words 0 n) in
+      let q = empty-sum 0 n in
+      let r = count-is (aliveWidths place ids offsets words 0 n) in
+      omega arith
+
 -- every row of kind 1 has one value
 module _ (place ids offsets words : List ℕ) (e : kindAt place ≡ 1) where
   one-wide : (r : ℕ) → aliveWidth place ids offsets words r ≡ cond (bitAt words r) 1 0
@@ -230,6 +231,23 @@ module _ (place ids offsets words : List ℕ) (e : kindAt place ≡ 1) where
   full-count n = full-counted 0 n ∙ count-is (aliveWidths place ids offsets words 0 n)
 
 -- ---- segments
+
+pub listed-is : {place ids offsets : List ℕ} → SoundAt place ids offsets → listedAt place ≡ length (idsOf 0 (segmentWidths place ids offsets))
+unfolding listedAt
+listed-is {place} {ids} {offsets} sa = go (eqb (kindAt place) 0) refl (eqb (kindAt place) 1) refl (eqb (kindAt place) 2)
+  where
+    n : ℕ
+    n = getD place 3 0 - getD place 2 0
+
+    listed : (kindAt place ≡ 0 → ⊥) → (kindAt place ≡ 1 → ⊥) → n ≡ length (idsOf 0 (segmentWidths place ids offsets))
+    listed a b = sym (ap length (seg-ids-listed sa a b 0) ∙ shifted-length 0 (idsAt place ids) ∙ ids-length sa)
+
+    go : (a : Bool) → eqb (kindAt place) 0 ≡ a → (b : Bool) → eqb (kindAt place) 1 ≡ b → (c : Bool)
+        → cond a 0 (cond b (rowsAt place) (cond c n n)) ≡ length (idsOf 0 (segmentWidths place ids offsets))
+    go true p b q c = sym (ap length (seg-ids-empty sa (eqb-true (kindAt place) 0 p) 0))
+    go false p true q c = sym (ap length (seg-ids-full sa (eqb-true (kindAt place) 1 q) 0) ∙ length-upFrom 0 (rowsAt place))
+    go false p false q true = listed (eqb-false (kindAt place) 0 p) (eqb-false (kindAt place) 1 q)
+    go false p false q false = listed (eqb-false (kindAt place) 0 p) (eqb-false (kindAt place) 1 q)
 
 module _ (place alive ids offsets words : List ℕ) where
   pub counted-alive : getD alive 0 0 ≡ 1 → aliveWidths place ids offsets (run (getD alive 1 0) (getD alive 2 0) words) 0 (rowsAt place) ≡ countedIn place alive ids offsets words

@@ -12,7 +12,9 @@ use Rattle.definitions.specs.Segment.{Segment}
 use Rattle.definitions.specs.Row.{noType, bitAt, rowValues, hasValue, hasAliveSet, isAlive, aliveRows, isPresent, isDropped, isHeld, effective}
 use Rattle.definitions.specs.Class.{rowClass, kindClass, aliveClass, classOf, greatestClass}
 use Rattle.definitions.specs.Join.{absent}
-use Rattle.definitions.specs.Answer.{listsFit}
+use Rattle.definitions.specs.Answer.{indexFits}
+use Rattle.definitions.proofs.Fit.{not-old}
+use Rattle.segment.proofs.Kind.{by-index}
 use Rattle.places.specs.Place.{run, kindAt, rowsAt, widthIn}
 use Rattle.places.proofs.Cells.{cell-length}
 use Rattle.places.proofs.Bridge.{Stands, cell-stands, count-stands, inside-stands}
@@ -21,11 +23,11 @@ use Rattle.column_index_merge.specs.Held.{hasAt, hasFrom, heldIn}
 use Rattle.column_index_merge.proofs.Class.{alive-is, row-class}
 use Rattle.lists.proofs.Lists.{empty-length}
 
-kind-class-is : (s : Segment) → kindClass s ≡ kindClassOf (s .kind) (s .rows)
+kind-class-is : (s : Segment) → T (indexFits s) → kindClass s ≡ kindClassOf (s .kind) (s .rows)
 unfolding kindClass kindClassOf
-kind-class-is s = refl
+kind-class-is s fit = by-index (s .kind) (cond (eqb (s .rows) 0) 0 1) 0 1 2 2 (not-old s fit)
 
-module _ (alive words : List ℕ) {place ids offsets values : List ℕ} {s : Segment} (st : Stands place ids offsets values s) (fit : T (listsFit s)) (flag : getD alive 0 0 ≡ s .flag)
+module _ (alive words : List ℕ) {place ids offsets values : List ℕ} {s : Segment} (st : Stands place ids offsets values s) (fit : T (indexFits s)) (flag : getD alive 0 0 ≡ s .flag)
     (run-is : run (getD alive 1 0) (getD alive 2 0) words ≡ s .alive) where
   alive-bit : hasAliveSet s ≡ true → (r : ℕ) → isAlive s r ≡ bitAt (s .alive) r
   unfolding isAlive
@@ -37,7 +39,7 @@ module _ (alive words : List ℕ) {place ids offsets values : List ℕ} {s : Seg
   alive-rows e a (suc m) l = go (bitAt (s .alive) a) (isAlive s a) (alive-bit e a) (alive-rows e (suc a) m (omega arith))
     where
       one : widthClass (widthIn place ids offsets a) ≡ rowClass (rowValues s a)
-      one = ap widthClass (sym (cell-length place ids offsets values a (inside-stands st fit a (omega arith))) ∙ ap length (cell-stands st a)) ∙ sym (row-class (rowValues s a))
+      one = ap widthClass (sym (cell-length place ids offsets values a (inside-stands st fit a (omega arith))) ∙ ap length (cell-stands st fit a)) ∙ sym (row-class (rowValues s a))
 
       go : (b c : Bool) → c ≡ b
           → greatest (map (λ k. widthClass (widthIn place ids offsets k)) (filter (bitAt (s .alive)) (upFrom (suc a) m))) ≡ greatest (map (λ r. rowClass (rowValues s r)) (filter (isAlive s) (upFrom (suc a) m)))
@@ -63,7 +65,7 @@ module _ (alive words : List ℕ) {place ids offsets values : List ℕ} {s : Seg
       go false e =
           ap (λ (b : Bool). cond b (aliveClassFrom place ids offsets (run (getD alive 1 0) (getD alive 2 0) words) 0 (rowsAt place)) (kindClassOf (kindAt place) (rowsAt place))) (ap (λ (n : ℕ). eqb n 1) flag ∙ e)
           ∙ ap₂ kindClassOf (st .kind) (st .rows)
-          ∙ sym (kind-class-is s)
+          ∙ sym (kind-class-is s fit)
 
 not-none : (l : List ℕ) → not (eqb (length l) 0) ≡ not (isEmpty l)
 not-none l = ap not (sym (empty-length l))
@@ -80,7 +82,7 @@ kept-is true false true false = refl
 kept-is true false false h = refl
 kept-is false e a h = refl
 
-module _ (alive words : List ℕ) {place ids offsets values : List ℕ} {s : Segment} (st : Stands place ids offsets values s) (fit : T (listsFit s)) (flag : getD alive 0 0 ≡ s .flag)
+module _ (alive words : List ℕ) {place ids offsets values : List ℕ} {s : Segment} (st : Stands place ids offsets values s) (fit : T (indexFits s)) (flag : getD alive 0 0 ≡ s .flag)
     (run-is : run (getD alive 1 0) (getD alive 2 0) words ≡ s .alive) where
   has-is : hasAliveSet s ≡ true → (a m : ℕ) → a + m ≤ s .rows → hasFrom place ids offsets (s .alive) a m ≡ any (hasValue s) (filter (isAlive s) (upFrom a m))
   unfolding hasFrom hasAt
@@ -88,7 +90,7 @@ module _ (alive words : List ℕ) {place ids offsets values : List ℕ} {s : Seg
   has-is e a (suc m) l = go (bitAt (s .alive) a) (isAlive s a) refl (alive-bit alive words st fit flag run-is e a) (has-is e (suc a) m (omega arith))
     where
       one : not (eqb (widthIn place ids offsets a) 0) ≡ hasValue s a
-      one = ap (λ (n : ℕ). not (eqb n 0)) (sym (cell-length place ids offsets values a (inside-stands st fit a (omega arith))) ∙ ap length (cell-stands st a)) ∙ not-none (rowValues s a)
+      one = ap (λ (n : ℕ). not (eqb n 0)) (sym (cell-length place ids offsets values a (inside-stands st fit a (omega arith))) ∙ ap length (cell-stands st fit a)) ∙ not-none (rowValues s a)
 
       now : (b : Bool) → bitAt (s .alive) a ≡ b → hasAt place ids offsets (s .alive) a ≡ b && hasValue s a
       now b q = ap₂ (λ (x y : Bool). x && y) q one

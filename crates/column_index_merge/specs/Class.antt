@@ -5,7 +5,7 @@ use mathlib.Core.Path.{_≡_}
 use mathlib.Core.Bool.{true, cond}
 use lib.ListN.{length, getD}
 use lib.Dec.{eqb}
-use Rattle.definitions.specs.Segment.{byKind}
+use Rattle.segment.specs.Kind.{byIndex}
 use Rattle.definitions.specs.Row.{bitAt}
 use Rattle.places.specs.Place.{run, kindAt, rowsAt, widthIn}
 use Rattle.places.specs.Stack.{SoundAt}
@@ -27,7 +27,7 @@ aliveClassFrom place ids offsets words r (suc n) = max (rowClassIn place ids off
 
 -- without an alive set
 unfoldable pub kindClassOf : ℕ → ℕ → ℕ
-kindClassOf kind rows = byKind kind (cond (eqb rows 0) 0 1) 0 1 2 2
+kindClassOf kind rows = byIndex kind (cond (eqb rows 0) 0 1) 0 1 2
 
 -- alive has the flag, then start and end of the alive words
 unfoldable pub classIn : List ℕ → List ℕ → List ℕ → List ℕ → List ℕ → ℕ

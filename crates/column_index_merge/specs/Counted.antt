@@ -1,13 +1,18 @@
 -- How many values the alive rows of placed segments have; a withdrawn row counts as one of none. Assumes nothing.
-use Prim.Native.Nat.{ℕ}
+use Prim.Native.Nat.{ℕ, _-_}
 use mathlib.Core.List.{List, [], _∷_, _++_, map}
 use mathlib.Core.Bool.{cond}
 use lib.ListN.{getD}
 use lib.Dec.{eqb}
 use Rattle.definitions.specs.Lists.{upFrom}
 use Rattle.definitions.specs.Row.{bitAt}
-use Rattle.places.specs.Place.{run, rowsAt, widthIn}
+use Rattle.segment.specs.Kind.{byIndex}
+use Rattle.places.specs.Place.{run, kindAt, rowsAt, widthIn}
 use Rattle.places.specs.Stack.{segmentWidths}
+
+-- how many rows of a segment have a value: none of Empty, all of Full, else as many as there are ids
+unfoldable pub listedAt : List ℕ → ℕ
+listedAt place = byIndex (kindAt place) 0 (rowsAt place) (getD place 3 0 - getD place 2 0) (getD place 3 0 - getD place 2 0)
 
 unfoldable pub aliveWidth : List ℕ → List ℕ → List ℕ → List ℕ → ℕ → ℕ
 aliveWidth place ids offsets words r = cond (bitAt words r) (widthIn place ids offsets r) 0

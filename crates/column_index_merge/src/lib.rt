@@ -2,17 +2,16 @@
 ghost use mathlib.Core.Path.{_≡_};
 ghost use Prim.Native.Nat.{_<_, _≤_, _+_, _-_, _*_, max};
 ghost use lib.ListN.{length, getD};
-ghost use lib.Dec.{T};
-ghost use Rattle.definitions.specs.Lists.{sum, notFalling};
+ghost use Rattle.definitions.specs.Lists.{sum};
 ghost use Rattle.runs.specs.Put.{put};
-ghost use Rattle.places.specs.Width.{idPart, idsOf};
+ghost use Rattle.places.specs.Width.{idsOf};
 ghost use Rattle.column_index.specs.Lookup.{Ranked};
 ghost use Rattle.places.specs.Place.{Within};
 ghost use mathlib.Core.Bool.{cond};
 ghost use Rattle.definitions.specs.Row.{bitAt};
-ghost use Rattle.column_index_merge.specs.Counted.{aliveWidths, countedIn, countedAll};
+ghost use Rattle.column_index_merge.specs.Counted.{listedAt, aliveWidths, countedIn, countedAll};
 ghost use Rattle.places.specs.Places.{table};
-ghost use Rattle.places.specs.Stack.{diffs, segmentWidths, SoundAt};
+ghost use Rattle.places.specs.Stack.{SoundAt};
 ghost use Rattle.column_index_merge.specs.Class.{widthClass, rowClassIn, aliveClassFrom, kindClassOf, classIn, greatestIn, Classed, AllClassed};
 ghost use Rattle.column_index_merge.specs.Held.{hasAt, hasFrom, heldIn, byteOf, heldAt};
 
@@ -242,25 +241,10 @@ pub struct Counts {
     pub values: usize,
 }
 
-// How many rows of kind 3 have a value.
-fn count_risen(offsets: &[u32]) -> usize
-    requires { ⌜ T (notFalling (now offsets)) ⌝ }
-    ensures { λ r. ⌜ r ≡ length (idsOf 0 (diffs (now (offsets .entry)))) ⌝ }
-{
-    let mut j: usize = 0;
-    let mut n: usize = 0;
-    while j + 1 < offsets.len() {
-        let w = segment::wide(offsets[j + 1] - offsets[j]);
-        n += places::one_if(w);
-        j += 1;
-    }
-    n
-}
-
-// How many rows of the segment have a value.
-fn segment_count(place: [usize; 8], ids: &[u32], offsets: &[u32]) -> usize
-    requires { ⌜ SoundAt place (now ids) (now offsets) ⌝ }
-    ensures { λ r. ⌜ r ≡ length (idsOf 0 (segmentWidths place (now (ids .entry)) (now (offsets .entry)))) ⌝ }
+// How many rows of the segment have a value: the place alone tells.
+fn listed_rows(place: [usize; 8]) -> usize
+    requires { ⌜ getD place 2 0 ≤ getD place 3 0 ⌝ }
+    ensures { λ r. ⌜ r ≡ listedAt place ⌝ }
 {
     let kind = place[0];
     if kind == 0 {
@@ -268,11 +252,6 @@ fn segment_count(place: [usize; 8], ids: &[u32], offsets: &[u32]) -> usize
     }
     if kind == 1 {
         return place[1];
-    }
-    if kind == 3 {
-        let c = place[4];
-        let d = place[5];
-        return count_risen(&offsets[c..d]);
     }
     place[3] - place[2]
 }
@@ -316,32 +295,6 @@ fn id_counts(place: [usize; 8], ids: &[u32], offsets: &[u32], words: &[u64]) -> 
     }
 }
 
-// Of a segment of kind 0 or 3 with an alive set, row by row.
-fn row_counts(place: [usize; 8], ids: &[u32], offsets: &[u32], words: &[u64]) -> Counts
-    requires { ⌜ SoundAt place (now ids) (now offsets) ⌝ }
-    requires { ⌜ getD place 1 0 ≤ 4294967296 ⌝ }
-    requires { ⌜ getD place 1 0 ≤ 64 * length (now words) ⌝ }
-    requires { ⌜ sum (aliveWidths place (now ids) (now offsets) (now words) 0 (getD place 1 0)) < 18446744073709551616 ⌝ }
-    ensures { λ c. ⌜ c .listed ≡ length (idsOf 0 (aliveWidths place (now (ids .entry)) (now (offsets .entry)) (now (words .entry)) 0 (getD place 1 0))) ⌝ }
-    ensures { λ c. ⌜ c .values ≡ sum (aliveWidths place (now (ids .entry)) (now (offsets .entry)) (now (words .entry)) 0 (getD place 1 0)) ⌝ }
-{
-    let rows = place[1];
-    let mut r: usize = 0;
-    let mut listed: usize = 0;
-    let mut values: usize = 0;
-    while r < rows {
-        let w = places::width_in(place, ids, offsets, r as u32, 0);
-        let v = if_alive(words, r, w);
-        listed += places::one_if(v);
-        values += v;
-        r += 1;
-    }
-    Counts {
-        listed: listed,
-        values: values,
-    }
-}
-
 // Of a segment with an alive set. Each row of kind 1 has a value, so its alive rows are counted.
 fn alive_counts(place: [usize; 8], ids: &[u32], offsets: &[u32], words: &[u64]) -> Counts
     requires { ⌜ SoundAt place (now ids) (now offsets) ⌝ }
@@ -353,7 +306,10 @@ fn alive_counts(place: [usize; 8], ids: &[u32], offsets: &[u32], words: &[u64]) 
 {
     let kind = place[0];
     if kind == 0 {
-        return row_counts(place, ids, offsets, words);
+        return Counts {
+            listed: 0,
+            values: 0,
+        };
     }
     if kind == 1 {
         let n = alive_set::alive_before(words, place[1]);
@@ -361,9 +317,6 @@ fn alive_counts(place: [usize; 8], ids: &[u32], offsets: &[u32], words: &[u64]) 
             listed: n,
             values: n,
         };
-    }
-    if kind == 3 {
-        return row_counts(place, ids, offsets, words);
     }
     id_counts(place, ids, offsets, words)
 }
@@ -387,7 +340,7 @@ fn segment_counts(
         return alive_counts(place, ids, offsets, &words[a..b]);
     }
     Counts {
-        listed: segment_count(place, ids, offsets),
+        listed: listed_rows(place),
         values: place[7] - place[6],
     }
 }

@@ -4,65 +4,13 @@ ghost use mathlib.Core.List.{_∷_};
 ghost use mathlib.Core.Bool.{not};
 ghost use Prim.Native.Nat.{_<_, _≤_, _+_, _-_};
 ghost use lib.ListN.{length, getD};
-ghost use lib.Dec.{T, eqb};
-ghost use Rattle.definitions.specs.Lists.{sum, notFalling};
+ghost use lib.Dec.{eqb};
+ghost use Rattle.definitions.specs.Lists.{sum};
 ghost use Rattle.runs.specs.Put.{put, putIf, RoomIf};
-ghost use Rattle.places.specs.Width.{idPart, idsOf, totalsOf};
-ghost use Rattle.places.specs.Stack.{diffs, segmentWidths, stackedWidths, allRows, SoundAt, AllSound};
+ghost use Rattle.places.specs.Width.{idsOf, totalsOf};
+ghost use Rattle.places.specs.Stack.{segmentWidths, stackedWidths, allRows, SoundAt, AllSound};
 ghost use Rattle.column_values_merge.specs.Stack.{stackedWords};
 ghost use Rattle.column_index_stacked.specs.Stacked.{Stacked};
-
-// Writes the new row's number if it has a value; returns the index after it.
-fn put_id(w: usize, row: u32, out: &mut [u32], at: usize) -> usize
-    requires { ⌜ at + length (idPart row w) ≤ length (now out) ⌝ }
-    ensures { λ e. ⌜ e ≡ at + length (idPart row w) ⌝ }
-    ensures { λ _. ⌜ now (out .exit) ≡ put at (idPart row w) (now (out .entry)) ⌝ }
-{
-    if w == 0 {
-        return at;
-    }
-    out[at] = row;
-    at + 1
-}
-
-// The rows between whose offsets there is a value, numbered from first on (kind 3); returns the index after them.
-fn append_risen_ids(offsets: &[u32], first: u32, out: &mut [u32], at: usize) -> usize
-    requires { ⌜ T (notFalling (now offsets)) ⌝ }
-    requires { ⌜ first + length (now offsets) ≤ 4294967296 ⌝ }
-    requires { ⌜ at + length (idsOf first (diffs (now offsets))) ≤ length (now out) ⌝ }
-    ensures { λ e. ⌜ e ≡ at + length (idsOf first (diffs (now (offsets .entry)))) ⌝ }
-    ensures { λ _. ⌜ now (out .exit) ≡ put at (idsOf first (diffs (now (offsets .entry)))) (now (out .entry)) ⌝ }
-{
-    let mut j: usize = 0;
-    let mut e: usize = at;
-    while j + 1 < offsets.len() {
-        let w = segment::wide(offsets[j + 1] - offsets[j]);
-        e = put_id(w, first + (j as u32), out, e);
-        j += 1;
-    }
-    e
-}
-
-// The running totals after those rows.
-fn append_risen_totals(offsets: &[u32], total: u32, out: &mut [u32], at: usize) -> usize
-    requires { ⌜ T (notFalling (now offsets)) ⌝ }
-    requires { ⌜ total + sum (diffs (now offsets)) < 4294967296 ⌝ }
-    requires { ⌜ at + length (totalsOf total (diffs (now offsets))) ≤ length (now out) ⌝ }
-    ensures { λ e. ⌜ e ≡ at + length (totalsOf total (diffs (now (offsets .entry)))) ⌝ }
-    ensures { λ _. ⌜ now (out .exit) ≡ put at (totalsOf total (diffs (now (offsets .entry)))) (now (out .entry)) ⌝ }
-{
-    let mut j: usize = 0;
-    let mut e: usize = at;
-    let mut t: u32 = total;
-    while j + 1 < offsets.len() {
-        let d = offsets[j + 1] - offsets[j];
-        let w = segment::wide(d);
-        t += d;
-        e = put_id(w, t, out, e);
-        j += 1;
-    }
-    e
-}
 
 // One segment's row ids, its rows numbered from first on.
 fn put_segment_ids(
@@ -87,11 +35,6 @@ fn put_segment_ids(
         let n = place[1];
         runs::append_range(first, n, out, at);
         return at + n;
-    }
-    if kind == 3 {
-        let c = place[4];
-        let d = place[5];
-        return append_risen_ids(&offsets[c..d], first, out, at);
     }
     let a = place[2];
     let b = place[3];
@@ -128,12 +71,8 @@ fn put_segment_totals(
         runs::append_range(total + 1, n, out, at);
         return at + n;
     }
-    let c = place[4];
+    let b = place[4] + 1;
     let d = place[5];
-    if kind == 3 {
-        return append_risen_totals(&offsets[c..d], total, out, at);
-    }
-    let b = c + 1;
     runs::append_shifted(&offsets[b..d], total, out, at);
     at + (d - b)
 }

@@ -1,4 +1,5 @@
 pub mod Lists
+pub mod Slices
 pub mod Decode
 pub mod Sections
 pub mod Outcome
@@ -13,6 +14,8 @@ pub mod Part
 pub mod Entry
 pub mod Turn
 pub mod Demand
+pub mod Alike
+pub mod Convert
 pub mod Double
 pub mod Pattern
 pub mod Rounded

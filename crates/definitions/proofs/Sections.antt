@@ -7,7 +7,7 @@ use lib.Seq.{take-append-seam, drop-append-seam, take-at, drop-at}
 use lib.Dec.{T, eqb→eq}
 use lib.Ieee.Fits.{and-l, and-r}
 use Rattle.definitions.specs.Lists.{sum, concat, all}
-use Rattle.definitions.specs.Segment.{Segment, Address, Space, aliveWords, cut, firstSegment, afterFirst, segmentsFrom, segmentsOf, recordOf, sectionsOf, Input}
+use Rattle.definitions.specs.Segment.{Segment, SegmentRecord, recordFrom, recordNumbers, Address, Space, aliveWords, cut, firstSegment, afterFirst, segmentsFrom, segmentsOf, recordOf, sectionsOf, Input}
 use Rattle.definitions.specs.Book.{isSegment}
 use Rattle.definitions.proofs.Lists.{length-concat, concat-append}
 
@@ -86,3 +86,8 @@ pub flatten-back : (mode required : ℕ) (ss : List Segment) (addresses : List A
     → segmentsOf (flatten mode required ss addresses space) ≡ ss
 unfolding segmentsOf flatten
 flatten-back mode required ss addresses space h = segments-back ss h
+
+-- ---- a record's numbers
+
+pub record-back : (r : SegmentRecord) → recordFrom (recordNumbers r) ≡ r
+record-back r = refl

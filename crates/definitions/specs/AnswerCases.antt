@@ -1,4 +1,4 @@
--- The answers 1 to 11 by small cases (document 01, "Answers of the joiner"): each phrase of the table's rows, with what just passes it, and the order of the
+-- The answers 1 to 11 and 19 by small cases (document 01, "Answers of the joiner"): each phrase of the table's rows, with what just passes it, and the order of the
 -- checks. Each table is proved by one computation. Assumes nothing.
 use Prim.Native.Nat.{ℕ}
 use mathlib.Core.Path.{_≡_, refl}
@@ -10,7 +10,7 @@ use Rattle.definitions.specs.Segment.{Segment, address as at}
 use Rattle.definitions.specs.Answer.{sumsTooLarge}
 use Rattle.definitions.specs.Outcome.{Buffers, Lent, lentOf, numberOf}
 use Rattle.definitions.specs.Book.{lentTo}
-use Rattle.definitions.specs.Sheet.{plain, withAlive, none, full, one, str, dropped, a, b, five, nine, memory, call, stacked, inOrder, lending, outcomeOf}
+use Rattle.definitions.specs.Sheet.{plain, withAlive, none, full, one, str, dropped, a, b, five, oldFive, nine, memory, call, stacked, inOrder, lending, outcomeOf}
 
 -- ---- how the tables are written
 
@@ -109,7 +109,39 @@ codeCases-hold : map (λ c. numberFor (c .lent)) codeCases ≡ map (λ c. c .num
 unfolding numberFor codeCases
 codeCases-hold = refl
 
--- ---- 4: ids not ascending or not below rows; wrong number of ids, offsets or values; offsets not from 0, falling (kind 3) or not rising (kind 4)
+-- ---- 19: a record of kind 3; "tested right after 3"
+
+oldCases : List AnswerCase
+oldCases =
+    -- in the second segment; of 0 rows; with an alive set, in a join as the addresses say
+    gives 19 (stacked 255 (one 1 5 ∷ oldFive ∷ []))
+    ∷ gives 19 (alone (plain 1 3 0 [] (0 ∷ []) [] []))
+    ∷ gives 19 (inOrder 255 (withAlive (5 ∷ []) oldFive ∷ []) (at 0 2 ∷ at 0 0 ∷ []))
+    -- all its rows withdrawn; without any offset
+    ∷ gives 19 (inOrder 255 (withAlive (0 ∷ []) oldFive ∷ []) [])
+    ∷ gives 19 (alone (plain 1 3 1 [] [] [] []))
+    -- 1, 2 and 3 come before it: 257 records of kind 3; a value that is not there; type 9 beside it; type 255; an unknown mode and required type
+    ∷ gives 1 (stacked 255 (replicate 257 oldFive))
+    ∷ gives 2 (lentOf 0 255 ((1 ∷ 3 ∷ 1 ∷ 0 ∷ 2 ∷ 1 ∷ 0 ∷ 0 ∷ []) ∷ []) [] (0 ∷ 1 ∷ []) [] [] [] [] [] (memory 12 12))
+    ∷ gives 3 (stacked 255 (oldFive ∷ one 9 5 ∷ []))
+    ∷ gives 3 (alone (plain 255 3 0 [] [] [] []))
+    ∷ gives 3 (lentTo (call [] 2 255 []) (oldFive ∷ []))
+    ∷ gives 3 (stacked 6 (oldFive ∷ []))
+    -- it comes before 4 to 7: ids 1 1 beside it; lists of its own that are wrong; a Bool above 1; an alive set in a stacked join; too many rows
+    ∷ gives 19 (stacked 255 (plain 1 2 2 (1 ∷ 1 ∷ []) [] (5 ∷ 6 ∷ []) [] ∷ oldFive ∷ []))
+    ∷ gives 19 (alone (plain 1 3 3 [] (0 ∷ 2 ∷ 1 ∷ 3 ∷ []) (5 ∷ 6 ∷ 7 ∷ []) []))
+    ∷ gives 19 (alone (plain 5 3 1 [] (0 ∷ 1 ∷ []) (2 ∷ []) []))
+    ∷ gives 19 (stacked 255 (withAlive (1 ∷ []) (one 1 5) ∷ oldFive ∷ []))
+    ∷ gives 19 (stacked 255 (none 4294967295 ∷ oldFive ∷ []))
+    -- no other kind is meant
+    ∷ gives 0 (stacked 255 (none 1 ∷ one 1 5 ∷ nine ∷ five ∷ []))
+    ∷ []
+
+oldCases-hold : map (λ c. numberFor (c .lent)) oldCases ≡ map (λ c. c .number) oldCases
+unfolding numberFor oldCases
+oldCases-hold = refl
+
+-- ---- 4: ids not ascending or not below rows; wrong number of ids, offsets or values; offsets not from 0 or not rising (kind 4). Kind 3 is the converter's (ConvertCases)
 
 listCases : List AnswerCase
 listCases =
@@ -131,17 +163,6 @@ listCases =
     ∷ gives 4 (alone (plain 1 2 3 (0 ∷ 2 ∷ 1 ∷ []) [] (5 ∷ 6 ∷ 7 ∷ []) []))
     ∷ gives 4 (alone (plain 1 2 3 (0 ∷ 2 ∷ 2 ∷ []) [] (5 ∷ 6 ∷ 7 ∷ []) []))
     ∷ gives 4 (alone (plain 1 2 2 (0 ∷ 2 ∷ []) [] (5 ∷ 6 ∷ []) []))
-    -- kind 3 has no ids, and rows + 1 offsets, also of 0 rows
-    ∷ gives 0 (alone (plain 1 3 0 [] (0 ∷ []) [] []))
-    ∷ gives 4 (alone (plain 1 3 0 [] [] [] []))
-    ∷ gives 4 (alone (plain 1 3 1 (0 ∷ []) (0 ∷ 1 ∷ []) (5 ∷ []) []))
-    ∷ gives 4 (alone (plain 1 3 2 [] (0 ∷ 1 ∷ []) (5 ∷ []) []))
-    ∷ gives 4 (alone (plain 1 3 1 [] (0 ∷ 1 ∷ 1 ∷ []) (5 ∷ []) []))
-    -- they begin with 0, do not fall, and end with the number of values
-    ∷ gives 4 (alone (plain 1 3 1 [] (1 ∷ 1 ∷ []) (5 ∷ []) []))
-    ∷ gives 4 (alone (plain 1 3 3 [] (0 ∷ 2 ∷ 1 ∷ 3 ∷ []) (5 ∷ 6 ∷ 7 ∷ []) []))
-    ∷ gives 4 (alone (plain 1 3 1 [] (0 ∷ 1 ∷ []) (5 ∷ 6 ∷ []) []))
-    ∷ gives 4 (alone (plain 1 3 1 [] (0 ∷ 2 ∷ []) (5 ∷ []) []))
     -- kind 4's ids ascend and are below the rows
     ∷ gives 4 (alone (plain 1 4 2 (1 ∷ 1 ∷ []) (0 ∷ 1 ∷ 2 ∷ []) (5 ∷ 6 ∷ []) []))
     ∷ gives 4 (alone (plain 1 4 2 (2 ∷ []) (0 ∷ 1 ∷ []) (5 ∷ []) []))
@@ -235,19 +256,19 @@ unfolding aboveSum
 fewer-rows = refl
 
 -- So many values, or term bytes, are no list that can be computed: these hold of any list that is as long, beside a segment with one value and one byte
-many-values : (values : List ℕ) → length values ≡ 4294967294 → aboveSum (plain 4 3 1 [] [] values [] ∷ str (0 ∷ []) (a ∷ []) ∷ []) ≡ true
+many-values : (values : List ℕ) → length values ≡ 4294967294 → aboveSum (plain 4 4 1 [] [] values [] ∷ str (0 ∷ []) (a ∷ []) ∷ []) ≡ true
 unfolding aboveSum
 many-values values h = rw h refl
 
-fewer-values : (values : List ℕ) → length values ≡ 4294967293 → aboveSum (plain 4 3 1 [] [] values [] ∷ str (0 ∷ []) (a ∷ []) ∷ []) ≡ false
+fewer-values : (values : List ℕ) → length values ≡ 4294967293 → aboveSum (plain 4 4 1 [] [] values [] ∷ str (0 ∷ []) (a ∷ []) ∷ []) ≡ false
 unfolding aboveSum
 fewer-values values h = rw h refl
 
-many-bytes : (terms : List (List ℕ)) → length (concat terms) ≡ 4294967294 → aboveSum (plain 4 3 1 [] [] [] terms ∷ str (0 ∷ []) (a ∷ []) ∷ []) ≡ true
+many-bytes : (terms : List (List ℕ)) → length (concat terms) ≡ 4294967294 → aboveSum (plain 4 4 1 [] [] [] terms ∷ str (0 ∷ []) (a ∷ []) ∷ []) ≡ true
 unfolding aboveSum
 many-bytes terms h = rw h refl
 
-fewer-bytes : (terms : List (List ℕ)) → length (concat terms) ≡ 4294967293 → aboveSum (plain 4 3 1 [] [] [] terms ∷ str (0 ∷ []) (a ∷ []) ∷ []) ≡ false
+fewer-bytes : (terms : List (List ℕ)) → length (concat terms) ≡ 4294967293 → aboveSum (plain 4 4 1 [] [] [] terms ∷ str (0 ∷ []) (a ∷ []) ∷ []) ≡ false
 unfolding aboveSum
 fewer-bytes terms h = rw h refl
 
@@ -351,9 +372,9 @@ lentSpace ids offsets values termLengths termBytes m =
       working = replicate 12 9;
     }
 
--- Str kind 3, 2 rows of 2 and no values, terms aa b: 1 id, 2 offsets, 2 values, 2 terms of 3 bytes, a map of 2
+-- Str kind 4, 2 rows of 2 and no values, terms aa b: 1 id, 2 offsets, 2 values, 2 terms of 3 bytes, a map of 2
 abbrev multi : Lent
-multi = alone (plain 4 3 2 [] (0 ∷ 2 ∷ 2 ∷ []) (0 ∷ 1 ∷ []) ((97 ∷ 97 ∷ []) ∷ b ∷ []))
+multi = alone (plain 4 4 2 (0 ∷ []) (0 ∷ 2 ∷ []) (0 ∷ 1 ∷ []) ((97 ∷ 97 ∷ []) ∷ b ∷ []))
 
 -- two segments with term a each: 2 values, 1 term, and sums of 2
 abbrev twice : Lent
@@ -387,7 +408,7 @@ spaceCases-hold : map (λ c. numberFor (c .lent)) spaceCases ≡ map (λ c. c .n
 unfolding numberFor spaceCases
 spaceCases-hold = refl
 
--- ---- checks run in number order, each over all segments: of two that fail the first one answers
+-- ---- checks run in their order, each over all segments: of two that fail the first one answers (19: above)
 
 orderCases : List AnswerCase
 orderCases =

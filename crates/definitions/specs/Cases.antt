@@ -9,7 +9,7 @@ use Rattle.definitions.specs.Join.{kindOf, asSegment}
 use Rattle.definitions.specs.Outcome.{Lent, lentOf, Outcome, accepted, refused}
 use Rattle.definitions.specs.TimeOrder.{sorted, timeNumberOf}
 use Rattle.definitions.specs.Book.{Call, Standing, first, result, Entry, callLent, callOutcome, callAnswer, afterCall, answersOf, standsAfter, firstEntry, oneJoin, standingOf, joinedEntry, bookAnswer, bookAfterCall, bookAnswers, bookAfter}
-use Rattle.definitions.specs.Sheet.{plain, withAlive, none, full, one, str, dropped, a, b, five, nine, newKind, memory, call, stacked, inOrder, lending, outcomeOf, sheetOf, timeSheetOf, accepts, refuses, Case, case}
+use Rattle.definitions.specs.Sheet.{plain, withAlive, none, full, one, str, dropped, a, b, five, oldFive, nine, newKind, memory, call, stacked, inOrder, lending, outcomeOf, sheetOf, timeSheetOf, accepts, refuses, Case, case}
 
 -- ---- C1 to C12
 
@@ -67,8 +67,9 @@ thirteen-holds = refl
 
 slips : List Case
 slips =
-    -- the offset of a row without values is not kept
-    case (stacked 255 (five ∷ [])) (accepts 1 2 3 (0 ∷ 2 ∷ []) (0 ∷ 2 ∷ 3 ∷ []) (7 ∷ 8 ∷ 9 ∷ []) [] [])
+    -- the offset of a row without values is not kept: C5's segment, which has one, before one and after one
+    case (stacked 255 (five ∷ none 1 ∷ five ∷ []))
+    (accepts 1 2 7 (0 ∷ 2 ∷ 4 ∷ 6 ∷ []) (0 ∷ 2 ∷ 3 ∷ 5 ∷ 6 ∷ []) (7 ∷ 8 ∷ 9 ∷ 7 ∷ 8 ∷ 9 ∷ []) [] [])
     -- the value of a withdrawn row counts for the type: a U64 value above all of I64, a negative I64 value, and in the coercion to a required type
     ∷ case (inOrder 255 (withAlive (1 ∷ []) (full 1 (5 ∷ 0xffffffffffffffff ∷ [])) ∷ one 0 0xffffffffffffffff ∷ []) (at 1 0 ∷ at 0 0 ∷ []))
     (accepts 2 0 2 [] [] (0xbff0000000000000 ∷ 0x4014000000000000 ∷ []) [] [])
@@ -86,7 +87,7 @@ slips-hold : map (λ c. sheetOf (c .lent)) slips ≡ map (λ c. c .expected) sli
 unfolding sheetOf slips
 slips-hold = refl
 
--- ---- the example of every answer, 1 to 12
+-- ---- the example of every answer, 1 to 12 and 19
 
 -- what is asked: a join, or the time order of some segments with place for so many addresses
 data Example : Type 0 where
@@ -111,12 +112,15 @@ examples =
     ∷ joins (stacked 255 (str (0 ∷ []) (a ∷ []) ∷ one 5 1 ∷ []))
     ∷ joins (lending (memory 1 9) (stacked 255 (full 1 (5 ∷ 6 ∷ []) ∷ [])))
     ∷ orders (full 7 (5 ∷ 4 ∷ []) ∷ []) 2
+    -- C5's segment as it was, in a join, and a time in kind 3
+    ∷ joins (stacked 255 (oldFive ∷ []))
+    ∷ orders (plain 7 3 1 [] (0 ∷ 1 ∷ []) (5 ∷ []) [] ∷ []) 2
     ∷ []
   where
     announced : List (List ℕ) → Lent
     announced records = lentOf 0 255 records [] [] [] [] [] [] [] (memory 9 9)
 
-examples-hold : map exampleAnswer examples ≡ (1 ∷ 2 ∷ 3 ∷ 4 ∷ 5 ∷ 6 ∷ 7 ∷ 8 ∷ 9 ∷ 10 ∷ 11 ∷ 12 ∷ [])
+examples-hold : map exampleAnswer examples ≡ (1 ∷ 2 ∷ 3 ∷ 4 ∷ 5 ∷ 6 ∷ 7 ∷ 8 ∷ 9 ∷ 10 ∷ 11 ∷ 12 ∷ 19 ∷ 19 ∷ [])
 unfolding timeSheetOf sheetOf examples
 examples-hold = refl
 
@@ -152,6 +156,20 @@ outcomes =
             working = 0 ∷ 0 ∷ 0 ∷ [];
           };
     }
+    -- C5's segment as it was, refused by 19
+    ∷ record {
+      answer = refused 19;
+      buffers =
+          record {
+            ids = 9 ∷ 9 ∷ [];
+            offsets = 9 ∷ 9 ∷ [];
+            values = 9 ∷ 9 ∷ [];
+            termLengths = 9 ∷ 9 ∷ [];
+            termBytes = 9 ∷ 9 ∷ [];
+            map = 9 ∷ 9 ∷ [];
+            working = 0 ∷ 0 ∷ 0 ∷ [];
+          };
+    }
     -- Bytes: a row of three values between rows of none, terms aaa b c d; then a row of one, terms b e. Each number is that of its own list, and no two are the same
     ∷ record {
       answer = accepted (record { type = 3; class = 2; rows = 4; ids = 2; offsets = 3; values = 4; terms = 5; termBytes = 7; map = 6 });
@@ -171,10 +189,11 @@ outcomes =
 outcomes-hold :
     (outcomeOf (lending (memory 4 3) (stacked 255 sheetOne))
     ∷ outcomeOf (lending (memory 2 3) (stacked 255 sheetOne))
+    ∷ outcomeOf (lending (memory 2 3) (stacked 255 (oldFive ∷ [])))
     ∷ outcomeOf
     (lending (memory 8 0)
     (stacked 255
-    (plain 3 3 3 [] (0 ∷ 0 ∷ 3 ∷ 3 ∷ []) (1 ∷ 0 ∷ 1 ∷ []) ((97 ∷ 97 ∷ 97 ∷ []) ∷ b ∷ (99 ∷ []) ∷ (100 ∷ []) ∷ [])
+    (plain 3 4 3 (1 ∷ []) (0 ∷ 3 ∷ []) (1 ∷ 0 ∷ 1 ∷ []) ((97 ∷ 97 ∷ 97 ∷ []) ∷ b ∷ (99 ∷ []) ∷ (100 ∷ []) ∷ [])
     ∷ plain 3 1 1 [] [] (0 ∷ []) (b ∷ (101 ∷ []) ∷ [])
     ∷ [])))
     ∷ [])
@@ -254,6 +273,10 @@ turns =
     -- a first segment's origins are all its rows, withdrawn ones too
     ∷ turn (withAlive (2 ∷ []) (full 1 (5 ∷ 6 ∷ [])) ∷ []) []
     (agree [] (first (withAlive (2 ∷ []) (full 1 (5 ∷ 6 ∷ []))) ∷ []) ((0 ∷ []) ∷ []) ((at 0 0 ∷ at 0 1 ∷ []) ∷ []))
+    -- an old segment stands, and each join that is handed it is refused with 19; the others go on
+    ∷ turn (oldFive ∷ one 1 5 ∷ []) (call (1 ∷ 0 ∷ []) 0 255 [] ∷ call (1 ∷ []) 0 255 [] ∷ call (0 ∷ 1 ∷ []) 1 255 [] ∷ [])
+    (agree (19 ∷ 0 ∷ 19 ∷ []) (first oldFive ∷ gave 1 0 1 [] [] (5 ∷ []) [] ∷ []) ((0 ∷ []) ∷ (1 ∷ []) ∷ [])
+    ((at 0 0 ∷ at 0 1 ∷ at 0 2 ∷ []) ∷ (at 1 0 ∷ []) ∷ []))
     -- both joins require F64; the one join requires it too
     ∷ turn (one 0 5 ∷ one 1 7 ∷ []) (call (0 ∷ []) 0 2 [] ∷ call (1 ∷ 0 ∷ []) 0 2 [] ∷ [])
     (agree (0 ∷ 0 ∷ []) (gave 2 0 2 [] [] (0x4014000000000000 ∷ 0x401c000000000000 ∷ []) [] ∷ []) ((0 ∷ 1 ∷ []) ∷ []) ((at 0 0 ∷ at 1 0 ∷ []) ∷ []))

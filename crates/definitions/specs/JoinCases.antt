@@ -61,8 +61,8 @@ droppedCases =
     ∷ case (stacked 255 (plain 4 2 2 [] [] [] (a ∷ []) ∷ str (0 ∷ []) (b ∷ []) ∷ [])) (accepts 4 1 3 (2 ∷ []) [] (0 ∷ []) (b ∷ []) (0 ∷ []))
     ∷ case (inOrder 255 (withAlive (0 ∷ []) (str (0 ∷ []) (a ∷ [])) ∷ str (0 ∷ []) (b ∷ []) ∷ []) (at 1 0 ∷ []))
     (accepts 4 0 1 [] [] (0 ∷ []) (b ∷ []) (0 ∷ []))
-    -- it counts as Empty: kind 3 without values is of class 1, Optional of 0 rows of class 0
-    ∷ case (stacked 255 (plain 1 3 1 [] (0 ∷ 0 ∷ []) [] [] ∷ one 1 5 ∷ [])) (accepts 1 1 2 (1 ∷ []) [] (5 ∷ []) [] [])
+    -- it counts as Empty: kind 4 without values is of class 1, Optional of 0 rows of class 0
+    ∷ case (stacked 255 (plain 1 4 1 [] (0 ∷ []) [] [] ∷ one 1 5 ∷ [])) (accepts 1 1 2 (1 ∷ []) [] (5 ∷ []) [] [])
     ∷ case (stacked 255 (dropped 1 0 ∷ one 1 5 ∷ [])) (accepts 1 0 1 [] [] (5 ∷ []) [] [])
     -- with its alive set: of class 0 if no row is alive; so is no column
     ∷ case (inOrder 255 (withAlive (0 ∷ []) five ∷ one 1 5 ∷ []) (at 1 0 ∷ [])) (accepts 1 0 1 [] [] (5 ∷ []) [] [])
@@ -134,8 +134,7 @@ classCases =
     -- without an alive set: 0 for Empty with 0 rows, 1 for other Empty
     case (stacked 255 (one 1 5 ∷ none 0 ∷ [])) (accepts 1 0 1 [] [] (5 ∷ []) [] [])
     ∷ case (stacked 255 (one 1 5 ∷ none 1 ∷ [])) (accepts 1 1 2 (0 ∷ []) [] (5 ∷ []) [] [])
-    -- 2 for kinds 3 and 4, though each row has one value
-    ∷ case (stacked 255 (plain 1 3 2 [] (0 ∷ 1 ∷ 2 ∷ []) (7 ∷ 8 ∷ []) [] ∷ [])) (accepts 1 2 2 (0 ∷ 1 ∷ []) (0 ∷ 1 ∷ 2 ∷ []) (7 ∷ 8 ∷ []) [] [])
+    -- 2 for kind 4, though each row has one value
     ∷ case (stacked 255 (plain 1 4 2 (0 ∷ 1 ∷ []) (0 ∷ 1 ∷ 2 ∷ []) (7 ∷ 8 ∷ []) [] ∷ []))
     (accepts 1 2 2 (0 ∷ 1 ∷ []) (0 ∷ 1 ∷ 2 ∷ []) (7 ∷ 8 ∷ []) [] [])
     -- with one: a row of one value 0, of no value 1, of more 2
@@ -173,7 +172,7 @@ termCases =
     (accepts 4 0 2 [] [] (0 ∷ 1 ∷ []) (a ∷ b ∷ []) (0 ∷ 1 ∷ 1 ∷ []))
     -- an alive row of two values uses both; 0 stands for the unkept term between them, and for one after the kept ones
     ∷ case
-    (inOrder 255 (withAlive (1 ∷ []) (plain 4 3 1 [] (0 ∷ 2 ∷ []) (2 ∷ 0 ∷ []) (a ∷ b ∷ (99 ∷ []) ∷ (100 ∷ []) ∷ [])) ∷ []) (at 0 0 ∷ []))
+    (inOrder 255 (withAlive (1 ∷ []) (plain 4 4 1 (0 ∷ []) (0 ∷ 2 ∷ []) (2 ∷ 0 ∷ []) (a ∷ b ∷ (99 ∷ []) ∷ (100 ∷ []) ∷ [])) ∷ []) (at 0 0 ∷ []))
     (accepts 4 2 1 (0 ∷ []) (0 ∷ 2 ∷ []) (1 ∷ 0 ∷ []) (a ∷ (99 ∷ []) ∷ []) (0 ∷ 0 ∷ 1 ∷ 0 ∷ []))
     -- with an alive set in which all rows are alive, a term that no row uses is not kept
     ∷ case (inOrder 255 (withAlive (1 ∷ []) (str (1 ∷ []) (a ∷ b ∷ [])) ∷ []) (at 0 0 ∷ [])) (accepts 4 0 1 [] [] (0 ∷ []) (b ∷ []) (0 ∷ 0 ∷ []))

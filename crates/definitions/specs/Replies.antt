@@ -53,9 +53,9 @@ two = 2 ∷ 0 ∷ 255 ∷ 0 ∷ 0 ∷ 0 ∷ 0 ∷ 0 ∷ 0 ∷ 0 ∷ 0 ∷ []
 six : List ℕ
 six =
     2 ∷ 1 ∷ 255
-    ∷ 1 ∷ 1 ∷ 3 ∷ 3 ∷ 0 ∷ 4 ∷ 3 ∷ 0 ∷ 1
-    ∷ 0
-    ∷ 4 ∷ 0 ∷ 2 ∷ 2 ∷ 3
+    ∷ 1 ∷ 1 ∷ 4 ∷ 3 ∷ 2 ∷ 3 ∷ 3 ∷ 0 ∷ 1
+    ∷ 2 ∷ 0 ∷ 2
+    ∷ 3 ∷ 0 ∷ 2 ∷ 3
     ∷ 3 ∷ 7 ∷ 8 ∷ 9
     ∷ 0
     ∷ 0
@@ -85,9 +85,10 @@ both addresses =
 listed : ℕ → List ℕ
 listed id = 2 ∷ 0 ∷ 255 ∷ 1 ∷ 1 ∷ 2 ∷ 1 ∷ 1 ∷ 0 ∷ 1 ∷ 0 ∷ 0 ∷ 1 ∷ id ∷ 0 ∷ 1 ∷ 5 ∷ 0 ∷ 0 ∷ 0 ∷ 0 ∷ []
 
--- U64 kind 3, 1 row, the last offset as given
-upOffset : ℕ → List ℕ
-upOffset offset = 2 ∷ 0 ∷ 255 ∷ 1 ∷ 1 ∷ 3 ∷ 1 ∷ 0 ∷ 2 ∷ 1 ∷ 0 ∷ 0 ∷ 0 ∷ 2 ∷ 0 ∷ offset ∷ 1 ∷ 5 ∷ 0 ∷ 0 ∷ 0 ∷ 0 ∷ []
+-- U64, 1 row, 1 value, the kind, its ids and the last offset as given
+upOffset : ℕ → List ℕ → ℕ → List ℕ
+upOffset kind ids offset =
+    (2 ∷ 0 ∷ 255 ∷ 1 ∷ 1 ∷ kind ∷ 1 ∷ length ids ∷ 2 ∷ 1 ∷ 0 ∷ 0 ∷ length ids ∷ []) ++ (ids ++ (2 ∷ 0 ∷ offset ∷ 1 ∷ 5 ∷ 0 ∷ 0 ∷ 0 ∷ 0 ∷ []))
 
 -- ordered, no column of n rows, with an alive set of one word or without one, and one address
 onlyRows : ℕ → List ℕ → ℕ → ℕ → List ℕ
@@ -119,6 +120,9 @@ replies =
     -- C11's refusal, and that of an unknown required type
     ∷ case (input (number 0 9223372036854775808)) "answer 10\n"
     ∷ case (input (number 6 5)) "answer 3\n"
+    -- kind 3, and the same row in kind 4
+    ∷ case (input (upOffset 3 [] 1)) "answer 19\n"
+    ∷ case (input (upOffset 4 (0 ∷ []) 1)) "answer 0\ntype 1\nclass 2\nrows 1\nids 1 0\noffsets 2 0 1\nvalues 1 5\nterms 0\nmaps 0\n"
     -- the record's eight numbers in their order, together with C1 and C6; an address's two
     ∷ case (input kinds) "answer 0\ntype 1\nclass 2\nrows 4\nids 2 1 3\noffsets 3 0 2 3\nvalues 3 7 8 9\nterms 0\nmaps 0\n"
     ∷ case (input (both (1 ∷ 0 ∷ 0 ∷ 1 ∷ 0 ∷ 0 ∷ []))) "answer 0\ntype 1\nclass 0\nrows 3\nids 0\noffsets 0\nvalues 3 7 6 5\nterms 0\nmaps 0\n"
@@ -149,7 +153,7 @@ replies =
     ∷ case (input (number 0x1000000ff 5)) "answer 2\n"
     ∷ case (input (onlyRows 0x100000000 [] 0 0)) "answer 2\n"
     ∷ case (input (listed 0x100000000)) "answer 2\n"
-    ∷ case (input (upOffset 0x100000000)) "answer 2\n"
+    ∷ case (input (upOffset 4 (0 ∷ []) 0x100000000)) "answer 2\n"
     ∷ case (input (onlyRows 1 [] 0x100000000 0)) "answer 2\n"
     ∷ case (input (onlyRows 1 [] 0 0x100000000)) "answer 2\n"
     -- a term length of 33 bits, before the check of the number of segments, and one of 32
@@ -159,7 +163,7 @@ replies =
     ∷ case (input (2 ∷ 0xffffffff ∷ 255 ∷ 0 ∷ 0 ∷ 0 ∷ 0 ∷ 0 ∷ 0 ∷ 0 ∷ 0 ∷ [])) "answer 3\n"
     ∷ case (input (onlyRows 0xffffffff [] 0 0)) "answer 7\n"
     ∷ case (input (listed 0xffffffff)) "answer 4\n"
-    ∷ case (input (upOffset 0xffffffff)) "answer 4\n"
+    ∷ case (input (upOffset 4 (0 ∷ []) 0xffffffff)) "answer 4\n"
     ∷ case (input (onlyRows 1 [] 0xffffffff 0)) "answer 9\n"
     -- an alive word may have more than 32 bits
     ∷ case (input (onlyRows 33 (0x100000000 ∷ []) 0 32)) "answer 0\ntype 255\nclass 0\nrows 1\nids 0\noffsets 0\nvalues 0\nterms 0\nmaps 0\n"

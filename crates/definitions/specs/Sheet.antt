@@ -8,7 +8,7 @@ use Rattle.definitions.specs.Row.{rowValues, bitAt, isAlive, aliveRows, 
 use Rattle.definitions.specs.Types.{isKnownType, isNumerical, hasTerms, sameCategory, hasType, everyValue, onlyType, numericalType, typeOf, signedOf, integerOf, doubleOf, coerced, isCoercible}
 use Rattle.definitions.specs.Class.{kindClass, aliveClass, classOf, greatestClass}
 use Rattle.definitions.specs.Join.{Column, rowOrder, isUsed, keptTerms, termsOf, ordinalOf, mapOf, newWord, cellOf, encode, joinedType, joinedClass, joinedCells, joinedColumn, joinRules}
-use Rattle.definitions.specs.Answer.{tooManySegments, lengthsWrong, codesKnown, noColumnIsBare, segmentCodesWrong, codesWrong, idsFit, offsetsFit, emptyFits, fullFits, optionalFits, oldFits, newFits, listsFit, listsWrong, valuesFit, valuesWrong, bitPastRows, aliveWrong, sumsTooLarge, workingTooSmall, isAliveAt, aliveAddresses, listsAliveRows, addressesWrong, presentTypes, oneCategory, allCoercible, typesWrong, outputTooShort, joinChecks, answer}
+use Rattle.definitions.specs.Answer.{tooManySegments, lengthsWrong, codesKnown, noColumnIsBare, segmentCodesWrong, codesWrong, someOld, idsFit, offsetsFit, emptyFits, fullFits, optionalFits, oldFits, newFits, listsFit, listsWrong, valuesFit, valuesWrong, bitPastRows, aliveWrong, sumsTooLarge, workingTooSmall, isAliveAt, aliveAddresses, listsAliveRows, addressesWrong, presentTypes, oneCategory, allCoercible, typesWrong, outputTooShort, joinChecks, answer}
 use Rattle.definitions.specs.Outcome.{Buffers, Answer, accepted, refused, Outcome, spaceOf, numbersOf, refusedBuffers, acceptedBuffers, Lent, inputOf, joinOutcome, readBack}
 use Rattle.definitions.specs.TimeOrder.{TimeOutcome, keyOf, isBefore, timeOrder, timesWrong, timeChecks, timeAnswer, timeOutcome}
 use Rattle.definitions.specs.Book.{Call, lentTo}
@@ -62,9 +62,13 @@ a = 97 ∷ []
 abbrev pub b : List ℕ
 b = 98 ∷ []
 
--- C5's segment: U64 kind 3, offsets 0 2 2 3, values 7 8 9
+-- C5's segment: U64 kind 4, 3 rows, ids 0 2, offsets 0 2 3, values 7 8 9
 abbrev pub five : Segment
-five = plain 1 3 3 [] (0 ∷ 2 ∷ 2 ∷ 3 ∷ []) (7 ∷ 8 ∷ 9 ∷ []) []
+five = plain 1 4 3 (0 ∷ 2 ∷ []) (0 ∷ 2 ∷ 3 ∷ []) (7 ∷ 8 ∷ 9 ∷ []) []
+
+-- the same in kind 3, as stations used to write it: offsets 0 2 2 3
+abbrev pub oldFive : Segment
+oldFive = plain 1 3 3 [] (0 ∷ 2 ∷ 2 ∷ 3 ∷ []) (7 ∷ 8 ∷ 9 ∷ []) []
 
 -- C9's segment: U64 Optional ids 0 1, values 5 6
 abbrev pub nine : Segment
@@ -110,7 +114,7 @@ lending memory l =
 
 -- What a call gives and leaves. Every definition is opened here, once: what names this helper on its line opens them all
 unfoldable pub outcomeOf : Lent → Outcome
-unfolding ofInt toBits aliveWords firstSegment afterFirst segmentsOf recordOf sectionsOf rowValues bitAt isAlive aliveRows isDropped isHeld heldOf asEmpty effective isKnownType isNumerical hasTerms sameCategory hasType everyValue onlyType numericalType typeOf signedOf integerOf doubleOf coerced isCoercible kindClass aliveClass classOf greatestClass rowOrder isUsed keptTerms termsOf ordinalOf mapOf newWord cellOf encode joinedType joinedClass joinedCells joinedColumn joinRules tooManySegments lengthsWrong codesKnown noColumnIsBare segmentCodesWrong codesWrong idsFit offsetsFit emptyFits fullFits optionalFits oldFits newFits listsFit listsWrong valuesFit valuesWrong bitPastRows aliveWrong sumsTooLarge workingTooSmall isAliveAt aliveAddresses listsAliveRows addressesWrong presentTypes oneCategory allCoercible typesWrong outputTooShort joinChecks answer spaceOf numbersOf refusedBuffers acceptedBuffers inputOf joinOutcome readBack lentTo
+unfolding ofInt toBits aliveWords firstSegment afterFirst segmentsOf recordOf sectionsOf rowValues bitAt isAlive aliveRows isDropped isHeld heldOf asEmpty effective isKnownType isNumerical hasTerms sameCategory hasType everyValue onlyType numericalType typeOf signedOf integerOf doubleOf coerced isCoercible kindClass aliveClass classOf greatestClass rowOrder isUsed keptTerms termsOf ordinalOf mapOf newWord cellOf encode joinedType joinedClass joinedCells joinedColumn joinRules tooManySegments lengthsWrong codesKnown noColumnIsBare segmentCodesWrong codesWrong someOld idsFit offsetsFit emptyFits fullFits optionalFits oldFits newFits listsFit listsWrong valuesFit valuesWrong bitPastRows aliveWrong sumsTooLarge workingTooSmall isAliveAt aliveAddresses listsAliveRows addressesWrong presentTypes oneCategory allCoercible typesWrong outputTooShort joinChecks answer spaceOf numbersOf refusedBuffers acceptedBuffers inputOf joinOutcome readBack lentTo
 outcomeOf l = joinOutcome l
 
 -- what a listing shows: the answer, and the column and the map as they stand in the outputs

@@ -39,15 +39,15 @@ orderCases =
     ∷ sortedAs (one 7 0x8000000000000000 ∷ plain 7 2 2 (1 ∷ []) [] (5 ∷ []) [] ∷ none 1 ∷ []) (at 1 0 ∷ at 2 0 ∷ at 0 0 ∷ at 1 1 ∷ [])
     -- a withdrawn row is not listed and still gives its time
     ∷ sortedAs (one 7 0 ∷ withAlive (2 ∷ []) (plain 7 2 2 (0 ∷ []) [] (5 ∷ []) []) ∷ []) (at 0 0 ∷ at 1 1 ∷ [])
-    -- kinds 3 and 4
-    ∷ sortedAs (plain 7 3 2 [] (0 ∷ 0 ∷ 1 ∷ []) (5 ∷ []) [] ∷ plain 7 4 2 (1 ∷ []) (0 ∷ 1 ∷ []) (4 ∷ []) [] ∷ []) (at 0 0 ∷ at 1 0 ∷ at 1 1 ∷ at 0 1 ∷ [])
+    -- kind 4
+    ∷ sortedAs (plain 7 4 2 (1 ∷ []) (0 ∷ 1 ∷ []) (5 ∷ []) [] ∷ plain 7 4 2 (1 ∷ []) (0 ∷ 1 ∷ []) (4 ∷ []) [] ∷ []) (at 0 0 ∷ at 1 0 ∷ at 1 1 ∷ at 0 1 ∷ [])
     ∷ []
 
 orderCases-hold : map (λ c. timeSheetOf (c .segments) (c .space)) orderCases ≡ map (λ c. c .expected) orderCases
 unfolding timeSheetOf orderCases
 orderCases-hold = refl
 
--- ---- 1 to 7, and 11: an output shorter than the list. "And n after it": that check fails too, and is not the answer
+-- ---- 1 to 7, 19 and 11: an output shorter than the list. "And n after it": that check fails too, and is not the answer
 
 answerCases : List TimeCase
 answerCases =
@@ -60,6 +60,10 @@ answerCases =
     ∷ unsortedBy 3 (one 6 5 ∷ []) 1
     ∷ unsortedBy 3 (plain 255 1 0 [] [] [] [] ∷ []) 0
     ∷ unsortedBy 3 (plain 6 1 2 [] [] (5 ∷ []) [] ∷ []) 2
+    -- 19: kind 3, in the second segment; 3 before it, in the second segment; 4 after it, in the first
+    ∷ unsortedBy 19 (one 7 5 ∷ plain 7 3 1 [] (0 ∷ 1 ∷ []) (6 ∷ []) [] ∷ []) 2
+    ∷ unsortedBy 3 (plain 7 3 1 [] (0 ∷ 1 ∷ []) (6 ∷ []) [] ∷ one 6 5 ∷ []) 2
+    ∷ unsortedBy 19 (plain 7 1 2 [] [] (5 ∷ []) [] ∷ plain 7 3 1 [] (0 ∷ 1 ∷ []) (6 ∷ []) [] ∷ []) 3
     -- 4: too few values; 5 after it
     ∷ unsortedBy 4 (plain 5 1 2 [] [] (2 ∷ []) [] ∷ []) 2
     -- 5: a Bool above 1; 6 after it
@@ -87,8 +91,8 @@ timeChecks =
     unsortedBy 12 (one 7 5 ∷ one 0 5 ∷ []) 2
     ∷ unsortedBy 12 (dropped 1 1 ∷ []) 1
     -- a row of several times, though they are equal; a withdrawn one
-    ∷ unsortedBy 12 (plain 7 3 1 [] (0 ∷ 2 ∷ []) (5 ∷ 5 ∷ []) [] ∷ []) 1
-    ∷ unsortedBy 12 (withAlive (1 ∷ []) (plain 7 3 2 [] (0 ∷ 1 ∷ 3 ∷ []) (5 ∷ 6 ∷ 6 ∷ []) []) ∷ []) 1
+    ∷ unsortedBy 12 (plain 7 4 1 (0 ∷ []) (0 ∷ 2 ∷ []) (5 ∷ 5 ∷ []) [] ∷ []) 1
+    ∷ unsortedBy 12 (withAlive (1 ∷ []) (plain 7 4 2 (0 ∷ 1 ∷ []) (0 ∷ 1 ∷ 3 ∷ []) (5 ∷ 6 ∷ 6 ∷ []) []) ∷ []) 1
     -- times that fall, each against the one before it, over a row without a time
     ∷ unsortedBy 12 (full 7 (4 ∷ 6 ∷ 5 ∷ []) ∷ []) 3
     ∷ unsortedBy 12 (plain 7 2 3 (0 ∷ 2 ∷ []) [] (5 ∷ 4 ∷ []) [] ∷ []) 3

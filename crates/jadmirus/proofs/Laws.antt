@@ -1,4 +1,4 @@
--- What is told of an answer: its number, the lent memory, and the nine numbers. Assumes nothing.
+-- What is told of an answer: its number, the lent memory, and the numbers that come with acceptance. Assumes nothing.
 use Prim.Native.Nat.{ℕ}
 use mathlib.Core.Path.{_≡_, sym, ap, _∙_}
 use mathlib.Core.List.{List, [], _∷_}
@@ -10,11 +10,18 @@ use Rattle.merge_checked.specs.declared.Answer.the-variants as A
 use Rattle.merge.specs.Whole.{answerOf, outcomeOf}
 use Rattle.definitions.specs.TimeOrder as Time
 use Rattle.definitions.specs.TimeOrder.{timeNumberOf}
+use Rattle.definitions.specs.Convert as Convert
+use Rattle.definitions.specs.Convert.{convertNumberOf}
 use Rattle.segment.specs.Lent.{addressesOf}
+use Rattle.segment.specs.declared.Record.{Record}
+use Rattle.records.specs.Rows.{numbersOf}
+use Rattle.convert.specs.declared.ConvertAnswer.{ConvertAnswer}
+use Rattle.convert.specs.declared.ConvertAnswer.the-variants as C
+use Rattle.convert.specs.Outcome as converted
 use Rattle.time_order.specs.declared.TimeAnswer.{TimeAnswer}
 use Rattle.time_order.specs.declared.TimeAnswer.the-variants as T
 use Rattle.time_order.specs.Outcome as ordered
-use Rattle.jadmirus.specs.Told.{listOf, numbersAfter, countAfter}
+use Rattle.jadmirus.specs.Told.{listOf, numbersAfter, countAfter, recordAfter}
 
 module _ {a : Answer} {b : Buffers} {o : Outcome.Outcome} (e : outcomeOf a b ≡ o) (old : List ℕ) where
   pub told-refused : {k : ℕ} → a ≡ A.Refused k → (k ≡ numberOf (o .answer)) × ((b ≡ o .buffers) × (old ≡ numbersAfter (o .answer) old))
@@ -42,3 +49,18 @@ module _ {a : TimeAnswer} {out left : List (List ℕ)} {o : Time.TimeOutcome} (e
   told-ordered q =
       let r = sym (ap ordered.answerOf q) ∙ ap (λ (x : Time.TimeOutcome). x .answer) e in
       (ap timeNumberOf r, (l, (ap (λ (x : Time.TimeOutcome). x .addresses) e, ap (λ (x : Time.TimeAnswer). countAfter x old) r)))
+
+-- number, outputs and record of a conversion's outcome
+abbrev ToldConverted : Convert.ConvertOutcome → List ℕ → List ℕ → List ℕ → ℕ → List ℕ → Type 0
+ToldConverted o ids offsets old k new = (k ≡ convertNumberOf (o .answer)) × ((ids ≡ o .ids) × ((offsets ≡ o .offsets) × (new ≡ recordAfter (o .answer) old)))
+
+module _ {a : ConvertAnswer} {ids offsets : List ℕ} {o : Convert.ConvertOutcome} (e : converted.outcomeOf a ids offsets ≡ o) (old : List ℕ) where
+  pub told-unconverted : {k : ℕ} → a ≡ C.Refused k → ToldConverted o ids offsets old k old
+  told-unconverted q =
+      let r = sym (ap converted.answerOf q) ∙ ap (λ (x : Convert.ConvertOutcome). x .answer) e in
+      (ap convertNumberOf r, (ap (λ (x : Convert.ConvertOutcome). x .ids) e, (ap (λ (x : Convert.ConvertOutcome). x .offsets) e, ap (λ (x : Convert.ConvertAnswer). recordAfter x old) r)))
+
+  pub told-converted : {r : Record} {new : List ℕ} → a ≡ C.Converted r → new ≡ numbersOf r → ToldConverted o ids offsets old 0 new
+  told-converted q l =
+      let r = sym (ap converted.answerOf q) ∙ ap (λ (x : Convert.ConvertOutcome). x .answer) e in
+      (ap convertNumberOf r, (ap (λ (x : Convert.ConvertOutcome). x .ids) e, (ap (λ (x : Convert.ConvertOutcome). x .offsets) e, l ∙ ap (λ (x : Convert.ConvertAnswer). recordAfter x old) r)))

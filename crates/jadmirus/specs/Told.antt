@@ -1,8 +1,10 @@
--- The numbers of an acceptance as words in lent memory. Assumes nothing.
+-- The numbers of an acceptance in lent memory. Assumes nothing.
 use Prim.Native.Nat.{ℕ}
 use mathlib.Core.List.{List, [], _∷_}
 use Rattle.definitions.specs.Outcome.{Numbers, Answer, accepted, refused}
+use Rattle.definitions.specs.Segment.{recordNumbers}
 use Rattle.definitions.specs.TimeOrder.{TimeAnswer, sorted, unsorted}
+use Rattle.definitions.specs.Convert.{ConvertAnswer, convertedTo, unconverted}
 use Rattle.merge_checked.specs.declared.Numbers as Declared
 
 -- type, class, rows, and the number of ids, offsets, values, terms, term bytes and ordinals of the map
@@ -21,3 +23,8 @@ numbersAfter (refused k) old = old
 abbrev pub countAfter : TimeAnswer → List ℕ → List ℕ
 countAfter (sorted n) old = n ∷ []
 countAfter (unsorted k) old = old
+
+-- the record of a converted segment; a refusal leaves it as it was
+abbrev pub recordAfter : ConvertAnswer → List ℕ → List ℕ
+recordAfter (convertedTo r) old = recordNumbers r
+recordAfter (unconverted k) old = old

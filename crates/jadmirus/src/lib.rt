@@ -1,13 +1,16 @@
-// The joiner and the time order for callers in C or Rust: a run of numbers is handed over as a pointer and its length.
+// The joiner, the time order and the converter for callers in C or Rust: a run of numbers is handed over as a pointer and its length.
 ghost use mathlib.Core.Path.{_≡_};
 ghost use lib.ListN.{length};
 ghost use Rattle.definitions.specs.Outcome.{numberOf, joinOutcome, lentOf};
+ghost use Rattle.definitions.specs.Segment.{recordFrom};
 ghost use Rattle.definitions.specs.TimeOrder.{timeNumberOf, timeOutcome};
+ghost use Rattle.definitions.specs.Convert.{convertNumberOf, convertOutcome};
 ghost use Rattle.merge.specs.Whole.{buffersOf, answerOf};
 ghost use Rattle.segment.specs.Lent.{addressesOf};
 ghost use Rattle.time_checks.specs.Lent.{lentTimes};
 ghost use Rattle.time_order.specs.Outcome.{outputOf};
-ghost use Rattle.jadmirus.specs.Told.{listOf, numbersAfter, countAfter};
+ghost use Rattle.convert.specs.Outcome.{lentConvert};
+ghost use Rattle.jadmirus.specs.Told.{listOf, numbersAfter, countAfter, recordAfter};
 
 // The nine numbers of an acceptance in their order.
 fn numbers_of(n: merge::Numbers) -> [u64; 9]
@@ -112,6 +115,46 @@ pub extern "C" fn jadmirus_time_order(
         time_order::TimeAnswer::Refused(k) => k,
         time_order::TimeAnswer::Sorted(n) => {
             *out_count = [n as u64];
+            0
+        }
+    }
+}
+
+// Returns the answer's number. The new record that comes with acceptance is written to `out_record`, which a refusal leaves as it was.
+#[no_mangle]
+pub extern "C" fn jadmirus_convert(
+    record: &[u32; 8],
+    ids: &[u32],
+    offsets: &[u32],
+    values: &[u64],
+    lengths: &[u32],
+    bytes: &[u8],
+    alive: &[u64],
+    out_ids: &mut [u32],
+    out_offsets: &mut [u32],
+    out_record: &mut [u32; 8],
+) -> u32
+    ensures { λ r. ⌜ r ≡ convertNumberOf (convertOutcome (lentConvert (recordFrom (now («record» .entry))) (now (ids .entry)) (now (offsets .entry)) (now (values .entry)) (now (lengths .entry)) (now (bytes .entry)) (now (alive .entry)) (length (now («out_ids» .entry))) (length (now («out_offsets» .entry)))) (now («out_ids» .entry)) (now («out_offsets» .entry)) .answer) ⌝ }
+    ensures { λ _. ⌜ now («out_ids» .exit) ≡ convertOutcome (lentConvert (recordFrom (now («record» .entry))) (now (ids .entry)) (now (offsets .entry)) (now (values .entry)) (now (lengths .entry)) (now (bytes .entry)) (now (alive .entry)) (length (now («out_ids» .entry))) (length (now («out_offsets» .entry)))) (now («out_ids» .entry)) (now («out_offsets» .entry)) .ids ⌝ }
+    ensures { λ _. ⌜ now («out_offsets» .exit) ≡ convertOutcome (lentConvert (recordFrom (now («record» .entry))) (now (ids .entry)) (now (offsets .entry)) (now (values .entry)) (now (lengths .entry)) (now (bytes .entry)) (now (alive .entry)) (length (now («out_ids» .entry))) (length (now («out_offsets» .entry)))) (now («out_ids» .entry)) (now («out_offsets» .entry)) .offsets ⌝ }
+    ensures { λ _. ⌜ now («out_record» .exit) ≡ recordAfter (convertOutcome (lentConvert (recordFrom (now («record» .entry))) (now (ids .entry)) (now (offsets .entry)) (now (values .entry)) (now (lengths .entry)) (now (bytes .entry)) (now (alive .entry)) (length (now («out_ids» .entry))) (length (now («out_offsets» .entry)))) (now («out_ids» .entry)) (now («out_offsets» .entry)) .answer) (now («out_record» .entry)) ⌝ }
+{
+    let r = segment::record_of(*record);
+    let a = convert::convert(
+        r,
+        ids,
+        offsets,
+        values,
+        lengths,
+        bytes,
+        alive,
+        out_ids,
+        out_offsets,
+    );
+    match a {
+        convert::ConvertAnswer::Refused(k) => k,
+        convert::ConvertAnswer::Converted(n) => {
+            *out_record = records::numbers_of(n);
             0
         }
     }

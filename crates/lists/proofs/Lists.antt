@@ -47,13 +47,6 @@ drop-zeros (suc n) (suc m) = drop-zeros n m ∙ ap (λ (k : ℕ). replicate k 0)
 
 -- ---- the last
 
-pub last-at : (ns : List ℕ) (k : ℕ) → length ns ≡ suc k → getD ns k 0 ≡ last ns
-last-at [] k e = absurd (omega arith)
-last-at (n ∷ []) zero e = refl
-last-at (n ∷ []) (suc k) e = absurd (omega arith)
-last-at (n ∷ m ∷ ns) zero e = absurd (omega arith)
-last-at (n ∷ m ∷ ns) (suc k) e = last-at (m ∷ ns) k (omega arith)
-
 -- ---- numbers in sequence
 
 -- from k on, of those below n

@@ -1,4 +1,4 @@
--- What a join that has passed the checks 1 to 9 ends with: the refusals 10 and 11, and acceptance. Assumes nothing.
+-- What a join that has passed the checks up to 9 ends with: the refusals 10 and 11, and acceptance. Assumes nothing.
 use Prim.Native.Nat.{ℕ, _≤_}
 use native.Mathlib.Omega.{arith}
 use mathlib.Core.Path.{_≡_, refl, sym, ap, _∙_, subst}

@@ -1,4 +1,4 @@
--- What an input that has passed the checks 1 to 9 gives the parts of the join. Assumes nothing.
+-- What an input that has passed the checks up to 9 gives the parts of the join. Assumes nothing.
 use Prim.Native.Nat.{ℕ, _≤_, _<_}
 use native.Mathlib.Omega.{arith}
 use mathlib.Core.Path.{_≡_, sym, ap, _∙_}
@@ -12,14 +12,14 @@ use Rattle.definitions.specs.Segment.{Segment, Input, segmentsOf}
 use Rattle.definitions.specs.Row.{hasAliveSet}
 use Rattle.definitions.specs.Join.{absent}
 use Rattle.definitions.specs.Checks.{Passed}
-use Rattle.definitions.specs.Answer.{bitPastRows, aliveWrong, listsAliveRows, addressesWrong, sevenChecks, orderChecks}
+use Rattle.definitions.specs.Answer.{bitPastRows, aliveWrong, listsAliveRows, addressesWrong, checksToSeven, orderChecks}
 use Rattle.definitions.proofs.Accept.{plain-passed}
 use Rattle.definitions.proofs.Checks.{passes, passed-append}
 use Rattle.segment.specs.Records.{segmentsIn}
 use Rattle.segment.specs.Lent.{lentInput, addressesOf}
 use Rattle.sections_fit.proofs.Seven.{known, Ready, ready}
 use Rattle.merge_mapping.proofs.Own.{input-room, room-both}
-use Rattle.verdict.specs.Nine.{nineChecks}
+use Rattle.verdict.specs.Nine.{checksToNine}
 use Rattle.verdict.proofs.Answer.{passed-nine}
 use Rattle.segment.specs.Lent.{Checked}
 use Rattle.merge_checked.specs.Call.{AfterNine}
@@ -34,11 +34,11 @@ module _ {mode required : ℕ} {records : List (List ℕ)} {ids offsets values l
   abbrev ss : List Segment
   ss = segmentsIn records ids offsets values lengths bytes words
 
-  nine : Passed (nineChecks i)
+  nine : Passed (checksToNine i)
   nine = passed-nine i (p .nine)
 
-  seven : Passed (sevenChecks i)
-  seven = passed-append (sevenChecks i) (orderChecks i) nine .0
+  seven : Passed (checksToSeven i)
+  seven = passed-append (checksToSeven i) (orderChecks i) nine .0
 
   pub rest : Ready (i .records) (i .sections)
   rest = ready (i .records) (i .sections) (plain-passed i seven)

@@ -1,4 +1,4 @@
--- What `measure` says of an input that has passed the checks 1 to 9: 10, 11, or the joined column's own numbers. Assumes nothing.
+-- What `measure` says of an input that has passed the checks up to 9: 10, 11, or the joined column's own numbers. Assumes nothing.
 use Prim.Native.Nat.{ℕ, _+_, _<_}
 use native.Mathlib.Omega.{arith}
 use mathlib.Core.Path.{_≡_, refl, sym, ap, ap₂, _∙_}

@@ -40,7 +40,7 @@ buffersOf ids offsets values lengths bytes map work =
 abbrev pub outcomeOf : Answer → Buffers → Outcome.Outcome
 outcomeOf a b = record { answer = answerOf a; buffers = b }
 
--- ---- after the checks 1 to 9
+-- ---- after the checks up to 9
 
 pub record AfterNine (mode required : ℕ) (records : List (List ℕ)) (ids offsets values lengths bytes alive : List ℕ) (addresses : List (List ℕ)) (work : List ℕ) : Type 0 where
   pub nine : answerToNine (lentInput mode required records ids offsets values lengths bytes alive addresses (length work)) ≡ 0

@@ -1,4 +1,4 @@
-// The join of an input that has passed the checks 1 to 9 (columnar/merge/mod.rs, `merge_column`).
+// The join of an input that has passed the checks up to 9 (columnar/merge/mod.rs, `merge_column`).
 ghost use mathlib.Core.Path.{_≡_};
 ghost use Rattle.definitions.specs.Outcome.{lentOf, joinOutcome};
 ghost use Rattle.merge_checked.specs.Call.{outcomeOf, buffersOf, AfterNine, Tables};
@@ -122,7 +122,7 @@ fn join_tables(
     }
 }
 
-// The join of an input that has passed the checks 1 to 9, whose working bytes are zero.
+// The join of an input that has passed the checks up to 9, whose working bytes are zero.
 pub fn join_checked(
     mode: u32,
     required: u32,

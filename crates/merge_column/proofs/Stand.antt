@@ -12,7 +12,7 @@ use Rattle.definitions.specs.Segment.{Segment, SegmentRecord, Sections, aliveWo
 use Rattle.definitions.specs.Row.{isHeld, asEmpty, effective}
 use Rattle.definitions.specs.Class.{greatestClass}
 use Rattle.definitions.specs.Join.{absent}
-use Rattle.definitions.specs.Answer.{total, listsFit}
+use Rattle.definitions.specs.Answer.{total, indexFits}
 use Rattle.definitions.proofs.Cell.{either, effective-rows, effective-fits}
 use Rattle.segment.specs.Records.{recordsOf, sectionsIn, segmentsIn, recordAt}
 use Rattle.segment.proofs.At.{sectionsAt, segments-many, segment-is as at-start}
@@ -25,7 +25,7 @@ use Rattle.places.proofs.Bridge.{Stands, sound-stands}
 use Rattle.places.proofs.Raw.{Held, stands-there, flag-there, words-there, words-end}
 use Rattle.places.proofs.Fill.{table-length, table-at}
 use Rattle.segment.specs.Lent.{Checked}
-use Rattle.segment.proofs.Lent.{lists-fit, sums-low}
+use Rattle.segment.proofs.Lent.{index-fits, sums-low}
 use Rattle.column_index_merge.specs.Class.{Classed, AllClassed, classIn, greatestIn}
 use Rattle.column_index_merge.specs.Held.{heldIn, byteOf, heldAt, Flagged}
 use Rattle.column_index_merge.proofs.Rules.{class-is, held-is, greatest-is}
@@ -97,8 +97,8 @@ module _ {records : List (List ℕ)} {ids offsets values lengths bytes words : L
     pub raw-stands : Stands (rawAt records k) ids offsets values (getD ss k absent)
     raw-stands = stands-there records ids offsets values lengths bytes words runs-held k h
 
-    pub fits-at : T (listsFit (getD ss k absent))
-    fits-at = all-at listsFit ss k absent (lists-fit c) (omega (arith, count-is))
+    pub fits-at : T (indexFits (getD ss k absent))
+    fits-at = all-at indexFits ss k absent (index-fits c) (omega (arith, count-is))
 
     rows-at : getD ss k absent .rows ≤ 4294967294
     rows-at =
@@ -114,7 +114,7 @@ module _ {records : List (List ℕ)} {ids offsets values lengths bytes words : L
     pub alive-run : run (getD (aliveAt records k) 1 0) (getD (aliveAt records k) 2 0) words ≡ getD ss k absent .alive
     alive-run = words-there records ids offsets values lengths bytes words runs-held k h
 
-    classed-at : {p : List ℕ} {s : Segment} → Stands p ids offsets values s → T (listsFit s) → s .rows ≡ getD ss k absent .rows → Classed p (aliveAt records k) ids offsets words
+    classed-at : {p : List ℕ} {s : Segment} → Stands p ids offsets values s → T (indexFits s) → s .rows ≡ getD ss k absent .rows → Classed p (aliveAt records k) ids offsets words
     unfolding rawAt aliveAt wordsBefore aliveWords
     classed-at {p} {s} st fit e =
         record {
@@ -173,7 +173,7 @@ module _ {records : List (List ℕ)} {ids offsets values lengths bytes words : L
         table-at (keptAt held (rawPlaces records)) [] (length (rawPlaces records)) k (omega (arith, table-length (rawAt records) (length records)))
         ∙ ap₂ placeIf (ap isSet (f .each k (omega (arith, count-is))) ∙ set-byte (isHeld (getD ss k absent))) (table-at (rawAt records) [] (length records) k h)
 
-    pub stands : (k : ℕ) → k < length ss → Stands (getD (placesOf records held) k []) ids offsets values (effective (getD ss k absent)) × T (listsFit (effective (getD ss k absent)))
+    pub stands : (k : ℕ) → k < length ss → Stands (getD (placesOf records held) k []) ids offsets values (effective (getD ss k absent)) × T (indexFits (effective (getD ss k absent)))
     unfolding effective
     stands k h =
         let q : k < length records = omega (arith, count-is) in

@@ -5,19 +5,18 @@ use native.Mathlib.Omega.{arith}
 use mathlib.Core.Path.{_≡_, refl, sym, ap, ap₂, _∙_, subst}
 use mathlib.Core.List.{List, [], _∷_, _++_, map, List·Memᴰ, List·Memᴰ·head, List·Memᴰ·tail, map-append}
 use lib.ListN.{length, getD, drop, drop-of-length-le}
-use lib.Seq.{drop-cons, slice}
+use lib.Seq.{drop-cons}
 use lib.Dec.{T}
 use Rattle.definitions.specs.Lists.{concat, upFrom, upTo}
 use Rattle.definitions.specs.Segment.{Segment, Address, addressFrom, address}
 use Rattle.definitions.specs.Row.{rowValues, effective}
 use Rattle.definitions.specs.Join.{absent, newWord, cellOf, cellAt, rowsOf, stackedFrom, joinedType, termsOf, joinedCells}
 use Rattle.definitions.specs.Answer.{listsAliveRows}
-use Rattle.column_index.specs.Lookup.{startOf, endOf, Sound}
+use Rattle.column_index.specs.Lookup.{Sound}
 use Rattle.column_index.proofs.Walk.{walk-values}
 use Rattle.places.specs.Place.{kindAt, rowsAt, idsAt, offsetsAt, valuesAt, startIn, endIn, cellIn, placeAt, rowOf}
 use Rattle.places.specs.Places.{sourceAt, placesOf, sourcesOf}
 use Rattle.places.specs.Stack.{SoundAt}
-use Rattle.places.proofs.Cells.{cell-slice}
 use Rattle.places.proofs.Bridge.{cell-stands, sound-stands}
 use Rattle.places.proofs.Fill.{table-length}
 use Rattle.segment.specs.Lent.{Checked}
@@ -42,12 +41,9 @@ concat-map f g (r ∷ rs) = ap (λ (x : List ℕ). map f (g r) ++ x) (concat-map
 -- all rows of a sound segment, one after another, are its run of values
 segment-cells : (place ids offsets values : List ℕ) → SoundAt place ids offsets → getD place 7 0 ≤ length values
     → concat (map (cellIn place ids offsets values) (upTo (rowsAt place))) ≡ valuesAt place values
-unfolding startIn endIn
+unfolding cellIn startIn endIn
 segment-cells place ids offsets values sa h =
-    ap concat
-    (map-mem (cellIn place ids offsets values) (λ r. slice (startOf (kindAt place) (idsAt place ids) (offsetsAt place offsets) r) (endOf (kindAt place) (idsAt place ids) (offsetsAt place offsets) r) (valuesAt place values)) (upTo (rowsAt place))
-    (λ r m. cell-slice place ids offsets values r))
-    ∙ walk-values (valuesAt place values) (subst (λ (n : ℕ). Sound (kindAt place) (rowsAt place) n (idsAt place ids) (offsetsAt place offsets)) (sym (run-length (getD place 6 0) (getD place 7 0) values h)) (sa .sound))
+    walk-values (valuesAt place values) (subst (λ (n : ℕ). Sound (kindAt place) (rowsAt place) n (idsAt place ids) (offsetsAt place offsets)) (sym (run-length (getD place 6 0) (getD place 7 0) values h)) (sa .sound))
 
 module _ {records : List (List ℕ)} {ids offsets values lengths bytes words : List ℕ} (c : Checked records ids offsets values lengths bytes words) {held : List ℕ}
     (f : Flagged held (segmentsIn records ids offsets values lengths bytes words)) {map′ : List ℕ} (m : Mapped map′ (segmentsIn records ids offsets values lengths bytes words)) where
@@ -85,7 +81,7 @@ module _ {records : List (List ℕ)} {ids offsets values lengths bytes words : L
       ap concat (rows-cells required n 0 (getD ss n absent .rows))
       ∙ concat-map (word required n) (rowValues (effective (getD ss n absent))) (upTo (getD ss n absent .rows))
       ∙ ap (map (word required n))
-      (ap concat (sym (map-mem (cellIn (getD places n []) ids offsets values) (rowValues (effective (getD ss n absent))) (upTo (getD ss n absent .rows)) (λ r m. cell-stands (t .0) r)))
+      (ap concat (sym (map-mem (cellIn (getD places n []) ids offsets values) (rowValues (effective (getD ss n absent))) (upTo (getD ss n absent .rows)) (λ r m. cell-stands (t .0) (t .1) r)))
       ∙ ap (λ (k : ℕ). concat (map (cellIn (getD places n []) ids offsets values) (upTo k))) e
       ∙ segment-cells (getD places n []) ids offsets values (sound-stands (t .0) (t .1)) (t .0 .values-end))
 
@@ -130,9 +126,8 @@ module _ {records : List (List ℕ)} {ids offsets values lengths bytes words : L
   -- ---- ordered
 
   own-cell : (n r : ℕ) → n < length ss → Own (getD ss n absent) (cellIn (getD places n []) ids offsets values r)
-  own-cell n r h =
-      subst (Own (getD ss n absent)) (sym (cell-slice (getD places n []) ids offsets values r))
-      (own-slice (startIn (getD places n []) ids offsets r) (endIn (getD places n []) ids offsets r) (own-values c f m n h))
+  unfolding cellIn
+  own-cell n r h = own-slice (startIn (getD places n []) ids offsets r) (endIn (getD places n []) ids offsets r) (own-values c f m n h)
 
   abbrev Known : List (List ℕ) → Type 0
   Known addresses = (a : Address) → List·Memᴰ a (addressesOf addresses) → (a .segment < length ss) × (a .row < getD ss (a .segment) absent .rows)
@@ -145,7 +140,7 @@ module _ {records : List (List ℕ)} {ids offsets values lengths bytes words : L
       let n = getD a 0 0 in
       ap₂ (λ (x y : List ℕ). x ++ y)
       (words-are c f m (getD a 0 0) (k .0) (joinedType required ss) (cellIn (getD places (getD a 0 0) []) ids offsets values (getD a 1 0)) (own-cell (getD a 0 0) (getD a 1 0) (k .0))
-      ∙ ap (map (word required (getD a 0 0))) (cell-stands (stands c f (getD a 0 0) (k .0) .0) (getD a 1 0)))
+      ∙ ap (map (word required (getD a 0 0))) (let t = stands c f (getD a 0 0) (k .0) in cell-stands (t .0) (t .1) (getD a 1 0)))
       (words-at required rest (λ b q. known b (List·Memᴰ·tail q)))
 
   worded-at : (k : ℕ) (addresses : List (List ℕ)) → Known addresses → k < length addresses

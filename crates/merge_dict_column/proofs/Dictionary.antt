@@ -25,7 +25,7 @@ use Rattle.merge_dict_column.specs.Dict.{Texts, Dictionary}
 use Rattle.merge_dict_column.specs.Stands.{Flags, Stands}
 use Rattle.merge_dict_column.proofs.Given.{runs-of, texts-of, stands-ordered, stands-stacked}
 use Rattle.merge_dict_column.proofs.Bridge.{joins}
-use Rattle.segment.proofs.Lent.{few-records, lists-fit, values-fit, sums-low}
+use Rattle.segment.proofs.Lent.{few-records, index-fits, values-fit, sums-low}
 use Rattle.merge_dict_column.specs.Fill.{marksFor, MarksFor, DictionaryGiven, DictionaryLeft}
 use Rattle.lists.proofs.Tests.{at-code, past-code}
 use Rattle.segment.proofs.At.{start-end}
@@ -77,7 +77,7 @@ module _ {mode : ℕ} {records : List (List ℕ)} {held ids offsets values lengt
         columns = λ d.
             columns-of records held ids offsets values lengths bytes alive (le-of-eq (sym (g .flags))) (le-of-eq (start-end (λ (r : SegmentRecord). r .ids) records ∙ whole .ids))
             (le-of-eq (start-end (λ (r : SegmentRecord). r .offsets) records ∙ whole .offsets)) (le-of-eq (start-end (λ (r : SegmentRecord). r .values) records ∙ whole .values))
-            (le-of-eq (start-end aliveWords records ∙ whole .alive)) (le-of-eq terms-are) (lists-fit (g .checked)) (values-fit (g .checked));
+            (le-of-eq (start-end aliveWords records ∙ whole .alive)) (le-of-eq terms-are) (index-fits (g .checked)) (values-fit (g .checked));
         clean = λ d. part-zero work n marks-fit (g .clean) ∙ ap (λ (k : ℕ). replicate k 0) (length-take-le n work marks-fit ∙ marks-count d);
       }
 

@@ -14,7 +14,7 @@ use borrow.Author.Tests.{eq-eqb, eqb-true, lt-ltb}
 use Rattle.definitions.specs.Lists.{all, any, upFrom, upTo}
 use Rattle.definitions.specs.Segment.{SegmentRecord, Address, aliveWords, address}
 use Rattle.definitions.specs.Answer.{total, sameAddress, isListed, isRepeated}
-use Rattle.sections_fit.proofs.Walks.{eqb-same}
+use Rattle.runs.proofs.Scans.{eqb-same}
 use Rattle.merge_mapping.specs.Mapping.{noRecord, rowsIn, runStart, rowAlive, wordsOf, aliveIn, markPlace, allNew, marked, Marks, rowListed, rowsListed, listedFrom, stackedRows, aliveListed, eachOnce}
 use Rattle.merge_mapping.proofs.Laws.{in-range, place-within}
 use Rattle.lists.proofs.Tests.{both-true}

@@ -1,18 +1,18 @@
 -- Where a place says where a segment stands, its rows are the segment's. Assumes nothing.
-use Prim.Native.Nat.{ℕ, suc, _-_, _≤_, _<_}
-use mathlib.Core.Path.{_≡_, refl, sym, ap, _∙_, subst}
-use mathlib.Core.List.{List, [], map}
+use Prim.Native.Nat.{ℕ, _-_, _≤_, _<_}
+use mathlib.Core.Path.{_≡_, sym, ap, _∙_, subst}
+use mathlib.Core.List.{List, map}
 use lib.ListN.{length, getD, length-map}
 use lib.Seq.{slice}
 use lib.Dec.{T}
-use mathlib.Core.Bool.{cond}
-use Rattle.definitions.specs.Lists.{elem}
-use Rattle.definitions.specs.Segment.{Segment, byKind}
-use Rattle.definitions.specs.Row.{rank, rowValues}
-use Rattle.definitions.specs.Answer.{listsFit}
-use Rattle.column_index.specs.Lookup.{Sound}
+use Rattle.definitions.specs.Segment.{Segment}
+use Rattle.definitions.specs.Row.{rowValues}
+use Rattle.definitions.specs.Answer.{indexFits}
+use Rattle.definitions.proofs.Fit.{not-old}
+use Rattle.column_index.specs.Lookup.{startOf, endOf, Sound}
+use Rattle.column_index.proofs.Laws.{row-slice}
 use Rattle.column_index.proofs.Walk.{fits-sound, sound-inside}
-use Rattle.places.specs.Place.{kindAt, rowsAt, idsAt, offsetsAt, valuesAt, endIn, widthIn, segmentAt, cellIn, Inside}
+use Rattle.places.specs.Place.{kindAt, rowsAt, idsAt, offsetsAt, valuesAt, startIn, endIn, widthIn, cellIn, Inside}
 use Rattle.places.specs.Stack.{SoundAt}
 use Rattle.places.proofs.Cells.{sound-within, cell-length}
 use Rattle.lists.proofs.Parts.{run-length}
@@ -31,27 +31,17 @@ pub record Stands (place ids offsets values : List ℕ) (s : Segment) : Type 0 w
   pub values-run : getD place 6 0 ≤ getD place 7 0
   pub values-end : getD place 7 0 ≤ length values
 
-rowFrom : ℕ → List ℕ → List ℕ → List ℕ → ℕ → List ℕ
-rowFrom kind ids offsets values r =
-    byKind kind [] (slice r (suc r) values) (cond (elem r ids) (slice (rank r ids) (suc (rank r ids)) values) []) (slice (getD offsets r 0) (getD offsets (suc r) 0) values)
-    (cond (elem r ids) (slice (getD offsets (rank r ids) 0) (getD offsets (suc (rank r ids)) 0) values) [])
-
-row-from : (s : Segment) (r : ℕ) → rowValues s r ≡ rowFrom (s .kind) (s .ids) (s .offsets) (s .values) r
-unfolding rowValues rowFrom
-row-from s r = refl
-
 module _ {place ids offsets values : List ℕ} {s : Segment} (st : Stands place ids offsets values s) where
-  pub cell-stands : (r : ℕ) → cellIn place ids offsets values r ≡ rowValues s r
-  unfolding cellIn segmentAt
-  cell-stands r =
-      row-from (segmentAt place ids offsets values) r
-      ∙ (λ i. rowFrom (st .kind i) (st .ids-are i) (st .offsets-are i) (st .values-are i) r)
-      ∙ sym (row-from s r)
-
   pub count-stands : length (s .values) ≡ getD place 7 0 - getD place 6 0
   count-stands = ap length (sym (st .values-are)) ∙ run-length (getD place 6 0) (getD place 7 0) values (st .values-end)
 
-  module _ (fit : T (listsFit s)) where
+  module _ (fit : T (indexFits s)) where
+    pub cell-stands : (r : ℕ) → cellIn place ids offsets values r ≡ rowValues s r
+    unfolding cellIn startIn endIn
+    cell-stands r =
+        (λ i. slice (startOf (st .kind i) (st .ids-are i) (st .offsets-are i) r) (endOf (st .kind i) (st .ids-are i) (st .offsets-are i) r) (st .values-are i))
+        ∙ sym (row-slice s r (not-old s fit))
+
     pub sound-stands : SoundAt place ids offsets
     sound-stands =
         record {

@@ -10,20 +10,19 @@ use lib.ListN.{length, getD, take, drop, drop-of-length-le}
 use lib.Seq.{drop-cons, drop-drop}
 use lib.Dec.{T, eqb, ltb, ltb→lt}
 use borrow.Author.Tests.{eqb-true, eqb-false}
-use Rattle.definitions.specs.Lists.{elem, all, notFalling, upFrom, upTo, sum}
+use Rattle.definitions.specs.Lists.{elem, all, upFrom, upTo, sum}
 use Rattle.definitions.specs.Row.{rank}
 use Rattle.definitions.proofs.Fit.{rank-lt}
 use Rattle.runs.specs.Put.{put, shifted, Below}
 use Rattle.runs.proofs.Laws.{Filling, fill-room, fill-more, shifted-length, shifted-at}
 use Rattle.column_index.specs.Lookup.{widthOf, Sound}
-use Rattle.column_index.proofs.Laws.{four-le}
-use Rattle.column_index.proofs.Sound.{asc-step, fall-step}
+use Rattle.column_index.proofs.Laws.{three-le}
+use Rattle.column_index.proofs.Sound.{asc-step}
 use Rattle.column_index.proofs.Walk.{walk-widths}
-use Rattle.places.specs.Width.{idPart, idsOf, totalsOf}
+use Rattle.places.specs.Width.{idsOf, totalsOf}
 use Rattle.places.specs.Place.{run, kindAt, rowsAt, idsAt, offsetsAt, startIn, endIn, widthIn}
-use Rattle.places.specs.Stack.{diffs, segmentWidths, stackedWidths, allRows, SoundAt, AllSound}
-use Rattle.places.proofs.Laws.{ids-cons, totals-cons}
-use Rattle.places.proofs.Stack.{width-empty, width-full, width-old, width-none, width-optional, width-new, ids-none, totals-none, ids-every, totals-every, ids-walk, totals-ones, totals-walk, diffs-walk, diffs-step, diffs-end, ids-append, totals-append}
+use Rattle.places.specs.Stack.{segmentWidths, stackedWidths, allRows, SoundAt, AllSound}
+use Rattle.places.proofs.Stack.{width-empty, width-full, width-none, width-optional, width-multi, ids-none, totals-none, ids-every, totals-every, ids-walk, totals-ones, totals-walk, ids-append, totals-append}
 use Rattle.lists.proofs.Sums.{sum-append}
 use Rattle.definitions.proofs.Lists.{up-length}
 use Rattle.definitions.proofs.Decode.{rank-zero}
@@ -34,47 +33,46 @@ module _ {kind rows n : ℕ} {ids offsets : List ℕ} (s : Sound kind rows n ids
   w : ℕ → ℕ
   w r = widthOf kind ids offsets r
 
-  below : (kind ≡ 0 → ⊥) → (kind ≡ 1 → ⊥) → (kind ≡ 3 → ⊥) → T (all (λ i. ltb i rows) ids)
-  below a b d = go (eqb kind 2) refl
+  below : (kind ≡ 0 → ⊥) → (kind ≡ 1 → ⊥) → T (all (λ i. ltb i rows) ids)
+  below a b = go (eqb kind 2) refl
     where
       go : (e : Bool) → eqb kind 2 ≡ e → T (all (λ i. ltb i rows) ids)
       go true q = s .optional (eqb-true kind 2 q) .0
-      go false q = s .new (four-le kind a b (eqb-false kind 2 q) d) .0
+      go false q = s .multi (three-le kind a b (eqb-false kind 2 q)) .0
 
-  pub some : (kind ≡ 0 → ⊥) → (kind ≡ 1 → ⊥) → (kind ≡ 3 → ⊥) → (r : ℕ) → elem r ids ≡ true → 0 < widthOf kind ids offsets r
-  some a b d r e = go (eqb kind 2) refl
+  pub some : (kind ≡ 0 → ⊥) → (kind ≡ 1 → ⊥) → (r : ℕ) → elem r ids ≡ true → 0 < widthOf kind ids offsets r
+  some a b r e = go (eqb kind 2) refl
     where
       go : (f : Bool) → eqb kind 2 ≡ f → 0 < widthOf kind ids offsets r
       go true q = let v = width-optional kind ids offsets r (eqb-true kind 2 q) e in omega arith
       go false q =
           let c = eqb-false kind 2 q in
-          let t = s .new (four-le kind a b c d) in
+          let t = s .multi (three-le kind a b c) in
           let l = rank-lt r ids e in
           let p = asc-step offsets (rank r ids) (t .4) (omega (arith, t .1)) in
-          let v = width-new kind ids offsets r a b c d e in
+          let v = width-multi kind ids offsets r a b c e in
           omega arith
 
-  pub bulk-ids-listed : (kind ≡ 0 → ⊥) → (kind ≡ 1 → ⊥) → (kind ≡ 3 → ⊥) → (f : ℕ) → idsOf f (map (widthOf kind ids offsets) (upTo rows)) ≡ shifted f ids
-  bulk-ids-listed a b d f =
+  pub bulk-ids-listed : (kind ≡ 0 → ⊥) → (kind ≡ 1 → ⊥) → (f : ℕ) → idsOf f (map (widthOf kind ids offsets) (upTo rows)) ≡ shifted f ids
+  bulk-ids-listed a b f =
       ap (λ (m : ℕ). idsOf m (map (widthOf kind ids offsets) (upTo rows))) (sym (add-zero f))
-      ∙ ids-walk (widthOf kind ids offsets) ids (s .ascends) (some a b d) (λ r e. width-none kind ids offsets r a b d e) f 0 rows (rw (zero-add rows) (below a b d))
+      ∙ ids-walk (widthOf kind ids offsets) ids (s .ascends) (some a b) (λ r e. width-none kind ids offsets r a b e) f 0 rows (rw (zero-add rows) (below a b))
       ∙ ap (λ (m : ℕ). shifted f (drop m ids)) (rank-zero ids)
 
   pub bulk-totals-optional : kind ≡ 2 → (t : ℕ) → totalsOf t (map (widthOf kind ids offsets) (upTo rows)) ≡ upFrom (suc t) (length ids)
   bulk-totals-optional e t =
       let a : kind ≡ 0 → ⊥ = λ q. omega arith in
       let b : kind ≡ 1 → ⊥ = λ q. omega arith in
-      let d : kind ≡ 3 → ⊥ = λ q. omega arith in
       let z : length ids - rank 0 ids ≡ length ids = omega (arith, rank-zero ids) in
-      totals-ones (widthOf kind ids offsets) ids (s .ascends) (some a b d) (λ r f. width-none kind ids offsets r a b d f) (λ r f. width-optional kind ids offsets r e f) t 0 rows (rw (zero-add rows) (below a b d))
+      totals-ones (widthOf kind ids offsets) ids (s .ascends) (some a b) (λ r f. width-none kind ids offsets r a b f) (λ r f. width-optional kind ids offsets r e f) t 0 rows (rw (zero-add rows) (below a b))
       ∙ ap (upFrom (suc t)) z
 
-  pub bulk-totals-new : (kind ≡ 0 → ⊥) → (kind ≡ 1 → ⊥) → (kind ≡ 2 → ⊥) → (kind ≡ 3 → ⊥) → (t : ℕ) → totalsOf t (map (widthOf kind ids offsets) (upTo rows)) ≡ shifted t (drop 1 offsets)
-  bulk-totals-new a b c d t =
-      let q = s .new (four-le kind a b c d) in
+  pub bulk-totals-multi : (kind ≡ 0 → ⊥) → (kind ≡ 1 → ⊥) → (kind ≡ 2 → ⊥) → (t : ℕ) → totalsOf t (map (widthOf kind ids offsets) (upTo rows)) ≡ shifted t (drop 1 offsets)
+  bulk-totals-multi a b c t =
+      let q = s .multi (three-le kind a b c) in
       let z : t ≡ t + getD offsets (rank 0 ids) 0 = omega (arith, q .2, ap (λ (m : ℕ). getD offsets m 0) (rank-zero ids)) in
       ap (λ (m : ℕ). totalsOf m (map (widthOf kind ids offsets) (upTo rows))) z
-      ∙ totals-walk (widthOf kind ids offsets) ids (s .ascends) (some a b d) (λ r f. width-none kind ids offsets r a b d f) offsets (q .1) (q .4) (λ r f. width-new kind ids offsets r a b c d f) t 0 rows (rw (zero-add rows) (q .0))
+      ∙ totals-walk (widthOf kind ids offsets) ids (s .ascends) (some a b) (λ r f. width-none kind ids offsets r a b f) offsets (q .1) (q .4) (λ r f. width-multi kind ids offsets r a b c f) t 0 rows (rw (zero-add rows) (q .0))
       ∙ ap (λ (m : ℕ). shifted t (drop (suc m) offsets)) (rank-zero ids)
 
 -- ---- a placed segment
@@ -111,23 +109,17 @@ module _ {place ids offsets : List ℕ} (sa : SoundAt place ids offsets) where
   seg-totals-full e t =
       totals-every (widthIn place ids offsets) (λ r. width-full (kindAt place) (idsAt place ids) (offsetsAt place offsets) r e) t 0 (rowsAt place) ∙ ap (λ (m : ℕ). upFrom m (rowsAt place)) (sym (add-one t))
 
-  pub seg-old : kindAt place ≡ 3 → segmentWidths place ids offsets ≡ diffs (offsetsAt place offsets)
+  pub seg-ids-listed : (kindAt place ≡ 0 → ⊥) → (kindAt place ≡ 1 → ⊥) → (f : ℕ) → idsOf f (segmentWidths place ids offsets) ≡ shifted f (idsAt place ids)
   unfolding segmentWidths widthIn startIn endIn widthOf
-  seg-old e =
-      diffs-walk (widthIn place ids offsets) (offsetsAt place offsets) (λ r. width-old (kindAt place) (idsAt place ids) (offsetsAt place offsets) r e) 0 (rowsAt place)
-      (sa .sound .old e .0 ∙ ap suc (sym (zero-add (rowsAt place))))
-
-  pub seg-ids-listed : (kindAt place ≡ 0 → ⊥) → (kindAt place ≡ 1 → ⊥) → (kindAt place ≡ 3 → ⊥) → (f : ℕ) → idsOf f (segmentWidths place ids offsets) ≡ shifted f (idsAt place ids)
-  unfolding segmentWidths widthIn startIn endIn widthOf
-  seg-ids-listed a b d f = bulk-ids-listed (sa .sound) a b d f
+  seg-ids-listed a b f = bulk-ids-listed (sa .sound) a b f
 
   pub seg-totals-optional : kindAt place ≡ 2 → (t : ℕ) → totalsOf t (segmentWidths place ids offsets) ≡ upFrom (t + 1) (getD place 3 0 - getD place 2 0)
   unfolding segmentWidths widthIn startIn endIn widthOf
   seg-totals-optional e t = bulk-totals-optional (sa .sound) e t ∙ ap₂ (λ (m k : ℕ). upFrom m k) (sym (add-one t)) ids-length
 
-  module _ (a : kindAt place ≡ 0 → ⊥) (b : kindAt place ≡ 1 → ⊥) (c : kindAt place ≡ 2 → ⊥) (d : kindAt place ≡ 3 → ⊥) where
-    pub seg-new-long : getD place 4 0 + 1 ≤ getD place 5 0
-    seg-new-long = omega (arith, sa .sound .new (four-le (kindAt place) a b c d) .1, offsets-length)
+  module _ (a : kindAt place ≡ 0 → ⊥) (b : kindAt place ≡ 1 → ⊥) (c : kindAt place ≡ 2 → ⊥) where
+    pub seg-multi-long : getD place 4 0 + 1 ≤ getD place 5 0
+    seg-multi-long = omega (arith, sa .sound .multi (three-le (kindAt place) a b c) .1, offsets-length)
 
     behind : run (getD place 4 0 + 1) (getD place 5 0) offsets ≡ drop 1 (offsetsAt place offsets)
     behind =
@@ -136,12 +128,12 @@ module _ {place ids offsets : List ℕ} (sa : SoundAt place ids offsets) where
         (sym (drop-drop 1 (getD place 4 0) offsets))
         ∙ sym (drop-take 1 (getD place 5 0 - getD place 4 0) (drop (getD place 4 0) offsets))
 
-    pub seg-totals-new : (t : ℕ) → totalsOf t (segmentWidths place ids offsets) ≡ shifted t (run (getD place 4 0 + 1) (getD place 5 0) offsets)
+    pub seg-totals-multi : (t : ℕ) → totalsOf t (segmentWidths place ids offsets) ≡ shifted t (run (getD place 4 0 + 1) (getD place 5 0) offsets)
     unfolding segmentWidths widthIn startIn endIn widthOf
-    seg-totals-new t = bulk-totals-new (sa .sound) a b c d t ∙ ap (shifted t) (sym behind)
+    seg-totals-multi t = bulk-totals-multi (sa .sound) a b c t ∙ ap (shifted t) (sym behind)
 
-    pub seg-new-length : length (run (getD place 4 0 + 1) (getD place 5 0) offsets) ≡ getD place 5 0 - (getD place 4 0 + 1)
-    seg-new-length = run-length (getD place 4 0 + 1) (getD place 5 0) offsets (sa .offsets-end)
+    pub seg-multi-length : length (run (getD place 4 0 + 1) (getD place 5 0) offsets) ≡ getD place 5 0 - (getD place 4 0 + 1)
+    seg-multi-length = run-length (getD place 4 0 + 1) (getD place 5 0) offsets (sa .offsets-end)
 
 -- ---- every number written fits
 
@@ -159,8 +151,8 @@ totals-below t (suc w ∷ ws) zero l = omega arith
 totals-below t (suc w ∷ ws) (suc k) l = let p = totals-below (t + suc w) ws k (le-of-suc-le-suc l) in omega arith
 
 module _ {place ids offsets : List ℕ} (sa : SoundAt place ids offsets) where
-  pub seg-ids-below : (m f : ℕ) → (kindAt place ≡ 0 → ⊥) → (kindAt place ≡ 1 → ⊥) → (kindAt place ≡ 3 → ⊥) → f + rowsAt place ≤ m → Below m (shifted f (idsAt place ids))
-  seg-ids-below m f a b d l = shift-below m f (rowsAt place) (idsAt place ids) (below (sa .sound) a b d) l
+  pub seg-ids-below : (m f : ℕ) → (kindAt place ≡ 0 → ⊥) → (kindAt place ≡ 1 → ⊥) → f + rowsAt place ≤ m → Below m (shifted f (idsAt place ids))
+  seg-ids-below m f a b l = shift-below m f (rowsAt place) (idsAt place ids) (below (sa .sound) a b) l
 
   pub seg-totals-below : (m t : ℕ) (ts : List ℕ) → totalsOf t (segmentWidths place ids offsets) ≡ ts → t + (getD place 7 0 - getD place 6 0) < m → Below m ts
   seg-totals-below m t ts e l k q =
@@ -226,46 +218,6 @@ module _ {places : List (List ℕ)} {ids offsets : List ℕ} (l : AllSound place
     stack-totals-more g {out′} {at′} p o =
         fill-more g (totalsOf f (segmentWidths (getD places s []) ids offsets)) (totalsOf (f + (getD (getD places s []) 7 0 - getD (getD places s []) 6 0)) (stackedWidths (drop (s + 1) places) ids offsets)) (seg-totals f) out′ at′ p o
 
--- ---- a turn of the loops over offsets
-
-module _ (os : List ℕ) (j : ℕ) (h : j + 1 < length os) {w : ℕ} (q : w ≡ getD os (j + 1) 0 - getD os j 0) where
-  pub diffs-now : diffs (drop j os) ≡ w ∷ diffs (drop (j + 1) os)
-  diffs-now =
-      let k : suc j < length os = omega arith in
-      diffs-step os j k ∙ rw (← add-one j, ← q)
-
-  pub diffs-sum : sum (diffs (drop j os)) ≡ w + sum (diffs (drop (j + 1) os))
-  diffs-sum = ap sum diffs-now
-
-  module _ {start : ℕ} {whole old out : List ℕ} {at : ℕ} (f : ℕ) where
-    pub risen-ids-room : Filling start whole old (idsOf (f + j) (diffs (drop j os))) out at → at + length (idPart (f + j) w) ≤ length out
-    risen-ids-room g = fill-room g (idPart (f + j) w) (idsOf (suc (f + j)) (diffs (drop (j + 1) os))) (ap (idsOf (f + j)) diffs-now ∙ ids-cons (f + j) w (diffs (drop (j + 1) os)))
-
-    pub risen-ids-more : Filling start whole old (idsOf (f + j) (diffs (drop j os))) out at → {out′ : List ℕ} {at′ : ℕ} → at′ ≡ at + length (idPart (f + j) w) → out′ ≡ put at (idPart (f + j) w) out
-        → Filling start whole old (idsOf (f + (j + 1)) (diffs (drop (j + 1) os))) out′ at′
-    risen-ids-more g {out′} {at′} p o =
-        let e : f + (j + 1) ≡ suc (f + j) = omega arith in
-        rw e (fill-more g (idPart (f + j) w) (idsOf (suc (f + j)) (diffs (drop (j + 1) os))) (ap (idsOf (f + j)) diffs-now ∙ ids-cons (f + j) w (diffs (drop (j + 1) os))) out′ at′ p o)
-
-    module _ {u : ℕ} (e : u ≡ f + w) where
-      pub risen-totals-room : Filling start whole old (totalsOf f (diffs (drop j os))) out at → at + length (idPart u w) ≤ length out
-      risen-totals-room g = rw e (fill-room g (idPart (f + w) w) (totalsOf (f + w) (diffs (drop (j + 1) os))) (ap (totalsOf f) diffs-now ∙ totals-cons f w (diffs (drop (j + 1) os))))
-
-      pub risen-totals-more : Filling start whole old (totalsOf f (diffs (drop j os))) out at → {out′ : List ℕ} {at′ : ℕ} → at′ ≡ at + length (idPart u w) → out′ ≡ put at (idPart u w) out
-          → Filling start whole old (totalsOf u (diffs (drop (j + 1) os))) out′ at′
-      risen-totals-more g {out′} {at′} p o =
-          rw e
-          (fill-more g (idPart (f + w) w) (totalsOf (f + w) (diffs (drop (j + 1) os))) (ap (totalsOf f) diffs-now ∙ totals-cons f w (diffs (drop (j + 1) os))) out′ at′
-          (p ∙ ap (λ (n : ℕ). at + length (idPart n w)) e) (o ∙ ap (λ (n : ℕ). put at (idPart n w) out) e))
-
-pub risen-ids-end : (os : List ℕ) (f j : ℕ) → length os ≤ j + 1 → idsOf f (diffs (drop j os)) ≡ []
-unfolding idsOf
-risen-ids-end os f j h = ap (idsOf f) (diffs-end os j (omega arith))
-
-pub risen-totals-end : (os : List ℕ) (f j : ℕ) → length os ≤ j + 1 → totalsOf f (diffs (drop j os)) ≡ []
-unfolding totalsOf
-risen-totals-end os f j h = ap (totalsOf f) (diffs-end os j (omega arith))
-
 pub stack-ids-end : (places : List (List ℕ)) (ids offsets : List ℕ) (f s : ℕ) → length places ≤ s → idsOf f (stackedWidths (drop s places) ids offsets) ≡ []
 unfolding idsOf
 stack-ids-end places ids offsets f s h = ap (idsOf f) (stacked-end places ids offsets s h)
@@ -273,9 +225,6 @@ stack-ids-end places ids offsets f s h = ap (idsOf f) (stacked-end places ids of
 pub stack-totals-end : (places : List (List ℕ)) (ids offsets : List ℕ) (f s : ℕ) → length places ≤ s → totalsOf f (stackedWidths (drop s places) ids offsets) ≡ []
 unfolding totalsOf
 stack-totals-end places ids offsets f s h = ap (totalsOf f) (stacked-end places ids offsets s h)
-
-pub fall-next : (os : List ℕ) (j : ℕ) → T (notFalling os) → j + 1 < length os → getD os j 0 ≤ getD os (j + 1) 0
-fall-next os j h l = rw (add-one j) (fall-step os j h (omega arith))
 
 -- ---- a whole that is written as one part of n elements
 

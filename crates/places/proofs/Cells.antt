@@ -4,12 +4,11 @@ use native.Mathlib.Omega.{arith}
 use mathlib.Core.Path.{_≡_, refl, sym, ap, ap₂, _∙_}
 use mathlib.Core.List.{List, [], _∷_, map}
 use lib.ListN.{length, getD, take, drop}
-use lib.Seq.{drop-drop, take-take, slice, length-slice}
+use lib.Seq.{drop-drop, take-take, length-slice}
 use Rattle.definitions.specs.Join.{idsFrom, totalsFrom}
-use Rattle.column_index.proofs.Laws.{row-slice}
 use Rattle.column_index.proofs.Walk.{sound-readable, sound-rises}
 use Rattle.places.specs.Width.{idsOf, totalsOf}
-use Rattle.places.specs.Place.{run, valuesAt, startIn, endIn, widthIn, rowsAt, segmentAt, cellIn, Within, Inside}
+use Rattle.places.specs.Place.{run, valuesAt, startIn, endIn, widthIn, rowsAt, cellIn, Within, Inside}
 use Rattle.places.specs.Stack.{SoundAt}
 use Rattle.lists.proofs.Parts.{run-length, drop-take}
 
@@ -27,24 +26,20 @@ sound-within sa r h =
     }
 
 module _ (place ids offsets values : List ℕ) (row : ℕ) where
-  pub cell-slice : cellIn place ids offsets values row ≡ slice (startIn place ids offsets row) (endIn place ids offsets row) (valuesAt place values)
-  unfolding cellIn segmentAt startIn endIn
-  cell-slice = row-slice (segmentAt place ids offsets values) row
-
   module _ (i : Inside place ids offsets values row) where
     -- the values from b + start to b + end of the section are the row's
     pub cell-run : run (getD place 6 0 + startIn place ids offsets row) (getD place 6 0 + endIn place ids offsets row) values ≡ cellIn place ids offsets values row
+    unfolding cellIn
     cell-run =
         ap₂ (λ (m : ℕ) (l : List ℕ). take m l)
         (let k : (getD place 6 0 + endIn place ids offsets row) - (getD place 6 0 + startIn place ids offsets row) ≡ endIn place ids offsets row - startIn place ids offsets row = omega arith in k)
         (sym (drop-drop (startIn place ids offsets row) (getD place 6 0) values))
         ∙ sym (drop-take (startIn place ids offsets row) (endIn place ids offsets row) (drop (getD place 6 0) values))
         ∙ ap (drop (startIn place ids offsets row)) (sym (take-take (endIn place ids offsets row) (getD place 7 0 - getD place 6 0) (drop (getD place 6 0) values) (i .inside)))
-        ∙ sym cell-slice
 
     pub cell-length : length (cellIn place ids offsets values row) ≡ widthIn place ids offsets row
-    unfolding widthIn
-    cell-length = ap length cell-slice ∙ length-slice (startIn place ids offsets row) (endIn place ids offsets row) (valuesAt place values) (rw (run-length (getD place 6 0) (getD place 7 0) values (i .values-end)) (i .inside))
+    unfolding widthIn cellIn
+    cell-length = length-slice (startIn place ids offsets row) (endIn place ids offsets row) (valuesAt place values) (rw (run-length (getD place 6 0) (getD place 7 0) values (i .values-end)) (i .inside))
 
 -- ---- the definitions' row ids and offsets, from the widths
 

@@ -1,6 +1,6 @@
 -- All rows of a sound segment: their row ids and running totals, in bulk by the segment's kind. Assumes nothing.
 use Prim.Native.Nat.{ℕ, zero, suc, _+_, _-_, _≤_, _<_}
-use native.Mathlib.Nat.{le-of-suc-le-suc, not-suc-le-zero, add-zero, zero-add, add-suc, suc-add, add-assoc}
+use native.Mathlib.Nat.{not-suc-le-zero, add-zero, zero-add, add-suc, suc-add, add-assoc}
 use native.Mathlib.Numerals.{add-one}
 use native.Mathlib.Omega.{arith}
 use mathlib.Core.Path.{_≡_, refl, sym, ap, ap₂, _∙_, subst}
@@ -14,10 +14,9 @@ use Rattle.definitions.specs.Row.{rank}
 use Rattle.definitions.proofs.Fit.{rank-lt}
 use Rattle.runs.specs.Put.{shifted}
 use Rattle.column_index.specs.Lookup.{rankIn, isIn, startOf, endOf, widthOf}
-use Rattle.column_index.proofs.Laws.{found, range-empty, range-full, range-old, range-none, range-optional, range-new}
+use Rattle.column_index.proofs.Laws.{found, range-empty, range-full, range-none, range-optional, range-multi}
 use Rattle.column_index.proofs.Sound.{asc-step, rank-all, rank-suc}
 use Rattle.places.specs.Width.{idsOf, totalsOf}
-use Rattle.places.specs.Stack.{diffs}
 
 -- ---- one row's width
 
@@ -32,22 +31,19 @@ module _ (kind : ℕ) (ids offsets : List ℕ) (r : ℕ) where
   pub width-full : kind ≡ 1 → widthOf kind ids offsets r ≡ 1
   width-full e = width-of r (r + 1) (range-full kind ids offsets r r e refl) ∙ (let k : r + 1 - r ≡ 1 = omega arith in k)
 
-  pub width-old : kind ≡ 3 → widthOf kind ids offsets r ≡ getD offsets (suc r) 0 - getD offsets r 0
-  width-old e = width-of (getD offsets r 0) (getD offsets (suc r) 0) (range-old kind ids offsets r r (getD offsets r 0) (getD offsets (suc r) 0) e refl refl (ap (λ (n : ℕ). getD offsets n 0) (sym (add-one r))))
-
-  pub width-none : (kind ≡ 0 → ⊥) → (kind ≡ 1 → ⊥) → (kind ≡ 3 → ⊥) → elem r ids ≡ false → widthOf kind ids offsets r ≡ 0
+  pub width-none : (kind ≡ 0 → ⊥) → (kind ≡ 1 → ⊥) → elem r ids ≡ false → widthOf kind ids offsets r ≡ 0
   unfolding isIn
-  width-none a b d f = width-of 0 0 (range-none kind ids offsets r a b d (sym f))
+  width-none a b f = width-of 0 0 (range-none kind ids offsets r a b (sym f))
 
   pub width-optional : kind ≡ 2 → elem r ids ≡ true → widthOf kind ids offsets r ≡ 1
   unfolding isIn rankIn
   width-optional e f = width-of (rank r ids) (rank r ids + 1) (range-optional kind ids offsets r (rank r ids) e refl (sym f)) ∙ (let k : rank r ids + 1 - rank r ids ≡ 1 = omega arith in k)
 
-  pub width-new : (kind ≡ 0 → ⊥) → (kind ≡ 1 → ⊥) → (kind ≡ 2 → ⊥) → (kind ≡ 3 → ⊥) → elem r ids ≡ true → widthOf kind ids offsets r ≡ getD offsets (suc (rank r ids)) 0 - getD offsets (rank r ids) 0
+  pub width-multi : (kind ≡ 0 → ⊥) → (kind ≡ 1 → ⊥) → (kind ≡ 2 → ⊥) → elem r ids ≡ true → widthOf kind ids offsets r ≡ getD offsets (suc (rank r ids)) 0 - getD offsets (rank r ids) 0
   unfolding isIn rankIn
-  width-new a b c d f =
+  width-multi a b c f =
       width-of (getD offsets (rank r ids) 0) (getD offsets (suc (rank r ids)) 0)
-      (range-new kind ids offsets r (rank r ids) (getD offsets (rank r ids) 0) (getD offsets (suc (rank r ids)) 0) a b c d refl (sym f) refl (ap (λ (n : ℕ). getD offsets n 0) (sym (add-one (rank r ids)))))
+      (range-multi kind ids offsets r (rank r ids) (getD offsets (rank r ids) 0) (getD offsets (suc (rank r ids)) 0) a b c refl (sym f) refl (ap (λ (n : ℕ). getD offsets n 0) (sym (add-one (rank r ids)))))
 
 -- ---- lists of widths
 
@@ -105,7 +101,7 @@ totals-every w e t k zero = refl
 totals-every w e t k (suc m) =
     totals-some t (w k) (suc t) (map w (upFrom (suc k) m)) (let q = e k in omega arith) (let q = e k in omega arith) ∙ ap (λ (l : List ℕ). suc t ∷ l) (totals-every w e (suc t) (suc k) m)
 
--- ---- Optional and new multivalued: the listed rows have values
+-- ---- Optional and multivalued: the listed rows have values
 
 module _ (w : ℕ → ℕ) (ids : List ℕ) (h : T (ascending ids)) (some : (r : ℕ) → elem r ids ≡ true → 0 < w r) (none : (r : ℕ) → elem r ids ≡ false → w r ≡ 0) where
   pub ids-walk : (f k m : ℕ) → T (all (λ i. ltb i (k + m)) ids) → idsOf (f + k) (map w (upFrom k m)) ≡ shifted f (drop (rank k ids) ids)
@@ -175,23 +171,3 @@ module _ (w : ℕ → ℕ) (ids : List ℕ) (h : T (ascending ids)) (some : (r :
             ∙ ap (λ (n : ℕ). totalsOf (t + getD offsets n 0) (map w (upFrom (suc k) m))) (sym q)
             ∙ ih
             ∙ ap (λ (n : ℕ). shifted t (drop (suc n) offsets)) q
-
--- ---- old multivalued
-
-pub diffs-step : (os : List ℕ) (j : ℕ) → suc j < length os → diffs (drop j os) ≡ (getD os (suc j) 0 - getD os j 0) ∷ diffs (drop (suc j) os)
-unfolding diffs
-diffs-step os j h =
-    let k : j < length os = omega arith in
-    ap diffs (drop-cons os j 0 k ∙ ap (λ (l : List ℕ). getD os j 0 ∷ l) (drop-cons os (suc j) 0 h)) ∙ ap (λ (l : List ℕ). (getD os (suc j) 0 - getD os j 0) ∷ diffs l) (sym (drop-cons os (suc j) 0 h))
-
-pub diffs-end : (os : List ℕ) (j : ℕ) → length os ≤ suc j → diffs (drop j os) ≡ []
-unfolding diffs
-diffs-end [] zero h = refl
-diffs-end [] (suc j) h = refl
-diffs-end (o ∷ []) zero h = refl
-diffs-end (o ∷ p ∷ ps) zero h = absurd (omega arith)
-diffs-end (o ∷ os) (suc j) h = diffs-end os j (le-of-suc-le-suc h)
-
-pub diffs-walk : (w : ℕ → ℕ) (os : List ℕ) → ((r : ℕ) → w r ≡ getD os (suc r) 0 - getD os r 0) → (k m : ℕ) → length os ≡ suc (k + m) → map w (upFrom k m) ≡ diffs (drop k os)
-diffs-walk w os e k zero l = sym (diffs-end os k (omega arith))
-diffs-walk w os e k (suc m) l = ap₂ (λ (x : ℕ) (xs : List ℕ). x ∷ xs) (e k) (diffs-walk w os e (suc k) m (omega arith)) ∙ sym (diffs-step os k (omega arith))

@@ -3,8 +3,7 @@
 use Prim.Native.Nat.{ℕ, _-_, _≤_}
 use mathlib.Core.List.{List, [], _∷_}
 use lib.ListN.{length, getD, take, drop}
-use Rattle.definitions.specs.Segment.{Segment}
-use Rattle.definitions.specs.Row.{rowValues}
+use lib.Seq.{slice}
 use Rattle.column_index.specs.Lookup.{startOf, endOf, Readable}
 
 abbrev pub run : ℕ → ℕ → List ℕ → List ℕ
@@ -48,24 +47,9 @@ unfolding widthIn
 widths places ids offsets [] = []
 widths places ids offsets (a ∷ as′) = widthIn (placeAt places a) ids offsets (rowOf a) ∷ widths places ids offsets as′
 
--- the segment that stands there, as far as its rows' values go
-unfoldable pub segmentAt : List ℕ → List ℕ → List ℕ → List ℕ → Segment
-segmentAt place ids offsets values =
-    record {
-      type = 0;
-      kind = kindAt place;
-      rows = rowsAt place;
-      ids = idsAt place ids;
-      offsets = offsetsAt place offsets;
-      values = valuesAt place values;
-      terms = [];
-      flag = 0;
-      alive = [];
-    }
-
+-- the row's values
 unfoldable pub cellIn : List ℕ → List ℕ → List ℕ → List ℕ → ℕ → List ℕ
-unfolding segmentAt
-cellIn place ids offsets values row = rowValues (segmentAt place ids offsets values) row
+cellIn place ids offsets values row = slice (startIn place ids offsets row) (endIn place ids offsets row) (valuesAt place values)
 
 -- the runs lie within the sections, and the row can be looked up
 pub record Within (place ids offsets : List ℕ) (row : ℕ) : Type 0 where
@@ -73,7 +57,7 @@ pub record Within (place ids offsets : List ℕ) (row : ℕ) : Type 0 where
   pub ids-end : getD place 3 0 ≤ length ids
   pub offsets-run : getD place 4 0 ≤ getD place 5 0
   pub offsets-end : getD place 5 0 ≤ length offsets
-  pub readable : Readable (kindAt place) (idsAt place ids) (offsetsAt place offsets) row
+  pub readable : Readable (kindAt place) (idsAt place ids) (offsetsAt place offsets)
   pub rises : startIn place ids offsets row ≤ endIn place ids offsets row
 
 -- the row's values lie within the segment's own

@@ -6,12 +6,6 @@ use Rattle.definitions.specs.Lists.{upTo}
 use Rattle.column_index.specs.Lookup.{Sound}
 use Rattle.places.specs.Place.{kindAt, rowsAt, idsAt, offsetsAt, widthIn}
 
--- how far each number lies above the one before it
-unfoldable pub diffs : List ℕ → List ℕ
-diffs [] = []
-diffs (o ∷ []) = []
-diffs (o ∷ p ∷ ps) = (p - o) ∷ diffs (p ∷ ps)
-
 -- how many values each row of the segment has
 unfoldable pub segmentWidths : List ℕ → List ℕ → List ℕ → List ℕ
 segmentWidths place ids offsets = map (widthIn place ids offsets) (upTo (rowsAt place))
@@ -24,7 +18,7 @@ unfoldable pub allRows : List (List ℕ) → ℕ
 allRows [] = 0
 allRows (p ∷ ps) = rowsAt p + allRows ps
 
--- the runs lie within the sections, and what check 4 says of them
+-- the runs lie within the sections, and what the checks 19 and 4 say of them
 pub record SoundAt (place ids offsets : List ℕ) : Type 0 where
   pub ids-run : getD place 2 0 ≤ getD place 3 0
   pub ids-end : getD place 3 0 ≤ length ids

@@ -12,10 +12,11 @@ use Rattle.definitions.specs.Lists.{sum, all, any}
 use Rattle.definitions.specs.Segment.{SegmentRecord, Sections, Input, segmentsOf, aliveWords, firstSegment, afterFirst, segmentsFrom}
 use Rattle.definitions.specs.Row.{hasAliveSet}
 use Rattle.definitions.specs.Types.{isKnownType}
-use Rattle.definitions.specs.Answer.{total, codesWrong, aliveWrong, lengthsWrong, codesKnown, noColumnIsBare, segmentCodesWrong, listsFit, listsWrong, valuesFit, valuesWrong, bitPastRows, sumOver, bytesIn, termsIn, sumsTooLarge, greatestSum}
+use Rattle.definitions.specs.Answer.{total, codesWrong, aliveWrong, lengthsWrong, codesKnown, noColumnIsBare, segmentCodesWrong, isOld, someOld, listsFit, listsWrong, valuesFit, valuesWrong, bitPastRows, sumOver, bytesIn, termsIn, sumsTooLarge, greatestSum}
 use Rattle.segment_fit.specs.Fits.{pastRows, fitsAlive}
 use Rattle.segment_fit.proofs.Own.{assoc5, codes-first, lists-first, values-first, past-first, flag-first}
-use Rattle.sections_fit.specs.Walks.{lengthsRight, Exact, codesFrom, knownCodes, listsFrom, valuesFrom, aliveFitsFrom, sumsRight}
+use Rattle.sections_fit.specs.Walks.{lengthsRight, Exact, codesFrom, knownCodes, noneOld, listsFrom, valuesFrom, aliveFitsFrom, sumsRight}
+use Rattle.definitions.proofs.Lists.{or-left, or-right}
 use Rattle.lists.proofs.Tests.{both-true}
 use Rattle.lists.proofs.Numbers.{not-ltb}
 use Rattle.lists.proofs.Cuts.{cut-length, cut-bytes}
@@ -79,15 +80,27 @@ unfolding codesFrom
 codes-all [] s h = refl
 codes-all (r ∷ rs) s h = ap₂ (λ (a b : Bool). a && b) (codes-first r s (omega (arith, h .ids)) (omega (arith, h .offsets)) (omega (arith, h .values)) (omega (arith, h .terms))) (codes-all rs (afterFirst r s) (held-after r rs s h))
 
--- ---- 4
+-- ---- 19
 
-lists-all : (rs : List SegmentRecord) (s : Sections) → total (λ (r : SegmentRecord). r .values) rs ≤ length (s .values)
+none-or : (a b c : Bool) → b ≡ not c → a || b ≡ not (not a && c)
+none-or true b c e = refl
+none-or false b c e = e
+
+pub some-old : (rs : List SegmentRecord) (s : Sections) → someOld (segmentsFrom rs s) ≡ not (noneOld rs)
+unfolding someOld noneOld firstSegment
+some-old [] s = refl
+some-old (r ∷ rs) s = none-or (eqb (r .kind) 3) (any isOld (segmentsFrom rs (afterFirst r s))) (noneOld rs) (some-old rs (afterFirst r s))
+
+-- ---- 4, of segments that have passed 19
+
+lists-all : (rs : List SegmentRecord) (s : Sections) → someOld (segmentsFrom rs s) ≡ false → total (λ (r : SegmentRecord). r .values) rs ≤ length (s .values)
     → all listsFit (segmentsFrom rs s) ≡ listsFrom rs (s .ids) (s .offsets)
-unfolding listsFrom afterFirst
-lists-all [] s h = refl
-lists-all (r ∷ rs) s h =
-    ap₂ (λ (a b : Bool). a && b) (lists-first r s (omega arith))
-    (lists-all rs (afterFirst r s) (rw (length-drop (r .values) (s .values)) (omega arith)))
+unfolding someOld listsFrom firstSegment afterFirst
+lists-all [] s old h = refl
+lists-all (r ∷ rs) s old h =
+    let o = any isOld (segmentsFrom rs (afterFirst r s)) in
+    ap₂ (λ (a b : Bool). a && b) (lists-first r s (or-left (eqb (r .kind) 3) o old) (omega arith))
+    (lists-all rs (afterFirst r s) (or-right (eqb (r .kind) 3) o old) (rw (length-drop (r .values) (s .values)) (omega arith)))
 
 -- ---- 5
 
@@ -174,9 +187,9 @@ module _ (rs : List SegmentRecord) (s : Sections) (x : Exact rs s) where
   unfolding segmentCodesWrong
   codes-wrong = ap not (codes-all rs s (record { ids = omega (arith, x .ids); offsets = omega (arith, x .offsets); values = omega (arith, x .values); terms = omega (arith, x .terms) }))
 
-  pub lists-wrong : listsWrong (segmentsFrom rs s) ≡ not (listsFrom rs (s .ids) (s .offsets))
+  pub lists-wrong : someOld (segmentsFrom rs s) ≡ false → listsWrong (segmentsFrom rs s) ≡ not (listsFrom rs (s .ids) (s .offsets))
   unfolding listsWrong
-  lists-wrong = ap not (lists-all rs s (omega (arith, x .values)))
+  lists-wrong old = ap not (lists-all rs s old (omega (arith, x .values)))
 
   pub values-wrong : valuesWrong (segmentsFrom rs s) ≡ not (valuesFrom rs (s .values) (s .termLengths) (s .termBytes))
   unfolding valuesWrong

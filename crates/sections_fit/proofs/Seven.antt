@@ -1,4 +1,4 @@
--- What the checks 1 to 7 leave to the later ones: an input that passes is as they may count on. Assumes nothing.
+-- What the checks up to 7 leave to the later ones: an input that passes is as they may count on. Assumes nothing.
 use mathlib.Core.Path.{_≡_, refl, sym, _∙_}
 use mathlib.Core.Bool.{true, false, _&&_}
 use mathlib.Core.List.{List}
@@ -8,7 +8,7 @@ use lib.ListN.{length}
 use borrow.Author.Tests.{ltb-false, leb-true, not-false}
 use Rattle.definitions.specs.Segment.{SegmentRecord, Sections, Address, Space, Input, segmentsOf}
 use Rattle.definitions.specs.Checks.{Passed}
-use Rattle.definitions.specs.Answer.{total, greatestSum, tooManySegments, codesWrong, aliveWrong, plainChecks, sevenChecks}
+use Rattle.definitions.specs.Answer.{total, greatestSum, tooManySegments, codesWrong, aliveWrong, plainChecks, checksToSeven}
 use Rattle.definitions.proofs.Accept.{mode-known}
 use Rattle.definitions.proofs.Checks.{passes}
 use Rattle.sections_fit.specs.Walks.{lengthsRight, Exact, sumsRight}
@@ -17,12 +17,12 @@ use Rattle.lists.proofs.Tests.{both-true}
 
 -- they read neither the addresses nor the space
 pub seven-same : (mode required : ℕ) (rs : List SegmentRecord) (s : Sections) (bs bs′ : List Address) (space space′ : Space)
-    → sevenChecks (record { mode = mode; required = required; records = rs; sections = s; addresses = bs; space = space })
-    ≡ sevenChecks (record { mode = mode; required = required; records = rs; sections = s; addresses = bs′; space = space′ })
+    → checksToSeven (record { mode = mode; required = required; records = rs; sections = s; addresses = bs; space = space })
+    ≡ checksToSeven (record { mode = mode; required = required; records = rs; sections = s; addresses = bs′; space = space′ })
 unfolding codesWrong aliveWrong segmentsOf
 seven-same mode required rs s bs bs′ space space′ = refl
 
-pub known : (i : Input) → Passed (sevenChecks i) → i .mode < 2
+pub known : (i : Input) → Passed (checksToSeven i) → i .mode < 2
 known i p = ltb→lt (i .mode) 2 (mode-known i p)
 
 pub record Ready (rs : List SegmentRecord) (s : Sections) : Type 0 where

@@ -1,13 +1,11 @@
 -- The laws of the walks over the segments: what each says at the next number or record, and at the end. Assumes nothing.
 use mathlib.Core.Path.{_≡_, refl, sym, _∙_}
-use mathlib.Core.Bool.{Bool, true, false, _&&_}
+use mathlib.Core.Bool.{true, _&&_, not}
 use mathlib.Core.List.{List, [], _∷_}
 use Prim.Native.Nat.{ℕ, _+_, _-_, _≤_, _<_}
 use native.Mathlib.Nat.{add-zero, zero-add, add-assoc}
-use native.Mathlib.Omega.{arith}
 use lib.Dec.{eqb}
-use lib.ListN.{length, drop, take, getD, drop-of-length-le}
-use borrow.Author.Tests.{eq-eqb, ne-eqb, eqb-true, eqb-false}
+use lib.ListN.{length, drop, take, getD}
 use Rattle.definitions.specs.Lists.{sum}
 use Rattle.definitions.specs.Segment.{SegmentRecord, aliveWords}
 use Rattle.definitions.specs.Answer.{total}
@@ -16,30 +14,8 @@ use Rattle.segment.specs.Records.{structOf, recordIn, recordsOf}
 use Rattle.segment.proofs.Walk.{records-end, records-step}
 use Rattle.segment_fit.specs.Fits.{fitsCodes, fitsLists, fitsValues, fitsAlive}
 use Rattle.sections_fit.specs.declared.Totals.{Totals}
-use Rattle.sections_fit.specs.Walks.{codesFrom, listsFrom, valuesFrom, aliveFitsFrom, totalsOf, addTo}
+use Rattle.sections_fit.specs.Walks.{codesFrom, noneOld, listsFrom, valuesFrom, aliveFitsFrom, totalsOf, addTo}
 use Rattle.lists.proofs.Parts.{part-rest, part-is, rest-is}
-use Rattle.lists.proofs.Sums.{sum-step}
-
--- ---- sums
-
--- two tests of equality that say the same
-pub eqb-same : (a b c d : ℕ) → (a ≡ b → c ≡ d) → (c ≡ d → a ≡ b) → eqb a b ≡ eqb c d
-eqb-same a b c d f g = go (eqb c d) refl
-  where
-    go : (t : Bool) → eqb c d ≡ t → eqb a b ≡ t
-    go true e = eq-eqb a b (g (eqb-true c d e))
-    go false e = ne-eqb a b (λ p. eqb-false c d e (f p))
-
-pub sum-low : (xs : List ℕ) (i x left : ℕ) → i < length xs → x ≡ getD xs i 0 → left < x → false ≡ eqb (sum (drop i xs)) left
-sum-low xs i x left h e k = sym (ne-eqb (sum (drop i xs)) left (λ p. (let s = sum-step xs i h in omega arith)))
-
-pub sum-next : (xs : List ℕ) (i x left : ℕ) → i < length xs → x ≡ getD xs i 0 → x ≤ left → eqb (sum (drop (i + 1) xs)) (left - x) ≡ eqb (sum (drop i xs)) left
-sum-next xs i x left h e k =
-    let s = sum-step xs i h in
-    eqb-same (sum (drop (i + 1) xs)) (left - x) (sum (drop i xs)) left (λ p. omega arith) (λ p. omega arith)
-
-pub sum-end : (xs : List ℕ) (i left : ℕ) → length xs ≤ i → eqb left 0 ≡ eqb (sum (drop i xs)) left
-sum-end xs i left h = rw (drop-of-length-le xs h) (eqb-same left 0 0 left (λ p. sym p) (λ p. sym p))
 
 -- ---- the records' sums
 
@@ -85,6 +61,10 @@ module _ (records : List (List ℕ)) (s : ℕ) (h : length records ≤ s) where
   unfolding codesFrom
   codes-end = rw (records-end records s h)
 
+  pub old-end : true ≡ noneOld (recordsOf (drop s records))
+  unfolding noneOld
+  old-end = rw (records-end records s h)
+
   pub lists-end : (ids offsets : List ℕ) → true ≡ listsFrom (recordsOf (drop s records)) ids offsets
   unfolding listsFrom
   lists-end ids offsets = rw (records-end records s h)
@@ -105,6 +85,10 @@ module _ (records : List (List ℕ)) (s : ℕ) (h : s < length records) {r : Rec
   pub codes-step : codesFrom (recordsOf (drop s records)) ≡ fitsCodes (recordIn r) && codesFrom (recordsOf (drop (s + 1) records))
   unfolding codesFrom
   codes-step = rw (records-step records s h e)
+
+  pub old-step : noneOld (recordsOf (drop s records)) ≡ not (eqb (r .kind) 3) && noneOld (recordsOf (drop (s + 1) records))
+  unfolding noneOld
+  old-step = rw (records-step records s h e)
 
   pub lists-step : (ids offsets : List ℕ) (i i′ o o′ : ℕ) → i′ ≡ i + r .ids → o′ ≡ o + r .offsets
       → listsFrom (recordsOf (drop s records)) (drop i ids) (drop o offsets)

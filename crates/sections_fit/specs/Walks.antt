@@ -2,7 +2,7 @@
 use Prim.Native.Nat.{ℕ, _+_, _≤_}
 use mathlib.Core.Path.{_≡_}
 use mathlib.Core.List.{List, [], _∷_}
-use mathlib.Core.Bool.{Bool, true, _&&_}
+use mathlib.Core.Bool.{Bool, true, _&&_, not}
 use lib.ListN.{length, take, drop}
 use lib.Dec.{eqb, ltb, leb}
 use Rattle.definitions.specs.Lists.{sum}
@@ -70,6 +70,12 @@ codesFrom (r ∷ rs) = fitsCodes r && codesFrom rs
 
 unfoldable pub knownCodes : ℕ → ℕ → List SegmentRecord → Bool
 knownCodes mode required rs = ltb mode 2 && (isKnownType required && codesFrom rs)
+
+-- ---- 19
+
+unfoldable pub noneOld : List SegmentRecord → Bool
+noneOld [] = true
+noneOld (r ∷ rs) = not (eqb (r .kind) 3) && noneOld rs
 
 -- ---- 4
 

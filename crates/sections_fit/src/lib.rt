@@ -1,36 +1,17 @@
-// The checks of all segments, in number order: each is one walk over the records and the sections that it reads, and `first_seven` gives the
-// first of 1 to 7 that fails (columnar/merge/mod.rs; asserts become answers).
+// The checks of all segments, in their order: each is one walk over the records and the sections that it reads, and `first_to_seven` gives the
+// first of those up to 7 that fails (columnar/merge/mod.rs; asserts become answers).
 ghost use mathlib.Core.Path.{_≡_};
 ghost use mathlib.Core.List.{[]};
 ghost use Prim.Native.Nat.{_<_, _≤_};
 ghost use lib.ListN.{length};
-ghost use lib.Dec.{eqb};
-ghost use Rattle.definitions.specs.Lists.{sum};
 ghost use Rattle.definitions.specs.Segment.{aliveWords};
 ghost use Rattle.definitions.specs.Checks.{firstOf};
-ghost use Rattle.definitions.specs.Answer.{total, sevenChecks};
+ghost use Rattle.definitions.specs.Answer.{total, checksToSeven};
 ghost use Rattle.segment.specs.Records.{recordIn, recordsOf, sectionsIn};
 ghost use Rattle.segment.specs.Lent.{lentInput};
-ghost use Rattle.sections_fit.specs.Walks.{totalsOf, addTo, Below, Grown, lengthsRight, codesFrom, knownCodes, HoldsLists, listsFrom, HoldsValues, valuesFrom, aliveFitsFrom, sumsRight};
+ghost use Rattle.sections_fit.specs.Walks.{totalsOf, addTo, Below, Grown, lengthsRight, codesFrom, knownCodes, noneOld, HoldsLists, listsFrom, HoldsValues, valuesFrom, aliveFitsFrom, sumsRight};
 
 // ---- sums
-
-// Whether the numbers add up to n.
-fn adds_up(xs: &[u32], n: usize) -> bool
-    ensures { λ r. ⌜ r ≡ eqb (sum (now (xs .entry))) n ⌝ }
-{
-    let mut left = n;
-    let mut i: usize = 0;
-    while i < xs.len() {
-        let x = segment::wide(xs[i]);
-        if left < x {
-            return false;
-        }
-        left -= x;
-        i += 1;
-    }
-    left == 0
-}
 
 // The sums of the records' counts.
 pub struct Totals {
@@ -113,7 +94,7 @@ fn lengths_fit(
     if t.terms != lengths.len() {
         return false;
     }
-    if !adds_up(lengths, bytes.len()) {
+    if !runs::adds_up(lengths, bytes.len()) {
         return false;
     }
     t.alive == alive.len()
@@ -145,6 +126,23 @@ fn known_codes(mode: u32, required: u32, records: &[[u32; 8]]) -> bool
         return false;
     }
     all_codes_fit(records)
+}
+
+// ---- 19
+
+// No record is of kind 3.
+fn none_old(records: &[[u32; 8]]) -> bool
+    ensures { λ x. ⌜ x ≡ noneOld (recordsOf (now (records .entry))) ⌝ }
+{
+    let mut s: usize = 0;
+    while s < records.len() {
+        let r = segment::record_at(records, s);
+        if r.kind == 3 {
+            return false;
+        }
+        s += 1;
+    }
+    true
 }
 
 // ---- 4
@@ -229,10 +227,10 @@ fn sums_fit(rows: usize, values: usize, bytes: usize) -> bool
     bytes <= 4294967294
 }
 
-// ---- 1 to 7
+// ---- 1 to 7, with 19 right after 3
 
-// The first of the checks 1 to 7 that fails, or 0.
-pub fn first_seven(
+// The first of the checks up to 7 that fails, or 0.
+pub fn first_to_seven(
     mode: u32,
     required: u32,
     records: &[[u32; 8]],
@@ -243,7 +241,7 @@ pub fn first_seven(
     bytes: &[u8],
     alive: &[u64],
 ) -> u32
-    ensures { λ x. ⌜ x ≡ firstOf (sevenChecks (lentInput mode required (now (records .entry)) (now (ids .entry)) (now (offsets .entry)) (now (values .entry)) (now (lengths .entry)) (now (bytes .entry)) (now (alive .entry)) [] 0)) ⌝ }
+    ensures { λ x. ⌜ x ≡ firstOf (checksToSeven (lentInput mode required (now (records .entry)) (now (ids .entry)) (now (offsets .entry)) (now (values .entry)) (now (lengths .entry)) (now (bytes .entry)) (now (alive .entry)) [] 0)) ⌝ }
 {
     if 256 < records.len() {
         return 1;
@@ -253,6 +251,9 @@ pub fn first_seven(
     }
     if !known_codes(mode, required, records) {
         return 3;
+    }
+    if !none_old(records) {
+        return 19;
     }
     if !all_lists_fit(records, ids, offsets) {
         return 4;

@@ -1,4 +1,4 @@
--- What the checks 1 to 7 say of the lent segments. Assumes nothing.
+-- What the checks up to 7 say of the lent segments. Assumes nothing.
 use Prim.Native.Nat.{ℕ, _≤_}
 use native.Mathlib.Omega.{arith}
 use mathlib.Core.Path.{_≡_}
@@ -9,7 +9,7 @@ use lib.ListN.{length}
 use borrow.Author.Tests.{ltb-false}
 use Rattle.definitions.specs.Lists.{all}
 use Rattle.definitions.specs.Segment.{Segment}
-use Rattle.definitions.specs.Answer.{greatestSum, sumOver, bytesIn, tooManySegments, segmentCodesWrong, listsFit, valuesFit}
+use Rattle.definitions.specs.Answer.{greatestSum, sumOver, bytesIn, tooManySegments, segmentCodesWrong, indexFits, valuesFit}
 use Rattle.definitions.proofs.Accept as Accept
 use Rattle.definitions.proofs.Checks.{passes}
 use Rattle.segment.specs.Records.{recordsOf, sectionsIn, segmentsIn}
@@ -27,8 +27,8 @@ module _ {records : List (List ℕ)} {ids offsets values lengths bytes alive : L
   pub codes-right : segmentCodesWrong ss ≡ false
   codes-right = passes (c .passed) 3
 
-  pub lists-fit : T (all listsFit ss)
-  lists-fit = Accept.lists-fit (recordsOf records) (sectionsIn ids offsets values lengths bytes alive) (c .passed)
+  pub index-fits : T (all indexFits ss)
+  index-fits = Accept.index-fits (recordsOf records) (sectionsIn ids offsets values lengths bytes alive) (c .passed)
 
   pub values-fit : T (all valuesFit ss)
   values-fit = Accept.values-fit (recordsOf records) (sectionsIn ids offsets values lengths bytes alive) (c .passed)

@@ -9,7 +9,7 @@ use Rattle.segment.specs.Records.{recordsOf, sectionsIn}
 abbrev pub addressesOf : List (List ℕ) → List Address
 addressesOf l = map addressFrom l
 
--- the lent segments have passed 1 to 7, as the time order asks them and a join too
+-- the lent segments have passed the checks up to 7, as the time order asks them and a join too
 pub record Checked (records : List (List ℕ)) (ids offsets values lengths bytes alive : List ℕ) : Type 0 where
   pub passed : Passed (plainChecks (recordsOf records) (sectionsIn ids offsets values lengths bytes alive))
 

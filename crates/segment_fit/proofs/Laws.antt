@@ -8,8 +8,8 @@ use native.Mathlib.Omega.{arith}
 use lib.Dec.{eqb, ltb, leb}
 use lib.ListN.{length, drop, getD, drop-of-length-le}
 use lib.Seq.{drop-cons}
-use borrow.Author.Tests.{eq-eqb, ne-eqb, lt-ltb, ltb-true, ltb-false, le-leb, lt-leb, leb-true}
-use Rattle.definitions.specs.Lists.{all, any, last, upFrom, allBelow}
+use borrow.Author.Tests.{eq-eqb, ne-eqb, lt-ltb, le-ltb, ltb-true, ltb-false, le-leb, lt-leb}
+use Rattle.definitions.specs.Lists.{all, any, ascendingFrom, last, upFrom, allBelow}
 use Rattle.definitions.specs.Row.{bitAt}
 use Rattle.lists.proofs.Tests.{both-true}
 use Rattle.lists.proofs.Lists.{up-step, up-end}
@@ -17,46 +17,45 @@ use Rattle.segment_fit.specs.Fits.{risesFrom, rises, lastOf, pastRows, f
 
 -- ---- rises
 
-pub rises-none : (step : ℕ) (xs : List ℕ) → length xs ≡ 0 → true ≡ rises step xs
+pub rises-none : (xs : List ℕ) → length xs ≡ 0 → true ≡ rises xs
 unfolding rises
-rises-none step [] h = refl
-rises-none step (x ∷ xs) h = absurd (omega arith)
+rises-none [] h = refl
+rises-none (x ∷ xs) h = absurd (omega arith)
 
-pub rises-start : (step p : ℕ) (xs : List ℕ) → (length xs ≡ 0 → ⊥) → p ≡ getD xs 0 0 → risesFrom step p (drop 1 xs) ≡ rises step xs
-unfolding rises
-rises-start step p [] h e = absurd (h refl)
-rises-start step p (x ∷ xs) h e = ap (λ (n : ℕ). risesFrom step n xs) e
+pub rises-start : (p : ℕ) (xs : List ℕ) → (length xs ≡ 0 → ⊥) → p ≡ getD xs 0 0 → risesFrom p (drop 1 xs) ≡ rises xs
+unfolding rises risesFrom
+rises-start p [] h e = absurd (h refl)
+rises-start p (x ∷ xs) h e = ap (λ (n : ℕ). ascendingFrom n xs) e
 
-module _ (step m x : ℕ) (xs : List ℕ) (i : ℕ) (h : i < length xs) (e : x ≡ getD xs i 0) where
-  rises-step : risesFrom step m (drop i xs) ≡ leb (m + step) x && risesFrom step x (drop (i + 1) xs)
+module _ (m x : ℕ) (xs : List ℕ) (i : ℕ) (h : i < length xs) (e : x ≡ getD xs i 0) where
+  rises-step : risesFrom m (drop i xs) ≡ ltb m x && risesFrom x (drop (i + 1) xs)
   unfolding risesFrom
   rises-step = rw (e, add-one i, drop-cons xs i 0 h)
 
-  pub rises-low : x < m + step → false ≡ risesFrom step m (drop i xs)
-  rises-low k = rw (rises-step, lt-leb (m + step) x k)
+  pub rises-low : x ≤ m → false ≡ risesFrom m (drop i xs)
+  rises-low k = rw (rises-step, le-ltb m x k)
 
-  pub rises-next : m + step ≤ x → risesFrom step x (drop (i + 1) xs) ≡ risesFrom step m (drop i xs)
-  rises-next k = rw (rises-step, le-leb (m + step) x k)
+  pub rises-next : m < x → risesFrom x (drop (i + 1) xs) ≡ risesFrom m (drop i xs)
+  rises-next k = rw (rises-step, lt-ltb m x k)
 
-pub rises-end : (step m : ℕ) (xs : List ℕ) (i : ℕ) → length xs ≤ i → true ≡ risesFrom step m (drop i xs)
+pub rises-end : (m : ℕ) (xs : List ℕ) (i : ℕ) → length xs ≤ i → true ≡ risesFrom m (drop i xs)
 unfolding risesFrom
-rises-end step m xs i h = rw (drop-of-length-le xs h)
+rises-end m xs i h = rw (drop-of-length-le xs h)
 
 -- ---- the last
 
 -- of numbers that rise, the last is the greatest
-rising-below : (rows m : ℕ) (ns : List ℕ) → risesFrom 1 m ns ≡ true → ltb (last (m ∷ ns)) rows ≡ ltb m rows && all (λ n. ltb n rows) ns
-unfolding risesFrom
+rising-below : (rows m : ℕ) (ns : List ℕ) → ascendingFrom m ns ≡ true → ltb (last (m ∷ ns)) rows ≡ ltb m rows && all (λ n. ltb n rows) ns
 rising-below rows m [] h = sym (and-true (ltb m rows))
 rising-below rows m (n ∷ ns) h =
-    let p = both-true (leb (m + 1) n) (risesFrom 1 n ns) h in
-    rising-below rows n ns (p .1) ∙ go (leb-true (m + 1) n (p .0)) (ltb n rows) refl
+    let p = both-true (ltb m n) (ascendingFrom n ns) h in
+    rising-below rows n ns (p .1) ∙ go (ltb-true m n (p .0)) (ltb n rows) refl
   where
-    go : m + 1 ≤ n → (t : Bool) → ltb n rows ≡ t → t && all (λ k. ltb k rows) ns ≡ ltb m rows && (t && all (λ k. ltb k rows) ns)
+    go : m < n → (t : Bool) → ltb n rows ≡ t → t && all (λ k. ltb k rows) ns ≡ ltb m rows && (t && all (λ k. ltb k rows) ns)
     go l true e = rw (lt-ltb m rows (let k : m < rows = omega (arith, ltb-true n rows e) in k))
     go l false e = sym (and-false (ltb m rows))
 
-pub ids-below : (rows : ℕ) (xs : List ℕ) → rises 1 xs ≡ true → (length xs ≡ 0 → ⊥) → ltb (lastOf xs) rows ≡ allBelow rows xs
+pub ids-below : (rows : ℕ) (xs : List ℕ) → rises xs ≡ true → (length xs ≡ 0 → ⊥) → ltb (lastOf xs) rows ≡ allBelow rows xs
 unfolding rises lastOf allBelow
 ids-below rows [] h n = absurd (n refl)
 ids-below rows (x ∷ xs) h n = rising-below rows x xs h

@@ -3,22 +3,23 @@ use mathlib.Core.Path.{_≡_, refl, sym, ap, ap₂, _∙_}
 use mathlib.Core.Bool.{Bool, true, false, not, _&&_, _||_, cond, and-true, and-assoc}
 use mathlib.Core.List.{List, [], _∷_}
 use Prim.Native.Nat.{ℕ, suc, _+_, _≤_}
-use native.Mathlib.Nat.{add-zero}
 use native.Mathlib.Numerals.{add-one}
 use lib.Dec.{eqb, ltb, leb, eqb·suc-zero}
 use lib.ListN.{length, take, getD}
 use lib.Seq.{length-take-le}
 use borrow.Author.Tests.{eqb-true}
-use Rattle.definitions.specs.Lists.{all, isEmpty, last, ascending, ascendingFrom, notFalling, notFallingFrom, termsAscending, allBelow}
-use Rattle.definitions.specs.Segment.{SegmentRecord, Sections, byKind, cut, aliveWords, firstSegment}
+use Rattle.definitions.specs.Lists.{all, isEmpty, last, ascending, termsAscending, allBelow}
+use Rattle.definitions.specs.Segment.{SegmentRecord, Sections, cut, aliveWords, firstSegment}
 use Rattle.definitions.specs.Row.{hasAliveSet, noType}
 use Rattle.definitions.specs.Types.{isKnownType, hasTerms, BoolType}
 use Rattle.definitions.specs.Answer.{codesKnown, noColumnIsBare, idsFit, offsetsFit, emptyFits, fullFits, optionalFits, oldFits, newFits, listsFit, valuesFit, bitPastRows}
 use Rattle.lists.proofs.Numbers.{leb-suc}
 use Rattle.lists.proofs.Lists.{empty-length, all-ext}
 use Rattle.lists.proofs.Cuts.{cut-length}
+use Rattle.segment.specs.Kind.{byIndex}
+use Rattle.segment.proofs.Kind.{by-index}
 use Rattle.term_reader.specs.Read.{termsRise}
-use Rattle.segment_fit.specs.Fits.{risesFrom, rises, lastOf, bareCounts, fitsCodes, fitsIds, fitsOffsets, fitsEmpty, fitsFull, fitsOptional, fitsOld, fitsNew, fitsLists, fitsWords, fitsTerms, fitsValues, pastRows}
+use Rattle.segment_fit.specs.Fits.{rises, lastOf, bareCounts, fitsCodes, fitsIds, fitsOffsets, fitsEmpty, fitsFull, fitsOptional, fitsNew, fitsLists, fitsWords, fitsTerms, fitsValues, pastRows}
 
 -- ---- lists
 
@@ -27,26 +28,6 @@ empty-take n xs h = empty-length (take n xs) ∙ ap (λ (k : ℕ). eqb k 0) (len
 
 empty-cut : (n : ℕ) (xs bytes : List ℕ) → n ≤ length xs → isEmpty (cut (take n xs) bytes) ≡ eqb n 0
 empty-cut n xs bytes h = empty-length (cut (take n xs) bytes) ∙ ap (λ (k : ℕ). eqb k 0) (cut-length (take n xs) bytes ∙ length-take-le n xs h)
-
-rises-from : (m : ℕ) (ns : List ℕ) → risesFrom 1 m ns ≡ ascendingFrom m ns
-unfolding risesFrom
-rises-from m [] = refl
-rises-from m (n ∷ ns) = ap₂ (λ (a b : Bool). a && b) (ap (λ (k : ℕ). leb k n) (add-one m)) (rises-from n ns)
-
-rises-up : (xs : List ℕ) → rises 1 xs ≡ ascending xs
-unfolding rises
-rises-up [] = refl
-rises-up (x ∷ xs) = rises-from x xs
-
-falls-from : (m : ℕ) (ns : List ℕ) → risesFrom 0 m ns ≡ notFallingFrom m ns
-unfolding risesFrom
-falls-from m [] = refl
-falls-from m (n ∷ ns) = ap₂ (λ (a b : Bool). a && b) (ap (λ (k : ℕ). leb k n) (add-zero m)) (falls-from n ns)
-
-rises-flat : (xs : List ℕ) → rises 0 xs ≡ notFalling xs
-unfolding rises
-rises-flat [] = refl
-rises-flat (x ∷ xs) = falls-from x xs
 
 -- ---- tests in another sequence
 
@@ -83,10 +64,10 @@ codes-first r s i o v t =
 
 module _ (rows n : ℕ) (ids offsets values : List ℕ) (v : length values ≡ n) where
   ids-is : ascending ids && all (λ k. ltb k rows) ids ≡ fitsIds rows ids
-  unfolding fitsIds allBelow
-  ids-is = rw (rises-up ids)
+  unfolding fitsIds allBelow rises
+  ids-is = refl
 
-  offsets-is : eqb (getD offsets 0 1) 0 && eqb (last offsets) (length values) ≡ fitsOffsets n offsets
+  pub offsets-is : eqb (getD offsets 0 1) 0 && eqb (last offsets) (length values) ≡ fitsOffsets n offsets
   unfolding fitsOffsets lastOf
   offsets-is = rw v
 
@@ -102,27 +83,23 @@ module _ (rows n : ℕ) (ids offsets values : List ℕ) (v : length values ≡ n
   unfolding fitsOptional
   optional-is = rw (ids-is, empty-length offsets, v) (rotate3 (fitsIds rows ids) (eqb (length offsets) 0) (eqb n (length ids)))
 
-  old-is : isEmpty ids && eqb (length offsets) (suc rows) && (eqb (getD offsets 0 1) 0 && eqb (last offsets) (length values)) && notFalling offsets ≡ fitsOld rows n ids offsets
-  unfolding fitsOld
-  old-is = rw (empty-length ids, offsets-is, ← rises-flat offsets, ← add-one rows) (assoc4 (eqb (length ids) 0) (eqb (length offsets) (rows + 1)) (fitsOffsets n offsets) (rises 0 offsets))
-
   new-is : (ascending ids && all (λ k. ltb k rows) ids) && eqb (length offsets) (suc (length ids)) && (eqb (getD offsets 0 1) 0 && eqb (last offsets) (length values)) && ascending offsets ≡ fitsNew rows n ids offsets
-  unfolding fitsNew
-  new-is = rw (ids-is, offsets-is, ← rises-up offsets, ← add-one (length ids)) (rotate4 (fitsIds rows ids) (eqb (length offsets) (length ids + 1)) (fitsOffsets n offsets) (rises 1 offsets))
+  unfolding fitsNew rises
+  new-is = rw (ids-is, offsets-is, ← add-one (length ids)) (rotate4 (fitsIds rows ids) (eqb (length offsets) (length ids + 1)) (fitsOffsets n offsets) (ascending offsets))
 
-pub lists-first : (r : SegmentRecord) (s : Sections) → r .values ≤ length (s .values) → listsFit (firstSegment r s) ≡ fitsLists r (take (r .ids) (s .ids)) (take (r .offsets) (s .offsets))
+pub lists-first : (r : SegmentRecord) (s : Sections) → eqb (r .kind) 3 ≡ false → r .values ≤ length (s .values) → listsFit (firstSegment r s) ≡ fitsLists r (take (r .ids) (s .ids)) (take (r .offsets) (s .offsets))
 unfolding firstSegment fitsLists listsFit idsFit offsetsFit emptyFits fullFits optionalFits oldFits newFits
-lists-first r s h =
+lists-first r s old h =
     let i = take (r .ids) (s .ids) in
     let o = take (r .offsets) (s .offsets) in
     let w = take (r .values) (s .values) in
     let v = length-take-le (r .values) (s .values) h in
-    λ j.
-    byKind (r .kind)
+    by-index (r .kind) (emptyFits (firstSegment r s)) (fullFits (firstSegment r s)) (optionalFits (firstSegment r s)) (oldFits (firstSegment r s)) (newFits (firstSegment r s)) old
+    ∙ λ j.
+    byIndex (r .kind)
     (empty-is (r .rows) (r .values) i o w v j)
     (full-is (r .rows) (r .values) i o w v j)
     (optional-is (r .rows) (r .values) i o w v j)
-    (old-is (r .rows) (r .values) i o w v j)
     (new-is (r .rows) (r .values) i o w v j)
 
 -- ---- 5

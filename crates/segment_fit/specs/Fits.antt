@@ -1,25 +1,23 @@
 -- The checks of one segment, over just the numbers and lists that each reads, in the sequence of the code. proofs/Own.antt says that they are the
 -- definitions' own. Assumes nothing.
 use Prim.Native.Nat.{ℕ, _+_, _*_}
-use mathlib.Core.List.{List, [], _∷_}
+use mathlib.Core.List.{List}
 use mathlib.Core.Bool.{Bool, true, _&&_, _||_, cond, not}
 use lib.ListN.{length, getD}
 use lib.Dec.{eqb, ltb, leb}
-use Rattle.definitions.specs.Lists.{any, allBelow, last, upTo}
-use Rattle.definitions.specs.Segment.{SegmentRecord, byKind}
+use Rattle.definitions.specs.Lists.{any, allBelow, ascending, ascendingFrom, last, upTo}
+use Rattle.definitions.specs.Segment.{SegmentRecord}
 use Rattle.definitions.specs.Row.{bitAt, noType}
 use Rattle.definitions.specs.Types.{isKnownType, hasTerms, BoolType}
+use Rattle.segment.specs.Kind.{byIndex}
 use Rattle.term_reader.specs.Read.{termsRise}
 
--- each element is at least step above the one before it
-unfoldable pub risesFrom : ℕ → ℕ → List ℕ → Bool
-risesFrom step m [] = true
-risesFrom step m (n ∷ ns) = leb (m + step) n && risesFrom step n ns
+-- the definitions' ascending lists, kept shut
+unfoldable pub risesFrom : ℕ → List ℕ → Bool
+risesFrom m ns = ascendingFrom m ns
 
-unfoldable pub rises : ℕ → List ℕ → Bool
-unfolding risesFrom
-rises step [] = true
-rises step (n ∷ ns) = risesFrom step n ns
+unfoldable pub rises : List ℕ → Bool
+rises ns = ascending ns
 
 unfoldable pub lastOf : List ℕ → ℕ
 lastOf xs = last xs
@@ -35,7 +33,7 @@ fitsCodes r = isKnownType (r .type) && (ltb (r .kind) 5 && (ltb (r .flag) 2 && (
 -- ---- 4
 
 unfoldable pub fitsIds : ℕ → List ℕ → Bool
-fitsIds rows ids = rises 1 ids && allBelow rows ids
+fitsIds rows ids = rises ids && allBelow rows ids
 
 unfoldable pub fitsOffsets : ℕ → List ℕ → Bool
 fitsOffsets values offsets = eqb (getD offsets 0 1) 0 && eqb (lastOf offsets) values
@@ -49,19 +47,15 @@ fitsFull rows values ids offsets = eqb (length ids) 0 && (eqb (length offsets) 0
 unfoldable pub fitsOptional : ℕ → ℕ → List ℕ → List ℕ → Bool
 fitsOptional rows values ids offsets = eqb (length offsets) 0 && (eqb values (length ids) && fitsIds rows ids)
 
-unfoldable pub fitsOld : ℕ → ℕ → List ℕ → List ℕ → Bool
-fitsOld rows values ids offsets = eqb (length ids) 0 && (eqb (length offsets) (rows + 1) && (fitsOffsets values offsets && rises 0 offsets))
-
 unfoldable pub fitsNew : ℕ → ℕ → List ℕ → List ℕ → Bool
-fitsNew rows values ids offsets = eqb (length offsets) (length ids + 1) && (fitsOffsets values offsets && (rises 1 offsets && fitsIds rows ids))
+fitsNew rows values ids offsets = eqb (length offsets) (length ids + 1) && (fitsOffsets values offsets && (rises offsets && fitsIds rows ids))
 
 unfoldable pub fitsLists : SegmentRecord → List ℕ → List ℕ → Bool
 fitsLists r ids offsets =
-    byKind (r .kind)
+    byIndex (r .kind)
     (fitsEmpty (r .values) ids offsets)
     (fitsFull (r .rows) (r .values) ids offsets)
     (fitsOptional (r .rows) (r .values) ids offsets)
-    (fitsOld (r .rows) (r .values) ids offsets)
     (fitsNew (r .rows) (r .values) ids offsets)
 
 -- ---- 5

@@ -7,23 +7,22 @@ ghost use lib.ListN.{length};
 ghost use lib.Dec.{eqb};
 ghost use Rattle.definitions.specs.Lists.{sum};
 ghost use Rattle.segment.specs.Records.{recordIn};
-ghost use Rattle.segment_fit.specs.Fits.{rises, lastOf, fitsCodes, bareCounts, fitsIds, fitsOffsets, fitsEmpty, fitsFull, fitsOptional, fitsOld, fitsNew, fitsLists, fitsWords, fitsTerms, fitsValues, pastRows, fitsAlive};
+ghost use Rattle.segment_fit.specs.Fits.{rises, lastOf, fitsCodes, bareCounts, fitsIds, fitsOffsets, fitsEmpty, fitsFull, fitsOptional, fitsNew, fitsLists, fitsWords, fitsTerms, fitsValues, pastRows, fitsAlive};
 
 // ---- scans
 
-// Whether each number is at least step above the one before it.
-fn rises(xs: &[u32], step: usize) -> bool
-    requires { ⌜ step ≤ 1 ⌝ }
-    ensures { λ r. ⌜ r ≡ rises step (now (xs .entry)) ⌝ }
+// Whether each number is above the one before it.
+fn rises(xs: &[u32]) -> bool
+    ensures { λ r. ⌜ r ≡ rises (now (xs .entry)) ⌝ }
 {
     if xs.len() == 0 {
         return true;
     }
-    let mut prev = segment::wide(xs[0]);
+    let mut prev = xs[0];
     let mut i: usize = 1;
     while i < xs.len() {
-        let x = segment::wide(xs[i]);
-        if x < prev + step {
+        let x = xs[i];
+        if x <= prev {
             return false;
         }
         prev = x;
@@ -87,7 +86,7 @@ pub fn codes_fit(r: segment::Record) -> bool
 fn ids_fit(ids: &[u32], rows: u32) -> bool
     ensures { λ r. ⌜ r ≡ fitsIds rows (now (ids .entry)) ⌝ }
 {
-    if !rises(ids, 1) {
+    if !rises(ids) {
         return false;
     }
     if ids.len() == 0 {
@@ -97,7 +96,7 @@ fn ids_fit(ids: &[u32], rows: u32) -> bool
 }
 
 // The offsets begin with 0 and end with the number of values.
-fn offsets_fit(offsets: &[u32], values: u32) -> bool
+pub fn offsets_fit(offsets: &[u32], values: u32) -> bool
     ensures { λ r. ⌜ r ≡ fitsOffsets values (now (offsets .entry)) ⌝ }
 {
     if offsets.len() == 0 {
@@ -145,21 +144,6 @@ fn optional_fits(rows: u32, values: u32, ids: &[u32], offsets: &[u32]) -> bool
     ids_fit(ids, rows)
 }
 
-fn old_fits(rows: u32, values: u32, ids: &[u32], offsets: &[u32]) -> bool
-    ensures { λ r. ⌜ r ≡ fitsOld rows values (now (ids .entry)) (now (offsets .entry)) ⌝ }
-{
-    if ids.len() != 0 {
-        return false;
-    }
-    if offsets.len() != segment::wide(rows) + 1 {
-        return false;
-    }
-    if !offsets_fit(offsets, values) {
-        return false;
-    }
-    rises(offsets, 0)
-}
-
 fn new_fits(rows: u32, values: u32, ids: &[u32], offsets: &[u32]) -> bool
     ensures { λ r. ⌜ r ≡ fitsNew rows values (now (ids .entry)) (now (offsets .entry)) ⌝ }
 {
@@ -169,13 +153,13 @@ fn new_fits(rows: u32, values: u32, ids: &[u32], offsets: &[u32]) -> bool
     if !offsets_fit(offsets, values) {
         return false;
     }
-    if !rises(offsets, 1) {
+    if !rises(offsets) {
         return false;
     }
     ids_fit(ids, rows)
 }
 
-// Check 4 of one segment.
+// Check 4 of one segment; none of kind 3 gets here.
 pub fn lists_fit(r: segment::Record, ids: &[u32], offsets: &[u32]) -> bool
     ensures { λ x. ⌜ x ≡ fitsLists (recordIn r) (now (ids .entry)) (now (offsets .entry)) ⌝ }
 {
@@ -187,9 +171,6 @@ pub fn lists_fit(r: segment::Record, ids: &[u32], offsets: &[u32]) -> bool
     }
     if r.kind == 2 {
         return optional_fits(r.rows, r.values, ids, offsets);
-    }
-    if r.kind == 3 {
-        return old_fits(r.rows, r.values, ids, offsets);
     }
     new_fits(r.rows, r.values, ids, offsets)
 }

@@ -16,7 +16,7 @@ use Rattle.definitions.specs.Segment.{Segment, SegmentRecord, Sections, aliveWo
 use Rattle.definitions.specs.Row.{rowValues, hasAliveSet, isAlive, aliveRows}
 use Rattle.definitions.specs.Types.{hasTerms, BoolType}
 use Rattle.definitions.specs.Join.{absent, isUsed}
-use Rattle.definitions.specs.Answer.{total, listsFit, valuesFit}
+use Rattle.definitions.specs.Answer.{total, indexFits, valuesFit}
 use Rattle.segment.specs.Records.{recordsOf, sectionsIn, startAt, recordAt}
 use Rattle.segment.proofs.At.{sectionsAt, start-mono, start-total, segment-is, segments-many}
 use Rattle.runs.specs.Put.{Below}
@@ -134,7 +134,7 @@ ordinals-below s n fit pos e k h =
     pick false (t ∷ ts) z p o = absurd p
 
 marking-first : (q : SegmentRecord) (rs : List SegmentRecord) (s : ℕ) (ids offsets values lengths bytes alive : List ℕ)
-    → T (listsFit (firstSegment q (sectionsAt s rs (sectionsIn ids offsets values lengths bytes alive)))) → T (valuesFit (firstSegment q (sectionsAt s rs (sectionsIn ids offsets values lengths bytes alive))))
+    → T (indexFits (firstSegment q (sectionsAt s rs (sectionsIn ids offsets values lengths bytes alive)))) → T (valuesFit (firstSegment q (sectionsAt s rs (sectionsIn ids offsets values lengths bytes alive))))
     → length (firstSegment q (sectionsAt s rs (sectionsIn ids offsets values lengths bytes alive)) .terms) ≡ q .terms
     → total aliveWords (take s rs) + aliveWords q ≤ length alive
     → q .flag ≡ 1 → 0 < q .terms
@@ -173,7 +173,7 @@ pub columns-of : (records : List (List ℕ)) (held ids offsets values lengths by
     → startAt (λ r. r .values) records (length records) ≤ length values
     → startAt aliveWords records (length records) ≤ length alive
     → posAt records (length records) ≤ length lengths
-    → T (all listsFit (segmentsFrom (recordsOf records) (sectionsIn ids offsets values lengths bytes alive)))
+    → T (all indexFits (segmentsFrom (recordsOf records) (sectionsIn ids offsets values lengths bytes alive)))
     → T (all valuesFit (segmentsFrom (recordsOf records) (sectionsIn ids offsets values lengths bytes alive)))
     → Columns records held ids offsets values alive
 columns-of records held ids offsets values lengths bytes alive f i o v w t lists ords =
@@ -197,7 +197,7 @@ columns-of records held ids offsets values lengths bytes alive f i o v w t lists
     usable : (s : ℕ) → s < length records → recordAt records s .flag ≡ 1 → 0 < countAt records s
         → Marking (getD (columnsOf records ids offsets values alive) s absent .kind) (getD (columnsOf records ids offsets values alive) s absent .rows) (getD (columnsOf records ids offsets values alive) s absent .ids) (getD (columnsOf records ids offsets values alive) s absent .offsets) (getD (columnsOf records ids offsets values alive) s absent .values) (getD (columnsOf records ids offsets values alive) s absent .alive) (countAt records s)
     usable s h e pos =
-        marking-first (recordAt records s) (recordsOf records) s ids offsets values lengths bytes alive (at listsFit lists s h) (at valuesFit ords s h)
+        marking-first (recordAt records s) (recordsOf records) s ids offsets values lengths bytes alive (at indexFits lists s h) (at valuesFit ords s h)
         (terms-first (recordAt records s) (recordsOf records) s x (subst (λ (n : ℕ). n + countAt records s ≤ length lengths) (start-total (λ r. r .terms) records s (omega arith)) (omega (arith, t, start-mono (λ r. r .terms) records (suc s) (length records) h))))
         (subst (λ (n : ℕ). n + aliveWords (recordAt records s) ≤ length alive) (start-total aliveWords records s (omega arith)) (omega (arith, w, start-mono aliveWords records (suc s) (length records) h)))
         e pos (getD (columnsOf records ids offsets values alive) s absent) (bare-is s h)

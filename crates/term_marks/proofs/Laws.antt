@@ -107,14 +107,14 @@ module _ (kind : ℕ) (ids offsets values alive : List ℕ) where
   rows-start rows m = ap (λ (n : ℕ). setAll (used 0 n) m) (let w : rows - 0 ≡ rows = omega arith in w)
 
 -- an ordinal is listed if an alive row uses it
-used-elem : (s : Segment) (k row n : ℕ) → hasAliveSet s ≡ true
+used-elem : (s : Segment) (k row n : ℕ) → eqb (s .kind) 3 ≡ false → hasAliveSet s ≡ true
     → elem k (usedFrom (s .kind) (s .ids) (s .offsets) (s .values) (s .alive) row n) ≡ any (λ r. elem k (rowValues s r)) (filter (isAlive s) (upFrom row n))
 unfolding usedFrom usedBy isAlive
-used-elem s k row zero h = refl
-used-elem s k row (suc n) h =
+used-elem s k row zero new h = refl
+used-elem s k row (suc n) new h =
     any-append (eqb k) (cond (bitAt (s .alive) row) (slice (startOf (s .kind) (s .ids) (s .offsets) row) (endOf (s .kind) (s .ids) (s .offsets) row) (s .values)) []) (usedFrom (s .kind) (s .ids) (s .offsets) (s .values) (s .alive) (suc row) n)
-    ∙ ap (λ (l : List ℕ). elem k (cond (bitAt (s .alive) row) l []) || elem k (usedFrom (s .kind) (s .ids) (s .offsets) (s .values) (s .alive) (suc row) n)) (sym (row-slice s row))
-    ∙ ap (λ (b : Bool). elem k (cond (bitAt (s .alive) row) (rowValues s row) []) || b) (used-elem s k (suc row) n h)
+    ∙ ap (λ (l : List ℕ). elem k (cond (bitAt (s .alive) row) l []) || elem k (usedFrom (s .kind) (s .ids) (s .offsets) (s .values) (s .alive) (suc row) n)) (sym (row-slice s row new))
+    ∙ ap (λ (b : Bool). elem k (cond (bitAt (s .alive) row) (rowValues s row) []) || b) (used-elem s k (suc row) n new h)
     ∙ go (bitAt (s .alive) row)
     ∙ ap (λ (b : Bool). any (λ r. elem k (rowValues s r)) (cond (cond b (bitAt (s .alive) row) true) (row ∷ filter (isAlive s) (upFrom (suc row) n)) (filter (isAlive s) (upFrom (suc row) n)))) (sym h)
   where
@@ -142,15 +142,15 @@ module _ (held : ℕ) (s : Segment) (m : List ℕ) (z : m ≡ replicate (length 
   unfolding marksIn
   marks-empty e = z ∙ ap (λ (n : ℕ). replicate n 0) e ∙ ap (λ (n : ℕ). map (λ k. cond (eqb held 0) 0 (bit (isKept s k))) (upTo n)) (sym e)
 
-  marks-used : (held ≡ 0 → ⊥) → s .flag ≡ 1 → setAll (usedFrom (s .kind) (s .ids) (s .offsets) (s .values) (s .alive) 0 (s .rows)) m ≡ marksIn held s (length m)
+  marks-used : (held ≡ 0 → ⊥) → s .flag ≡ 1 → eqb (s .kind) 3 ≡ false → setAll (usedFrom (s .kind) (s .ids) (s .offsets) (s .values) (s .alive) 0 (s .rows)) m ≡ marksIn held s (length m)
   unfolding marksIn isKept isUsed aliveRows
-  marks-used d e =
+  marks-used d e new =
       ext-getD 0 (setAll us m) (map f (upTo (length m))) (set-length us m ∙ sym (up-length f (length m)))
       (λ k h.
       let l : k < length m = subst (λ (n : ℕ). k < n) (set-length us m) h in
       set-at us m k l
       ∙ ap (cond (elem k us) 1) (ap (λ (x : List ℕ). getD x k 0) z ∙ getD-replicate (length m) k 0 0 l)
-      ∙ ap bit (used-elem s k 0 (s .rows) has)
+      ∙ ap bit (used-elem s k 0 (s .rows) new has)
       ∙ sym (kept k)
       ∙ ap f (let w : k ≡ 0 + k = omega arith in w)
       ∙ sym (up-at f 0 0 (length m) k l))
@@ -169,10 +169,10 @@ module _ (held : ℕ) (s : Segment) (m : List ℕ) (z : m ≡ replicate (length 
           ap (λ (b : Bool). cond b 0 (bit (cond (hasAliveSet s) (any (λ r. elem k (rowValues s r)) (filter (isAlive s) (upTo (s .rows)))) true))) (ne-eqb held 0 d)
           ∙ ap (λ (b : Bool). bit (cond b (any (λ r. elem k (rowValues s r)) (filter (isAlive s) (upTo (s .rows)))) true)) has
 
-pub marks-rows : (held : ℕ) (s : Segment) (m m′ : List ℕ) (kind : ℕ) → m ≡ replicate (length m) 0 → (held ≡ 0 → ⊥) → s .flag ≡ 1 → kind ≡ s .kind
+pub marks-rows : (held : ℕ) (s : Segment) (m m′ : List ℕ) (kind : ℕ) → m ≡ replicate (length m) 0 → (held ≡ 0 → ⊥) → s .flag ≡ 1 → eqb (s .kind) 3 ≡ false → kind ≡ s .kind
     → m′ ≡ setAll (usedFrom kind (s .ids) (s .offsets) (s .values) (s .alive) 0 (s .rows)) m → m′ ≡ marksIn held s (length m)
-marks-rows held s m m′ kind z d e k g =
-    g ∙ ap (λ (n : ℕ). setAll (usedFrom n (s .ids) (s .offsets) (s .values) (s .alive) 0 (s .rows)) m) k ∙ marks-used held s m z d e
+marks-rows held s m m′ kind z d e new k g =
+    g ∙ ap (λ (n : ℕ). setAll (usedFrom n (s .ids) (s .offsets) (s .values) (s .alive) 0 (s .rows)) m) k ∙ marks-used held s m z d e new
 
 pub marks-all : (held : ℕ) (s : Segment) (n : ℕ) → (held ≡ 0 → ⊥) → (s .flag ≡ 1 → ⊥) → replicate n 1 ≡ marksIn held s n
 unfolding marksIn isKept

@@ -15,9 +15,9 @@ use Rattle.definitions.specs.Segment.{Segment, SegmentRecord, Sections, Input, 
 use Rattle.definitions.specs.Row.{bitAt, isAlive, aliveRows, rowValues, isPresent, noType}
 use Rattle.definitions.specs.Types.{isKnownType, DateTime}
 use Rattle.definitions.specs.Checks.{Check, firstOf, Passed}
-use Rattle.definitions.specs.Answer.{total, segmentCodesWrong, codesWrong, aliveWrong, listsFit, bitPastRows, aliveAddresses, segmentChecks, plainChecks, sevenChecks}
+use Rattle.definitions.specs.Answer.{total, segmentCodesWrong, codesWrong, aliveWrong, indexFits, bitPastRows, aliveAddresses, segmentChecks, plainChecks, checksToSeven}
 use Rattle.definitions.specs.TimeOrder.{TimeInput, timeOf, timesWrong, timeOwnChecks, timeChecks, timeAnswer}
-use Rattle.definitions.proofs.Accept.{lists-fit}
+use Rattle.definitions.proofs.Accept.{index-fits}
 use Rattle.definitions.proofs.Checks.{first-stays, first-passed, all-passed, passes}
 use Rattle.definitions.proofs.TimeOrder.{filter-count, alive-total}
 use Rattle.segment.specs.Lent.{workingOnly}
@@ -29,14 +29,14 @@ use Rattle.time_checks.proofs.Several.{several}
 use Rattle.definitions.proofs.Lists.{mem-upTo, any-false}
 use Rattle.lists.proofs.Tests.{taken, other, neither}
 
--- ---- 1 to 7
+-- ---- up to 7
 
 -- the time order's input as that of an ordered join with no required type
 abbrev pub asOrdered : TimeInput → Input
 asOrdered i = record { mode = 1; required = noType; records = i .records; sections = i .sections; addresses = []; space = workingOnly 0 }
 
--- 1 to 7 ask the same of both
-pub plain-seven : (i : TimeInput) → sevenChecks (asOrdered i) ≡ plainChecks (i .records) (i .sections)
+-- the checks up to 7 ask the same of both
+pub plain-seven : (i : TimeInput) → checksToSeven (asOrdered i) ≡ plainChecks (i .records) (i .sections)
 unfolding codesWrong aliveWrong segmentsOf isKnownType
 plain-seven i =
     let ss = segmentsFrom (i .records) (i .sections) in
@@ -54,7 +54,7 @@ wrong-right false true true false = refl
 wrong-right false true false b = refl
 wrong-right false false a b = refl
 
-times-wrong : (s : Segment) → T (listsFit s)
+times-wrong : (s : Segment) → T (indexFits s)
     → (isPresent s && not (eqb (s .type) DateTime)) || any (λ r. ltb 1 (length (rowValues s r))) (upTo (s .rows)) || not (notFalling (map timeOf (s .values)))
     ≡ not ((eqb (s .type) noType || eqb (s .type) DateTime) && (singles (s .offsets) && timesRise (s .values)))
 unfolding timesRise
@@ -66,12 +66,12 @@ not-and : (a b : Bool) → not a || not b ≡ not (a && b)
 not-and true b = refl
 not-and false b = refl
 
-pub times-all : (rs : List SegmentRecord) (s : Sections) → T (all listsFit (segmentsFrom rs s)) → timesWrong (segmentsFrom rs s) ≡ not (timesFrom rs (s .offsets) (s .values))
+pub times-all : (rs : List SegmentRecord) (s : Sections) → T (all indexFits (segmentsFrom rs s)) → timesWrong (segmentsFrom rs s) ≡ not (timesFrom rs (s .offsets) (s .values))
 unfolding timesWrong timesFrom fitsTimes firstSegment afterFirst
 times-all [] s h = refl
 times-all (r ∷ rs) s h =
     let f = firstSegment r s in
-    ap₂ (λ (a b : Bool). a || b) (times-wrong f (and-l (listsFit f) (all listsFit (segmentsFrom rs (afterFirst r s))) h)) (times-all rs (afterFirst r s) (and-r (listsFit f) (all listsFit (segmentsFrom rs (afterFirst r s))) h))
+    ap₂ (λ (a b : Bool). a || b) (times-wrong f (and-l (indexFits f) (all indexFits (segmentsFrom rs (afterFirst r s))) h)) (times-all rs (afterFirst r s) (and-r (indexFits f) (all indexFits (segmentsFrom rs (afterFirst r s))) h))
     ∙ not-and ((eqb (r .type) noType || eqb (r .type) DateTime) && (singles (take (r .offsets) (s .offsets)) && timesRise (take (r .values) (s .values)))) (timesFrom rs (drop (r .offsets) (s .offsets)) (drop (r .values) (s .values)))
 
 -- ---- 11
@@ -127,11 +127,11 @@ module _ (i : TimeInput) where
   abbrev plain : List Check
   plain = plainChecks (i .records) (i .sections)
 
-  pub stopped : (firstOf (sevenChecks (asOrdered i)) ≡ 0 → ⊥) → firstOf (sevenChecks (asOrdered i)) ≡ timeAnswer i
+  pub stopped : (firstOf (checksToSeven (asOrdered i)) ≡ 0 → ⊥) → firstOf (checksToSeven (asOrdered i)) ≡ timeAnswer i
   unfolding timeAnswer timeChecks
   stopped d = let e = ap firstOf (plain-seven i) in e ∙ first-stays plain (firstOf (timeOwnChecks i)) (λ z. d (e ∙ z))
 
-  module _ (e : firstOf (sevenChecks (asOrdered i)) ≡ 0) where
+  module _ (e : firstOf (checksToSeven (asOrdered i)) ≡ 0) where
     pub passed : Passed (plainChecks (i .records) (i .sections))
     passed = all-passed plain 0 tt (sym (ap firstOf (plain-seven i)) ∙ e) .0
 
@@ -146,7 +146,7 @@ module _ (i : TimeInput) where
     number-is = alive-number (i .records) (i .sections) (omega (arith, first-ready .exact .alive)) (passes passed 6)
 
     times-is : timesWrong (segmentsFrom (i .records) (i .sections)) ≡ not (timesFrom (i .records) (i .sections .offsets) (i .sections .values))
-    times-is = times-all (i .records) (i .sections) (lists-fit (i .records) (i .sections) passed)
+    times-is = times-all (i .records) (i .sections) (index-fits (i .records) (i .sections) passed)
 
     module _ {n : ℕ} (m : n ≡ aliveCountFrom (i .records) (i .sections .alive)) where
       alive-is-n : length (aliveAddresses (segmentsFrom (i .records) (i .sections))) ≡ n

@@ -13,11 +13,13 @@ use borrow.Author.Tests.{lt-ltb, le-ltb, leb-true, leb-false}
 use Rattle.definitions.specs.Lists.{any, elem, isEmpty, upTo, ascending}
 use Rattle.definitions.specs.Segment.{Segment, byKind}
 use Rattle.definitions.specs.Row.{rank, rowValues}
-use Rattle.definitions.specs.Answer.{listsFit, emptyFits, fullFits, optionalFits, oldFits, newFits, idsFit}
-use Rattle.definitions.proofs.Fit.{rank-lt}
+use Rattle.definitions.specs.Answer.{listsFit, indexFits, emptyFits, fullFits, optionalFits, oldFits, newFits, idsFit}
+use Rattle.definitions.proofs.Fit.{rank-lt, fit-lists}
+use Rattle.segment.specs.Kind.{byIndex}
+use Rattle.segment.proofs.Kind.{index-multi}
 use Rattle.column_index.specs.Lookup.{rankIn, Sound}
 use Rattle.column_index.proofs.Laws.{asc-tail, asc-at, asc-sorted, counted, row-slice}
-use Rattle.column_index.proofs.Sound.{earlierOf, cell-earlier, earlier-le, at-new, rank-suc}
+use Rattle.column_index.proofs.Sound.{earlierOf, cell-earlier, earlier-le, rank-suc}
 use Rattle.column_index.proofs.Walk.{fits-sound}
 use Rattle.time_checks.specs.Times.{singlesFrom, singles}
 use Rattle.definitions.proofs.Lists.{and3, mem-upTo, any-mem, any-none, upFrom-below}
@@ -74,7 +76,7 @@ module _ (ids : List ℕ) (asc : T (ascending ids)) (k : ℕ) (h : k < length id
 pub row-width : (s : Segment) → Sound (s .kind) (s .rows) (length (s .values)) (s .ids) (s .offsets) → (r : ℕ) → r < s .rows
     → length (rowValues s r) ≡ earlierOf (s .kind) (s .ids) (s .offsets) (suc r) - earlierOf (s .kind) (s .ids) (s .offsets) r
 row-width s so r h =
-    ap length (row-slice s r ∙ cell-earlier (s .kind) (s .ids) (s .offsets) (s .values) r (so .ascends))
+    ap length (row-slice s r (so .current) ∙ cell-earlier (s .kind) (s .ids) (s .offsets) (s .values) r (so .ascends))
     ∙ length-slice (earlierOf (s .kind) (s .ids) (s .offsets) r) (earlierOf (s .kind) (s .ids) (s .offsets) (suc r)) (s .values) (earlier-le so (suc r) h)
 
 module _ {kind rows n : ℕ} {ids offsets : List ℕ} (so : Sound kind rows n ids offsets) where
@@ -87,18 +89,17 @@ module _ {kind rows n : ℕ} {ids offsets : List ℕ} (so : Sound kind rows n id
       step j l = let t = singles-at 0 offsets j e l in omega arith
 
       go : (k : ℕ) (b : Bool) → kind ≡ k → elem r ids ≡ b
-          → byKind k 0 (suc r) (cond b (suc (rank r ids)) (rank r ids)) (getD offsets (suc r) 0) (getD offsets (cond b (suc (rank r ids)) (rank r ids)) 0)
-          - byKind k 0 r (rank r ids) (getD offsets r 0) (getD offsets (rank r ids) 0) ≤ 1
+          → byIndex k 0 (suc r) (cond b (suc (rank r ids)) (rank r ids)) (getD offsets (cond b (suc (rank r ids)) (rank r ids)) 0)
+          - byIndex k 0 r (rank r ids) (getD offsets (rank r ids) 0) ≤ 1
       go zero b p q = omega arith
       go (suc zero) b p q = omega arith
       go (suc (suc zero)) true p q = omega arith
       go (suc (suc zero)) false p q = omega arith
-      go (suc (suc (suc zero))) b p q = step r (omega (arith, so .old p .0))
-      go (suc (suc (suc (suc k)))) true p q =
-          rw (at-new k 0 r (rank r ids) (getD offsets r 0) (getD offsets (rank r ids) 0), at-new k 0 (suc r) (suc (rank r ids)) (getD offsets (suc r) 0) (getD offsets (suc (rank r ids)) 0))
-          (step (rank r ids) (let t = rank-lt r ids q in omega (arith, so .new (omega arith) .1)))
-      go (suc (suc (suc (suc k)))) false p q =
-          rw (at-new k 0 r (rank r ids) (getD offsets r 0) (getD offsets (rank r ids) 0), at-new k 0 (suc r) (rank r ids) (getD offsets (suc r) 0) (getD offsets (rank r ids) 0))
+      go (suc (suc (suc k))) true p q =
+          rw (index-multi k 0 r (rank r ids) (getD offsets (rank r ids) 0), index-multi k 0 (suc r) (suc (rank r ids)) (getD offsets (suc (rank r ids)) 0))
+          (step (rank r ids) (let t = rank-lt r ids q in omega (arith, so .multi (omega arith) .1)))
+      go (suc (suc (suc k))) false p q =
+          rw (index-multi k 0 r (rank r ids) (getD offsets (rank r ids) 0), index-multi k 0 (suc r) (rank r ids) (getD offsets (rank r ids) 0))
           (omega arith)
 
   -- a step above 1: the row that has it
@@ -107,21 +108,20 @@ module _ {kind rows n : ℕ} {ids offsets : List ℕ} (so : Sound kind rows n id
   many d0 d1 d2 (j, h, l) = go kind refl
     where
       go : (k : ℕ) → kind ≡ k
-          → (r : ℕ) × (r < rows) × (1 < byKind k 0 (suc r) (rank (suc r) ids) (getD offsets (suc r) 0) (getD offsets (rank (suc r) ids) 0) - byKind k 0 r (rank r ids) (getD offsets r 0) (getD offsets (rank r ids) 0))
+          → (r : ℕ) × (r < rows) × (1 < byIndex k 0 (suc r) (rank (suc r) ids) (getD offsets (rank (suc r) ids) 0) - byIndex k 0 r (rank r ids) (getD offsets (rank r ids) 0))
       go zero p = absurd (d0 p)
       go (suc zero) p = absurd (d1 p)
       go (suc (suc zero)) p = absurd (d2 p)
-      go (suc (suc (suc zero))) p = (j, omega (arith, so .old p .0), omega arith)
-      go (suc (suc (suc (suc k)))) p =
-          let q = so .new (omega arith) in
+      go (suc (suc (suc k))) p =
+          let q = so .multi (omega arith) in
           let i : j < length ids = omega (arith, q .1) in
           let r = getD ids j 0 in
           let inside : r < rows = ltb→lt r rows (all-at (λ n. ltb n rows) ids j 0 (q .0) i) in (
             r,
             inside,
             rw (
-              at-new k 0 r (rank r ids) (getD offsets r 0) (getD offsets (rank r ids) 0),
-              at-new k 0 (suc r) (rank (suc r) ids) (getD offsets (suc r) 0) (getD offsets (rank (suc r) ids) 0),
+              index-multi k 0 r (rank r ids) (getD offsets (rank r ids) 0),
+              index-multi k 0 (suc r) (rank (suc r) ids) (getD offsets (rank (suc r) ids) 0),
               rank-at ids (so .ascends) j i,
               rank-past ids (so .ascends) j i,
             )
@@ -130,14 +130,14 @@ module _ {kind rows n : ℕ} {ids offsets : List ℕ} (so : Sound kind rows n id
 
 -- ---- all rows
 
-module _ (s : Segment) (fit : T (listsFit s)) where
+module _ (s : Segment) (fit : T (indexFits s)) where
   so : Sound (s .kind) (s .rows) (length (s .values)) (s .ids) (s .offsets)
   so = fits-sound s fit
 
-  -- only kinds 3 and 4 have offsets
+  -- only kind 4 has offsets
   bare : (s .kind < 3) → s .offsets ≡ []
   unfolding listsFit emptyFits fullFits optionalFits
-  bare h = go (s .kind) fit h
+  bare h = go (s .kind) (fit-lists s fit) h
     where
       go : (k : ℕ) → T (byKind k (emptyFits s) (fullFits s) (optionalFits s) (oldFits s) (newFits s)) → k < 3 → s .offsets ≡ []
       go zero f h = none-is (s .offsets) (and3 (isEmpty (s .ids)) (isEmpty (s .offsets)) (isEmpty (s .values)) f .1)
@@ -152,8 +152,7 @@ module _ (s : Segment) (fit : T (listsFit s)) where
       go zero e = ap (λ (l : List ℕ). getD l 0 0) (bare (omega arith))
       go (suc zero) e = ap (λ (l : List ℕ). getD l 0 0) (bare (omega arith))
       go (suc (suc zero)) e = ap (λ (l : List ℕ). getD l 0 0) (bare (omega arith))
-      go (suc (suc (suc zero))) e = so .old e .1
-      go (suc (suc (suc (suc k)))) e = so .new (omega arith) .2
+      go (suc (suc (suc k))) e = so .multi (omega arith) .2
 
   pub several : any (λ r. ltb 1 (length (rowValues s r))) (upTo (s .rows)) ≡ not (singles (s .offsets))
   unfolding singles

@@ -1,4 +1,4 @@
-// The answers of the time order (added by document 01, "Time order"; no Rust file has it): the join's checks 1 to 7, the number of alive rows
+// The answers of the time order (added by document 01, "Time order"; no Rust file has it): the join's checks up to 7, the number of alive rows
 // for 11, and 12.
 ghost use mathlib.Core.Path.{_≡_};
 ghost use Prim.Native.Nat.{_<_, _≤_};
@@ -123,7 +123,7 @@ fn all_alive(records: &[[u32; 8]], alive: &[u64]) -> usize
 
 // ---- the answers
 
-// The first of the checks 1 to 7, 11 and 12 that fails, or 0; the output has place for so many addresses.
+// The first of the checks up to 7, 11 and 12 that fails, or 0; the output has place for so many addresses.
 pub fn answer(
     records: &[[u32; 8]],
     ids: &[u32],
@@ -136,7 +136,7 @@ pub fn answer(
 ) -> u32
     ensures { λ r. ⌜ r ≡ timeAnswer (lentTimes (now (records .entry)) (now (ids .entry)) (now (offsets .entry)) (now (values .entry)) (now (lengths .entry)) (now (bytes .entry)) (now (alive .entry)) space) ⌝ }
 {
-    let first = sections_fit::first_seven(
+    let first = sections_fit::first_to_seven(
         1,
         255,
         records,

@@ -15,7 +15,8 @@ use Rattle.definitions.specs.Row.{rowValues}
 use Rattle.definitions.specs.TimeOrder.{timeOf, keyOr, keyAfter}
 use Rattle.column_index.specs.Lookup.{Sound}
 use Rattle.column_index.proofs.Laws.{row-slice}
-use Rattle.column_index.proofs.Sound.{earlierOf, cell-earlier, earlier-zero, earlier-le, earlier-step, fall-step}
+use Rattle.column_index.proofs.Sound.{earlierOf, cell-earlier, earlier-zero, earlier-le, earlier-step}
+use Rattle.definitions.proofs.Slices.{fall-step}
 use Rattle.time_checks.proofs.Several.{row-width}
 use Rattle.time_cursors.specs.Cursors.{lastKey}
 use Rattle.definitions.proofs.Lists.{getD-in}
@@ -46,7 +47,7 @@ module _ (s : Segment) (so : Sound (s .kind) (s .rows) (length (s .values)) (s .
   key-earlier zero h = ap (lastKey (s .values)) (sym (earlier-zero so))
   key-earlier (suc n) h =
       go (earlierOf (s .kind) (s .ids) (s .offsets) n) (earlierOf (s .kind) (s .ids) (s .offsets) (suc n)) (earlier-step so n h) (earlier-le so (suc n) h)
-      (subst (λ (w : ℕ). w ≤ 1) (row-width s so n h) (single n h)) (row-slice s n ∙ cell-earlier (s .kind) (s .ids) (s .offsets) (s .values) n (so .ascends)) (key-earlier n (omega arith))
+      (subst (λ (w : ℕ). w ≤ 1) (row-width s so n h) (single n h)) (row-slice s n (so .current) ∙ cell-earlier (s .kind) (s .ids) (s .offsets) (s .values) n (so .ascends)) (key-earlier n (omega arith))
     where
       step : (c d : ℕ) → c ≤ d → d - c ≤ 1 → (d ≡ c) ⊎ (d ≡ suc c)
       step c d l w = pick (d - c) refl w

@@ -10,12 +10,12 @@ use lib.ListN.{length, getD}
 use lib.Dec.{T, ltb}
 use borrow.Author.Tests.{eq-eqb, ne-eqb, ltb-true, ltb-false}
 use Rattle.definitions.specs.Lists.{ascending}
-use Rattle.definitions.specs.Segment.{byKind}
+use Rattle.segment.specs.Kind.{byIndex}
+use Rattle.segment.proofs.Kind.{index-multi}
 use Rattle.definitions.specs.Row.{rank, bitAt}
 use Rattle.definitions.specs.TimeOrder.{timeOf}
 use Rattle.column_index.specs.Lookup.{rankIn}
 use Rattle.column_index.proofs.Laws.{asc-sorted, counted, below-rank}
-use Rattle.column_index.proofs.Sound.{at-new}
 use Rattle.time_cursors.specs.Cursors.{seek, aliveBit, nextRow, valuesUntil, lastKey, keyCursor}
 use lib.Arith.{lt-of-le-ne}
 use Rattle.definitions.proofs.Decode.{rank-zero as none-below}
@@ -133,20 +133,15 @@ module _ (kind : ℕ) (offsets : List ℕ) (row k : ℕ) where
   unfolding valuesUntil
   until-optional e = rw e
 
-  pub until-old : kind ≡ 3 → getD offsets (row + 1) 0 ≡ valuesUntil kind offsets row k
+  pub until-multi : 3 ≤ kind → getD offsets k 0 ≡ valuesUntil kind offsets row k
   unfolding valuesUntil
-  until-old e = rw e (ap (λ (n : ℕ). getD offsets n 0) (add-one row))
-
-  pub until-new : 4 ≤ kind → getD offsets k 0 ≡ valuesUntil kind offsets row k
-  unfolding valuesUntil
-  until-new h = go kind h
+  until-multi h = go kind h
     where
-      go : (n : ℕ) → 4 ≤ n → getD offsets k 0 ≡ byKind n 0 (suc row) k (getD offsets (suc row) 0) (getD offsets k 0)
+      go : (n : ℕ) → 3 ≤ n → getD offsets k 0 ≡ byIndex n 0 (suc row) k (getD offsets k 0)
       go zero h = absurd (omega arith)
       go (suc zero) h = absurd (omega arith)
       go (suc (suc zero)) h = absurd (omega arith)
-      go (suc (suc (suc zero))) h = absurd (omega arith)
-      go (suc (suc (suc (suc n)))) h = sym (at-new n 0 (suc row) k (getD offsets (suc row) 0) (getD offsets k 0))
+      go (suc (suc (suc n))) h = sym (index-multi n 0 (suc row) k (getD offsets k 0))
 
 -- ---- the cursor
 

@@ -1,5 +1,5 @@
 -- What the runs at a place give to each part of a row, and the row that the parts make. Assumes nothing.
-use Prim.Native.Nat.{ℕ, suc, _+_, _-_, _*_, _≤_, _<_}
+use Prim.Native.Nat.{ℕ, suc, _-_, _*_, _≤_, _<_}
 use native.Mathlib.Omega.{arith}
 use mathlib.Core.Path.{_≡_, refl, sym}
 use mathlib.Core.List.{List, [], _∷_}
@@ -48,11 +48,8 @@ module _ {place set ids offsets values alive : List ℕ} (t : Timed place set id
         pub row-small : n < 4294967296
         row-small = omega (arith, t .small)
 
-        pub old-ready : kindAt place ≡ 3 → n + 1 < length (offsetsAt place offsets)
-        old-ready q = omega (arith, t .sound .sound .old q .0)
-
-        pub new-ready : 4 ≤ kindAt place → j < length (offsetsAt place offsets)
-        new-ready q = omega (arith, t .sound .sound .new q .1, rank-fits (suc n) (idsAt place ids))
+        pub offsets-ready : 3 ≤ kindAt place → j < length (offsetsAt place offsets)
+        offsets-ready q = omega (arith, t .sound .sound .multi q .1, rank-fits (suc n) (idsAt place ids))
 
         module _ {m : ℕ} (g : m ≡ valuesUntil (kindAt place) (offsetsAt place offsets) n j) where
           pub values-ready : m ≤ length (valuesAt place values)

@@ -6,7 +6,8 @@ use mathlib.Core.List.{List, [], _∷_}
 use mathlib.Core.Bool.{Bool, true, cond}
 use lib.ListN.{length, getD}
 use lib.Dec.{eqb, ltb}
-use Rattle.definitions.specs.Segment.{Segment, byKind}
+use Rattle.definitions.specs.Segment.{Segment}
+use Rattle.segment.specs.Kind.{byIndex}
 use Rattle.definitions.specs.Row.{bitAt}
 use Rattle.definitions.specs.TimeOrder.{timeOf}
 use Rattle.column_index.specs.Lookup.{rankIn}
@@ -31,7 +32,7 @@ nextRow flag alive rows from = seek (aliveBit flag alive) from (rows - from)
 
 -- how many values stand before the end of the row; k ids are at most the row
 unfoldable pub valuesUntil : ℕ → List ℕ → ℕ → ℕ → ℕ
-valuesUntil kind offsets row k = byKind kind 0 (suc row) k (getD offsets (suc row) 0) (getD offsets k 0)
+valuesUntil kind offsets row k = byIndex kind 0 (suc row) k (getD offsets k 0)
 
 -- the key of the last of n times: the time, above 0, and 0 if there is none
 abbrev pub lastKey : List ℕ → ℕ → ℕ

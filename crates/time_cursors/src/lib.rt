@@ -47,8 +47,7 @@ fn ids_until(ids: &[u32], row: usize, k: usize) -> usize
 // How many values stand before the end of the row; k ids are at most the row.
 fn values_until(kind: usize, offsets: &[u32], row: usize, k: usize) -> usize
     requires { ⌜ row < 4294967296 ⌝ }
-    requires { ⌜ (kind ≡ 3 → row + 1 < length (now offsets)) ⌝ }
-    requires { ⌜ (4 ≤ kind → k < length (now offsets)) ⌝ }
+    requires { ⌜ (3 ≤ kind → k < length (now offsets)) ⌝ }
     ensures { λ r. ⌜ r ≡ valuesUntil kind (now (offsets .entry)) row k ⌝ }
 {
     if kind == 0 {
@@ -59,9 +58,6 @@ fn values_until(kind: usize, offsets: &[u32], row: usize, k: usize) -> usize
     }
     if kind == 2 {
         return k;
-    }
-    if kind == 3 {
-        return segment::wide(offsets[row + 1]);
     }
     segment::wide(offsets[k])
 }

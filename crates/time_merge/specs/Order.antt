@@ -30,7 +30,7 @@ placedSegments places alives ids offsets values alive = table (placed places ali
 unfoldable pub timeWritten : List Segment → List (List ℕ) → List (List ℕ)
 timeWritten ss out = written (map pairOf (timeOrder ss)) out
 
--- what the checks 1 to 7 say
+-- what the checks up to 7 say
 pub record Ready (places alives : List (List ℕ)) (ids offsets values alive : List ℕ) : Type 0 where
   pub few : length places ≤ 256
   pub both : length alives ≡ length places

@@ -14,9 +14,9 @@ use Rattle.definitions.specs.Row.{rowValues, isPresent}
 use Rattle.definitions.specs.Types.{DateTime}
 use Rattle.definitions.specs.Join.{absent}
 use Rattle.definitions.specs.Checks.{Passed}
-use Rattle.definitions.specs.Answer.{listsFit, aliveAddresses, plainChecks}
+use Rattle.definitions.specs.Answer.{indexFits, aliveAddresses, plainChecks}
 use Rattle.definitions.specs.TimeOrder.{TimeInput, timeOf, timeOrder, timesWrong, timeOwnChecks, timeChecks, timeAnswer}
-use Rattle.definitions.proofs.Accept.{lists-fit}
+use Rattle.definitions.proofs.Accept.{index-fits}
 use Rattle.definitions.proofs.Checks.{all-passed, passed-append, passes}
 use Rattle.definitions.proofs.TimeOrder.{order-length}
 use Rattle.segment.specs.Records.{recordsOf, sectionsIn, recordAt}
@@ -66,8 +66,8 @@ module _ (records : List (List ℕ)) (ids offsets values lengths bytes alive : L
     unfolding timeChecks
     later = (passes passed 11, passes passed 12)
 
-    lists : T (all listsFit ss)
-    lists = lists-fit (recordsOf records) (sectionsIn ids offsets values lengths bytes alive) plain
+    lists : T (all indexFits ss)
+    lists = index-fits (recordsOf records) (sectionsIn ids offsets values lengths bytes alive) plain
 
     held : Held records ids offsets values alive
     held = record { ids = omega (arith, first .exact .ids); offsets = omega (arith, first .exact .offsets); values = omega (arith, first .exact .values); words = omega (arith, first .exact .alive) }
@@ -89,8 +89,8 @@ module _ (records : List (List ℕ)) (ids offsets values lengths bytes alive : L
       set-is : getD (alivesOf records) k [] ≡ aliveAt records k
       set-is = table-at (aliveAt records) [] (length records) k h
 
-      fits : T (listsFit (getD ss k absent))
-      fits = all-at listsFit ss k absent lists k-there
+      fits : T (indexFits (getD ss k absent))
+      fits = all-at indexFits ss k absent lists k-there
 
       rows-small : getD ss k absent .rows < 4294967296
       rows-small = omega (arith, sum-at (λ (s : Segment). s .rows) ss k absent k-there, rows-all (recordsOf records) (sectionsIn ids offsets values lengths bytes alive), first .rows)

@@ -7,26 +7,26 @@ use native.Mathlib.Omega.{arith}
 use lib.ListN.{length}
 use Rattle.definitions.specs.Segment.{SegmentRecord, Sections, Address, Space, Input, segmentsOf}
 use Rattle.definitions.specs.Checks.{firstOf, Passed}
-use Rattle.definitions.specs.Answer.{total, codesWrong, aliveWrong, workingTooSmall, addressesWrong, sevenChecks, orderChecks, columnChecks, joinChecks, answer}
+use Rattle.definitions.specs.Answer.{total, codesWrong, aliveWrong, workingTooSmall, addressesWrong, checksToSeven, orderChecks, columnChecks, joinChecks, answer}
 use Rattle.definitions.proofs.Accept.{plain-passed}
 use Rattle.definitions.proofs.Checks.{first-stays, first-passed, all-passed}
 use Rattle.segment.specs.Lent.{workingOnly}
 use Rattle.sections_fit.proofs.Seven.{ready}
 use Rattle.merge_mapping.specs.Mapping.{rowsIn, addressesRight, roomEnough}
 use Rattle.merge_mapping.proofs.Own.{input-room, input-addresses, room-both}
-use Rattle.verdict.specs.Nine.{nineChecks, answerToNine}
+use Rattle.verdict.specs.Nine.{checksToNine, answerToNine}
 
 -- ---- what gives it
 
 module _ (i : Input) where
-  pub nine-first : {n : ℕ} → n ≡ firstOf (sevenChecks i) → (n ≡ 0 → ⊥) → n ≡ answerToNine i
+  pub nine-first : {n : ℕ} → n ≡ firstOf (checksToSeven i) → (n ≡ 0 → ⊥) → n ≡ answerToNine i
   unfolding answerToNine
-  nine-first e h = e ∙ first-stays (sevenChecks i) (firstOf (orderChecks i)) (λ z. h (e ∙ z))
+  nine-first e h = e ∙ first-stays (checksToSeven i) (firstOf (orderChecks i)) (λ z. h (e ∙ z))
 
-  module _ (p : Passed (sevenChecks i)) where
+  module _ (p : Passed (checksToSeven i)) where
     after : answerToNine i ≡ firstOf (orderChecks i)
     unfolding answerToNine
-    after = first-passed (sevenChecks i) (firstOf (orderChecks i)) p
+    after = first-passed (checksToSeven i) (firstOf (orderChecks i)) p
 
     pub nine-room : {b : Bool} {rows terms working : ℕ} → rows ≡ total rowsIn (i .records) → terms ≡ length (i .sections .termLengths) → working ≡ i .space .working
         → b ≡ roomEnough (i .mode) rows terms working → workingTooSmall i ≡ not b
@@ -51,19 +51,19 @@ room-rows mode rows terms working e t k n = let h = room-both mode rows terms wo
 -- ---- what it says
 
 module _ (i : Input) where
-  pub passed-nine : answerToNine i ≡ 0 → Passed (nineChecks i)
+  pub passed-nine : answerToNine i ≡ 0 → Passed (checksToNine i)
   unfolding answerToNine
-  passed-nine e = all-passed (nineChecks i) 0 tt e .0
+  passed-nine e = all-passed (checksToNine i) 0 tt e .0
 
   -- a refusal is the answer
   pub answer-nine : (answerToNine i ≡ 0 → ⊥) → answerToNine i ≡ answer i
   unfolding answerToNine joinChecks answer
-  answer-nine h = first-stays (nineChecks i) (firstOf (columnChecks i)) h
+  answer-nine h = first-stays (checksToNine i) (firstOf (columnChecks i)) h
 
   -- a pass leaves the answer to the later checks
   pub answer-rest : answerToNine i ≡ 0 → answer i ≡ firstOf (columnChecks i)
   unfolding joinChecks answer
-  answer-rest e = first-passed (nineChecks i) (firstOf (columnChecks i)) (passed-nine e)
+  answer-rest e = first-passed (checksToNine i) (firstOf (columnChecks i)) (passed-nine e)
 
 -- of the space lent, the checks up to 9 read the working bytes alone
 pub nine-space : (mode required : ℕ) (rs : List SegmentRecord) (s : Sections) (bs : List Address) (space : Space)

@@ -3,10 +3,10 @@ use Prim.Native.Nat.{ℕ}
 use mathlib.Core.List.{List, _++_}
 use Rattle.definitions.specs.Segment.{Input}
 use Rattle.definitions.specs.Checks.{Check, firstOf}
-use Rattle.definitions.specs.Answer.{sevenChecks, orderChecks}
+use Rattle.definitions.specs.Answer.{checksToSeven, orderChecks}
 
-abbrev pub nineChecks : Input → List Check
-nineChecks i = sevenChecks i ++ orderChecks i
+abbrev pub checksToNine : Input → List Check
+checksToNine i = checksToSeven i ++ orderChecks i
 
 unfoldable pub answerToNine : Input → ℕ
-answerToNine i = firstOf (nineChecks i)
+answerToNine i = firstOf (checksToNine i)

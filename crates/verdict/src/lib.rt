@@ -1,10 +1,10 @@
-// The first of the checks 1 to 9 that fails: what can be said of an input before its column is measured (columnar/merge/mod.rs; asserts become answers).
+// The first of the checks up to 9 that fails: what can be said of an input before its column is measured (columnar/merge/mod.rs; asserts become answers).
 ghost use mathlib.Core.Path.{_≡_};
 ghost use lib.ListN.{length, replicate};
 ghost use Rattle.segment.specs.Lent.{lentInput};
 ghost use Rattle.verdict.specs.Nine.{answerToNine};
 
-// The first of the checks 1 to 9 that fails, or 0. work is zero on return, whichever the answer.
+// The first of the checks up to 9 that fails, or 0. work is zero on return, whichever the answer.
 pub fn verdict(
     mode: u32,
     required: u32,
@@ -22,7 +22,7 @@ pub fn verdict(
     ensures { λ _. ⌜ now (work .exit) ≡ replicate (length (now (work .entry))) 0 ⌝ }
 {
     runs::zero(work);
-    let first = sections_fit::first_seven(
+    let first = sections_fit::first_to_seven(
         mode,
         required,
         records,

@@ -21,6 +21,10 @@
 //! The plain copy: the joined row ids (4 bytes each), offsets (4 bytes) and values (8 bytes), no
 //! more, each list by one copy_from_slice from where the joiner left it to a list of the same
 //! length already touched. Terms and map are not copied.
+//!
+//! The converter, for which the crate has no counterpart, is measured by itself, in the same rounds:
+//! the whole call, with all checks, into lists already touched that have place for an id and an offset
+//! of every row; and beside it a plain copy of the stored offsets.
 mod inputs;
 mod plot;
 mod report;
@@ -30,8 +34,9 @@ use std::time::Duration;
 use hook::{Captured, Mode};
 use tantivy_columnar::{ColumnarReader, ColumnarWriter, merge_columnar};
 
-use crate::ours::{Joiner, Lists};
-use crate::run::{corner, merge_order, segment_file};
+use crate::convert::{self, Space};
+use crate::ours::{Joiner, Lists, NewLists};
+use crate::run::{merge_order, segment_file};
 use crate::table::Lent;
 use crate::wire::{Input, Sections};
 use inputs::Line;
@@ -82,6 +87,51 @@ fn measure(line: Line, segs: usize, rows: u32) -> Measured {
         ours: per_row(1),
         copy: per_row(2),
         sums: [theirs.checksum(), checksum(ids, offsets, values)],
+    }
+}
+
+/// What was measured of the converter: numbers of rows, of rows with a value and of values, ns per
+/// row, checksums of the model's new ids and offsets and of the converter's.
+pub struct MeasuredConversion {
+    pub rows: usize,
+    pub ids: usize,
+    pub values: usize,
+    pub ours: f64,
+    pub copy: f64,
+    pub sums: [u64; 2],
+}
+
+fn measure_conversion(rows: u32) -> MeasuredConversion {
+    let old = inputs::stored(rows);
+    let new = convert::segment(&old);
+    let sections = convert::sections(&old);
+    let rows = rows as usize;
+    let mut lists = NewLists::new(Space { ids: rows, offsets: rows + 1 }, 1);
+    let mut joiner = library();
+    let repeats = (1_000_000 / rows.max(1)).clamp(1, 100) as u32;
+    let mut copy = PlainCopy::default();
+    let mut look = Duration::MAX;
+    let mut least = [Duration::MAX; 2];
+    for _ in 0..ROUNDS {
+        look = look.min(Clock::new().look);
+        let t = hook::now();
+        for _ in 0..repeats {
+            assert_eq!(joiner.convert(&sections, &mut lists), 0);
+        }
+        let times = [(hook::now() - t) / repeats, copy.time((&[], &old.offsets, &[]))];
+        least = std::array::from_fn(|i| least[i].min(times[i]));
+    }
+    let looks = [look / repeats, look / copy.copies];
+    let per_row = |i: usize| least[i].saturating_sub(looks[i]).as_nanos() as f64 / rows as f64;
+    let numbers: [usize; 2] = std::array::from_fn(|i| lists.record.lent()[3 + i] as usize);
+    let ours = checksum(&lists.ids.lent()[..numbers[0]], &lists.offsets.lent()[..numbers[1]], &[]);
+    MeasuredConversion {
+        rows,
+        ids: new.ids.len(),
+        values: old.values.len(),
+        ours: per_row(0),
+        copy: per_row(1),
+        sums: [checksum(&new.ids, &new.offsets, &[]), ours],
     }
 }
 
@@ -167,7 +217,6 @@ impl<'a> Theirs<'a> {
             line,
             readers: input.segs.iter().map(|s| ColumnarReader::open(segment_file(s)).unwrap()).collect(),
             column: Captured::default(),
-            // in the stacked corner one offset for each row
             spare32: vec![touched(joined + 1, 1), touched(joined + 1, 1)],
             spare64: vec![touched(values, 1)],
             file: touched(64 << 20, 1),
@@ -214,15 +263,11 @@ impl<'a> Theirs<'a> {
         });
     }
 
-    /// Of the last merge's lists in document 01's form: values as words, and without the crate's
-    /// repeated offsets in the stacked corner.
+    /// Of the last merge's lists in document 01's form: values as words.
     fn checksum(mut self) -> u64 {
         let ty = self.line.joined_type();
         for value in &mut self.column.values {
             *value = ColumnarWriter::internal_to_word(ty, *value);
-        }
-        if corner(self.input) {
-            self.column.offsets.dedup();
         }
         checksum(&self.column.ids, &self.column.offsets, &self.column.values)
     }

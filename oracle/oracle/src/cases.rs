@@ -1,4 +1,5 @@
-//! Document 01's log sheets C1 to C12: input, listing (document 01's; C5 is the corner).
+//! Document 01's log sheets C1 to C12, those of multivalued segments in kind 4 as document 02 has them:
+//! input, listing.
 use crate::wire::{Input, from_words};
 
 const SHEETS: &[(&str, &str, &str)] = &[
@@ -12,22 +13,22 @@ const SHEETS: &[(&str, &str, &str)] = &[
     ("C4", "0 1 255/0/3", "answer 0\ntype 1\nclass 1\nrows 3\nids 0\noffsets 0\nvalues 0\nterms 0\nmaps 0\n"),
     (
         "C5",
-        "0 255 1/3/3/off=0,2,2,3/val=7,8,9",
+        "0 255 1/4/3/ids=0,2/off=0,2,3/val=7,8,9",
         "answer 0\ntype 1\nclass 2\nrows 3\nids 2 0 2\noffsets 3 0 2 3\nvalues 3 7 8 9\nterms 0\nmaps 0\n",
     ),
     (
         "C6",
-        "1 255 1/3/3/off=0,2,2,3/val=7,8,9/alive=5 addr=0:2,0:0",
+        "1 255 1/4/3/ids=0,2/off=0,2,3/val=7,8,9/alive=5 addr=0:2,0:0",
         "answer 0\ntype 1\nclass 2\nrows 2\nids 2 0 1\noffsets 3 0 1 3\nvalues 3 9 7 8\nterms 0\nmaps 0\n",
     ),
     (
         "C7",
-        "1 255 1/3/3/off=0,2,2,3/val=7,8,9/alive=4 addr=0:2",
+        "1 255 1/4/3/ids=0,2/off=0,2,3/val=7,8,9/alive=4 addr=0:2",
         "answer 0\ntype 1\nclass 0\nrows 1\nids 0\noffsets 0\nvalues 1 9\nterms 0\nmaps 0\n",
     ),
     (
         "C8",
-        "1 255 1/3/3/off=0,2,2,3/val=7,8,9/alive=2 addr=0:1",
+        "1 255 1/4/3/ids=0,2/off=0,2,3/val=7,8,9/alive=2 addr=0:1",
         "answer 0\ntype 255\nclass 0\nrows 1\nids 0\noffsets 0\nvalues 0\nterms 0\nmaps 0\n",
     ),
     (
@@ -77,6 +78,7 @@ pub fn sheets() -> impl Iterator<Item = (&'static str, Input, &'static str)> {
 #[cfg(test)]
 mod tests {
     use super::*;
+    use crate::convert::{self, Converted, Outcome, Space};
     use crate::run;
     use crate::table;
     use crate::wire::{Sections, Seg, to_words};
@@ -98,17 +100,103 @@ mod tests {
                     assert_eq!(expected, "answer 10\n", "{name}");
                     assert!(text.starts_with("error: "), "{name}");
                 }
-                // document 01: "Rust 0 2 2 3"
-                Ok(l) if name == "C5" => {
-                    assert!(run::corner(&input));
-                    assert_eq!(l.print(), expected.replace("offsets 3 0 2 3", "offsets 4 0 2 2 3"));
-                }
-                Ok(l) => {
-                    assert!(!run::corner(&input));
-                    assert_eq!(l.print(), expected, "{name}");
-                }
+                Ok(l) => assert_eq!(l.print(), expected, "{name}"),
             }
         }
+    }
+
+    /// C5 to C8 as they were stored: refused as they are, and the same columns once converted. What
+    /// the crate makes of the stored segments differs by C5's repeated offset alone.
+    #[test]
+    fn stored_log_sheets() {
+        for (name, input, expected) in sheets().filter(|(name, ..)| ["C5", "C6", "C7", "C8"].contains(name)) {
+            let mut stored = input.clone();
+            let s = &mut stored.segs[0];
+            (s.kind, s.ids, s.offsets) = (3, vec![], vec![0, 2, 2, 3]);
+            assert_eq!(table::program(&stored.sections().encode()).print(), "answer 19\n", "{name}");
+            assert_eq!(convert::input(&stored), input, "{name}");
+            let mut theirs = run::column(&stored).unwrap();
+            if name == "C5" {
+                // document 01: "Rust 0 2 2 3"
+                assert_eq!(theirs.offsets, [0, 2, 2, 3]);
+            }
+            assert_eq!(run::repeats(&stored), (name == "C5") as usize, "{name}");
+            run::take_repeats_out(&stored, &mut theirs).unwrap();
+            assert_eq!(theirs.print(), expected, "{name}");
+        }
+    }
+
+    fn converted(words: &str, space: Space) -> Outcome {
+        let sections = input(&format!("0 255 {words}")).sections();
+        convert::outcome(&convert::Call { sections: &sections, space })
+    }
+
+    /// The converter: segment, record, new ids, new offsets.
+    #[test]
+    fn conversions() {
+        let large = Space { ids: 9, offsets: 9 };
+        let c5 = "1/3/3/off=0,2,2,3/val=7,8,9";
+        for (words, record, ids, offsets) in [
+            (c5, [1, 4, 3, 2, 3, 3, 0, 0], &[0, 2][..], &[0, 2, 3][..]),
+            ("1/3/0/off=0", [1, 4, 0, 0, 1, 0, 0, 0], &[], &[0]),
+            ("1/3/2/off=0,0,0", [1, 4, 2, 0, 1, 0, 0, 0], &[], &[0]),
+            ("1/3/2/off=0,1,1/val=7/alive=2", [1, 4, 2, 1, 2, 1, 0, 1], &[0], &[0, 1]),
+            ("1/3/0/off=0/alive=", [1, 4, 0, 0, 1, 0, 0, 1], &[], &[0]),
+            ("4/3/2/off=0,0,2/val=1,0/terms=a,b", [4, 4, 2, 1, 2, 2, 2, 0], &[1], &[0, 2]),
+            ("3/3/1/off=0,0/terms=a", [3, 4, 1, 0, 1, 0, 1, 0], &[], &[0]),
+            ("5/3/3/off=0,1,2,3/val=0,1,1", [5, 4, 3, 3, 4, 3, 0, 0], &[0, 1, 2], &[0, 1, 2, 3]),
+        ] {
+            let new = Converted { record, ids: ids.to_vec(), offsets: offsets.to_vec() };
+            assert_eq!(converted(words, large), Outcome::Accepted(new.clone()), "{words}");
+            let exact = Space { ids: ids.len(), offsets: offsets.len() };
+            assert_eq!(converted(words, exact), Outcome::Accepted(new), "{words}");
+        }
+        for (number, words) in [
+            (3, "1/1/1/val=7"),
+            (3, "1/4/3/ids=0,2/off=0,2,3/val=7,8,9"),
+            (3, "1/7/0"),
+            (3, "1/0/0"),
+            (3, "255/3/0"),
+            (3, "255/0/0"),
+            (3, "6/3/0/off=0"),
+            (4, "1/3/3/off=0,2,1,3/val=7,8,9"),
+            (4, "1/3/1/off=1,3/val=7,8"),
+            (4, "1/3/1/off=0,1/val=7/ids=0"),
+            (4, "1/3/0"),
+            (4, "1/3/1/off=0"),
+            (4, "1/3/1/off=0,1/val=7,8"),
+            (4, "1/3/4294967295/off=0"),
+            (4, "5/3/1/off=0,0/val=2"),
+            (5, "5/3/1/off=0,1/val=2"),
+            (5, "4/3/1/off=0,1/val=1/terms=a"),
+            (5, "4/3/1/off=0,1/val=0/terms=b,a"),
+            (5, "1/3/0/off=0/terms=a"),
+            (5, "5/3/1/off=0,1/val=2/alive=2"),
+            (6, "1/3/1/off=0,1/val=7/alive=2"),
+        ] {
+            assert_eq!(converted(words, large), Outcome::Refused(number), "{words}");
+            // 11 comes last
+            assert_eq!(converted(words, Space::default()), Outcome::Refused(number), "{words}");
+        }
+        for (ids, offsets) in [(1, 9), (9, 2), (0, 9), (9, 0), (1, 2)] {
+            assert_eq!(converted(c5, Space { ids, offsets }), Outcome::Refused(11), "{ids} {offsets}");
+        }
+        assert_eq!(converted("1/3/0/off=0", Space::default()), Outcome::Refused(11));
+        // 2: one value announced, none there; and before 3
+        let mut s = input("0 255 9/3/1/off=0,1/val=7").sections();
+        let answer = |s: &Sections| convert::outcome(&convert::Call { sections: s, space: large }).number();
+        assert_eq!(answer(&s), 3);
+        s.values.clear();
+        assert_eq!(answer(&s), 2);
+        // Only flag 1 adds alive words.
+        let mut s = input("0 255 1/3/1/off=0,1/val=7/alive=1").sections();
+        s.records[0][7] = 2;
+        assert_eq!(answer(&s), 2);
+        s.alive.clear();
+        assert_eq!(answer(&s), 3);
+        let mut s = input("0 255 4/3/0/off=0/terms=a").sections();
+        s.term_bytes.push(0);
+        assert_eq!(answer(&s), 2);
     }
 
     /// Full, sparse and several blocks of the stand-ins for row ids.

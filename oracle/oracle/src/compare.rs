@@ -1,19 +1,22 @@
 //! The comparison: seeded inputs and damaged copies, each given to the joiner, whose answer and
-//! memory are held to the crate's merge (accepted) and to the table (refused).
+//! memory are held to the crate's merge (accepted) and to the table (refused); and stored segments of
+//! kind 3 given to the converter, which is held to its model, and then to the joiner, which is held to
+//! the crate's merge of the segments before their conversion.
 use std::io::{Read, Write};
 use std::path::{Path, PathBuf};
 use std::process::{Command, Stdio};
 use std::sync::atomic::{AtomicU64, Ordering};
 
+use crate::convert::{self, Space};
 use crate::damage;
-use crate::generate::{self, Shape};
+use crate::generate::{self, Kinds, Shape};
 use crate::model;
-use crate::ours::{Joiner, Lists};
+use crate::ours::{Joiner, Lists, NewLists};
 use crate::rng::Rng;
 use crate::run;
-use crate::slips::{SLIPS, Standin};
-use crate::table::{self, Call, Lent, PROGRAM, PROGRAM_BYTES};
-use crate::wire::{Input, Listing, Outcome, Sections, to_words};
+use crate::slips::{Standin, slips};
+use crate::table::{self, CHECKS, Call, Lent, PROGRAM, PROGRAM_BYTES};
+use crate::wire::{Input, Outcome, Sections, to_words};
 
 pub enum Ours {
     Library,
@@ -31,17 +34,62 @@ pub struct Options {
 const MOST_DIFFERENCES: u64 = 5;
 
 /// One call: what is handed over and how much is lent.
-pub struct Case {
-    pub sections: Sections,
-    pub lent: Lent,
+pub enum Task {
+    Join {
+        sections: Sections,
+        lent: Lent,
+        /// The segments that these were converted from, if they were: the crate joins those.
+        stored: Option<Input>,
+    },
+    Convert {
+        sections: Sections,
+        space: Space,
+    },
+}
+
+/// What must come of it.
+pub enum Must {
+    Join(Outcome),
+    Convert(convert::Outcome),
+}
+
+impl Task {
+    fn join(sections: Sections, lent: Lent) -> Task {
+        Task::Join { sections, lent, stored: None }
+    }
+    pub fn converts(&self) -> bool {
+        matches!(self, Task::Convert { .. })
+    }
+    fn must(&self) -> Result<Must, String> {
+        Ok(match self {
+            Task::Join { sections, lent, stored } => {
+                Must::Join(expected(&Call::new(sections, *lent), stored.as_ref())?)
+            }
+            Task::Convert { sections, space } => {
+                Must::Convert(convert::outcome(&convert::Call { sections, space: *space }))
+            }
+        })
+    }
+    fn show(&self) -> String {
+        match self {
+            Task::Join { sections, lent, stored } => {
+                let from = stored.as_ref().map_or(String::new(), |input| {
+                    format!("\n  converted from: {}", show(&input.sections()))
+                });
+                format!("join: {}\n  {lent:?}{from}", show(sections))
+            }
+            Task::Convert { sections, space } => format!("conversion: {}\n  {space:?}", show(sections)),
+        }
+    }
 }
 
 /// What the joiner must answer, from the crate where it is accepted, else from the table. An error
-/// where crate and model disagree.
-pub fn expected(call: &Call) -> Result<Outcome, String> {
+/// where crate and model disagree. `stored`: the segments that these were converted from.
+pub fn expected(call: &Call, stored: Option<&Input>) -> Result<Outcome, String> {
     let number = table::answer(call);
+    let theirs = || stored.unwrap_or_else(|| call.input());
     if number == 10 && !table::two_categories(call.input()) {
-        match run::column(call.input()) {
+        match run::column(theirs()) {
             Err(text) if text.starts_with("error: InvalidInput") => {}
             Err(text) => return Err(format!("the table refuses with 10, the crate: {text}")),
             Ok(l) => return Err(format!("the table refuses with 10, the crate joins to type {}", l.ty)),
@@ -51,13 +99,13 @@ pub fn expected(call: &Call) -> Result<Outcome, String> {
         return Ok(Outcome::Refused(number));
     }
     let model = call.joined();
-    if run::beyond_the_crate(call.input()) {
+    if run::beyond_the_crate(theirs()) {
         return Ok(Outcome::Accepted(model.clone()));
     }
     let mut listing =
-        run::column(call.input()).map_err(|text| format!("the table accepts, the crate: {text}"))?;
-    if run::corner(call.input()) {
-        listing.offsets.dedup();
+        run::column(theirs()).map_err(|text| format!("the table accepts, the crate: {text}"))?;
+    if let Some(stored) = stored {
+        run::take_repeats_out(stored, &mut listing)?;
     }
     if listing != *model {
         let line = first_difference(&model.print(), &listing.print());
@@ -66,14 +114,15 @@ pub fn expected(call: &Call) -> Result<Outcome, String> {
     Ok(Outcome::Accepted(listing))
 }
 
-/// The calls of a case: a good input, then mostly a damaged copy of it.
-pub fn calls(seed: u64, case: u64) -> Vec<Case> {
+/// The calls of a case: the join of a good input, mostly of a damaged copy of it, and what is made of
+/// stored segments.
+pub fn tasks(seed: u64, case: u64) -> Vec<Task> {
     let mut rng = Rng::of_case(seed, case);
     let shape = generate::shape(&mut rng, false);
-    let input = generate::input(&mut rng, shape);
+    let input = generate::input(&mut rng, shape, Kinds::Joined);
     let sections = input.sections();
     let (lent, needed) = lend(&mut rng, &sections);
-    let mut list = vec![Case { sections, lent }];
+    let mut list = vec![Task::join(sections, lent)];
     let copies = match shape {
         Shape::Small => rng.pick(&[1, 1, 2]),
         Shape::Large => rng.one_in(4) as u32,
@@ -81,8 +130,37 @@ pub fn calls(seed: u64, case: u64) -> Vec<Case> {
     };
     for _ in 0..copies {
         let (sections, lent) = damage::copy(&mut rng, &input, needed, lent);
-        list.push(Case { sections, lent });
+        list.push(Task::join(sections, lent));
     }
+    list.extend(stored_tasks(&mut rng));
+    list
+}
+
+/// Segments of kind 3 among others: each through the converter, in exact or more space; damaged
+/// copies of them; the join of all as they are, which is refused; the join of all once converted.
+fn stored_tasks(rng: &mut Rng) -> Vec<Task> {
+    let shape = generate::stored_shape(rng);
+    let stored = generate::input(rng, shape, Kinds::Stored);
+    let old = || stored.segs.iter().filter(|s| s.kind == 3);
+    let mut list = Vec::new();
+    for s in old() {
+        let (exact, needed) = (rng.one_in(3), convert::needed(s));
+        let mut more = |n: usize| if exact { n } else { n + rng.index(9) };
+        let space = Space { ids: more(needed.ids), offsets: more(needed.offsets) };
+        list.push(Task::Convert { sections: convert::sections(s), space });
+    }
+    // Large dictionaries and many segments have one copy, as in the joins.
+    let copies = if shape == Shape::Small { 3 } else { 1 };
+    for s in old().take(copies) {
+        let (sections, space) = damage::stored(rng, s);
+        list.push(Task::Convert { sections, space });
+    }
+    let sections = convert::input(&stored).sections();
+    let lent = lend(rng, &sections).0;
+    if old().next().is_some() {
+        list.push(Task::join(stored.sections(), lent));
+    }
+    list.push(Task::Join { sections, lent, stored: Some(stored) });
     list
 }
 
@@ -114,7 +192,7 @@ pub fn program_inputs(seed: u64, case: u64) -> Vec<Vec<u8>> {
     let mut rng = Rng::of_case(seed, case);
     let (input, bytes) = loop {
         let shape = generate::shape(&mut rng, true);
-        let input = generate::input(&mut rng, shape);
+        let input = generate::input(&mut rng, shape, Kinds::Joined);
         let bytes = input.sections().encode();
         if bytes.len() <= PROGRAM_BYTES {
             break (input, bytes);
@@ -139,21 +217,38 @@ pub fn program_inputs(seed: u64, case: u64) -> Vec<Vec<u8>> {
 pub fn expected_text(bytes: &[u8]) -> Result<(Outcome, String), String> {
     let outcome = match table::program_sections(bytes) {
         None => Outcome::Refused(2),
-        Some(sections) => expected(&Call::new(&sections, PROGRAM))?,
+        Some(sections) => expected(&Call::new(&sections, PROGRAM), None)?,
     };
     let text = outcome.print();
     Ok((outcome, text))
 }
 
+/// How often which number was given.
+#[derive(Default)]
+struct Answers([u64; 20]);
+
+impl Answers {
+    fn accepted(&self) -> u64 {
+        self.0[0]
+    }
+    fn add(&mut self, other: &Answers) {
+        self.0.iter_mut().zip(other.0).for_each(|(a, b)| *a += b);
+    }
+    /// In the order of the checks.
+    fn print(&self, numbers: impl Iterator<Item = u32>) -> String {
+        let each: Vec<String> = numbers.map(|n| format!("{n}: {}", self.0[n as usize])).collect();
+        let refused = self.0[1..].iter().sum::<u64>();
+        format!("accepted {}, refused {refused} ({})", self.0[0], each.join(", "))
+    }
+}
+
 #[derive(Default)]
 struct Stats {
-    refused: [u64; 12],
-    accepted: u64,
+    joins: Answers,
     stacked: u64,
     alive: u64,
     required: u64,
     mixed: u64,
-    corner: u64,
     unkept: u64,
     beyond: u64,
     wide: u64,
@@ -161,23 +256,48 @@ struct Stats {
     classes: [u64; 3],
     types: [u64; 8],
     none: u64,
+    conversions: Answers,
+    old_types: [u64; 8],
+    old_alive: u64,
+    /// Of accepted ones: with a row of no value, without a value, without a row.
+    empty_rows: [u64; 3],
+    exact: u64,
+    most_rows: u64,
+    converted: Answers,
+    converted_stacked: u64,
+    repeats: u64,
     differences: u64,
 }
 
 impl Stats {
-    fn count(&mut self, outcome: &Outcome, input: impl FnOnce() -> Input) {
-        let l = match outcome {
-            Outcome::Refused(number) => return self.refused[*number as usize] += 1,
-            Outcome::Accepted(l) => l,
-        };
+    fn count(&mut self, task: &Task, must: &Must) {
+        match (task, must) {
+            (Task::Join { sections, stored: None, .. }, Must::Join(outcome)) => {
+                self.count_join(outcome, || sections.cut())
+            }
+            (Task::Join { stored: Some(stored), .. }, Must::Join(outcome)) => {
+                self.converted.0[outcome.number() as usize] += 1;
+                if outcome.number() == 0 {
+                    self.converted_stacked += (stored.mode == 0) as u64;
+                    self.repeats += (run::repeats(stored) > 0) as u64;
+                }
+            }
+            (Task::Convert { sections, space }, Must::Convert(outcome)) => {
+                self.count_conversion(sections, *space, outcome)
+            }
+            _ => unreachable!(),
+        }
+    }
+
+    fn count_join(&mut self, outcome: &Outcome, input: impl FnOnce() -> Input) {
+        self.joins.0[outcome.number() as usize] += 1;
+        let Outcome::Accepted(l) = outcome else { return };
         let input = input();
         let held = || input.segs.iter().filter(|s| model::held(s));
-        self.accepted += 1;
         self.stacked += (input.mode == 0) as u64;
         self.alive += input.segs.iter().any(|s| s.alive.is_some()) as u64;
         self.required += (input.required != 255) as u64;
         self.mixed += held().any(|s| s.ty != l.ty) as u64;
-        self.corner += run::corner(&input) as u64;
         self.beyond += run::beyond_the_crate(&input) as u64;
         self.unkept += held().flat_map(|s| &s.terms).any(|t| l.terms.binary_search(t).is_err()) as u64;
         let rows = input.segs.iter().map(|s| s.rows as u64).sum::<u64>();
@@ -192,58 +312,77 @@ impl Stats {
         }
     }
 
+    fn count_conversion(&mut self, sections: &Sections, space: Space, outcome: &convert::Outcome) {
+        self.conversions.0[outcome.number() as usize] += 1;
+        let convert::Outcome::Accepted(c) = outcome else { return };
+        let [ty, _, rows, .., flag] = sections.records[0];
+        self.old_types[ty as usize] += 1;
+        self.old_alive += flag as u64;
+        self.empty_rows[0] += (c.ids.len() < rows as usize) as u64;
+        self.empty_rows[1] += c.ids.is_empty() as u64;
+        self.empty_rows[2] += (rows == 0) as u64;
+        self.exact += (space == Space { ids: c.ids.len(), offsets: c.offsets.len() }) as u64;
+        self.most_rows = self.most_rows.max(rows as u64);
+    }
+
     fn add(&mut self, other: &Stats) {
-        for (a, b) in self.refused.iter_mut().zip(other.refused) {
-            *a += b;
+        fn add<const N: usize>(list: &mut [u64; N], other: [u64; N]) {
+            list.iter_mut().zip(other).for_each(|(a, b)| *a += b);
         }
-        for (a, b) in self.classes.iter_mut().zip(other.classes) {
-            *a += b;
-        }
-        for (a, b) in self.types.iter_mut().zip(other.types) {
-            *a += b;
-        }
-        self.accepted += other.accepted;
+        self.joins.add(&other.joins);
+        self.conversions.add(&other.conversions);
+        self.converted.add(&other.converted);
+        add(&mut self.classes, other.classes);
+        add(&mut self.types, other.types);
+        add(&mut self.old_types, other.old_types);
+        add(&mut self.empty_rows, other.empty_rows);
         self.stacked += other.stacked;
         self.alive += other.alive;
         self.required += other.required;
         self.mixed += other.mixed;
-        self.corner += other.corner;
         self.unkept += other.unkept;
         self.beyond += other.beyond;
         self.wide += other.wide;
         self.most_values = self.most_values.max(other.most_values);
         self.none += other.none;
+        self.old_alive += other.old_alive;
+        self.exact += other.exact;
+        self.most_rows = self.most_rows.max(other.most_rows);
+        self.converted_stacked += other.converted_stacked;
+        self.repeats += other.repeats;
         self.differences += other.differences;
     }
 
-    fn print(&self, o: &Options, ours: &str) {
-        let refused: Vec<String> = (1..12).map(|n| format!("{n}: {}", self.refused[n])).collect();
+    fn print(&self, o: &Options, ours: &Ours) {
+        let name = match ours {
+            Ours::Library => "the library",
+            Ours::Program(_) => "the program",
+            Ours::Model => "the model",
+        };
+        let numbers = || CHECKS.iter().map(|(number, _)| *number);
         if self.differences >= MOST_DIFFERENCES {
             println!("stopped, there are many differences");
         }
         println!(
-            "seed {}, cases {} to {}, ours: {ours}: accepted {}, refused {} ({}), differences {}",
+            "seed {}, cases {} to {}, ours: {name}: {}, differences {}",
             o.seed,
             o.from,
             o.from + o.count - 1,
-            self.accepted,
-            self.refused.iter().sum::<u64>(),
-            refused.join(", "),
+            self.joins.print(numbers()),
             self.differences
         );
         let t = &self.types;
         println!(
             "accepted: stacked {}, ordered {}, with alive sets {}, with a required type {}, coerced {}, \
-             with unkept terms {}, stacked corner {}, above 65,535 rows {}, by the model alone {}; \
+             with unkept terms {}, above 65,535 rows {}, by the model alone {}; \
              type 255 {}, I64 {}, U64 {}, F64 {}, Bytes {}, Str {}, Bool {}, DateTime {}; \
              class 0 {}, 1 {}, 2 {}; most values in one call {}",
             self.stacked,
-            self.accepted - self.stacked,
+            self.joins.accepted() - self.stacked,
             self.alive,
             self.required,
             self.mixed,
             self.unkept,
-            self.corner,
             self.wide,
             self.beyond,
             self.none,
@@ -259,6 +398,38 @@ impl Stats {
             self.classes[2],
             self.most_values
         );
+        // The joining program does not convert.
+        if matches!(ours, Ours::Program(_)) {
+            return;
+        }
+        let t = &self.old_types;
+        println!(
+            "conversions: {}; accepted: with a row of no value {}, without a value {}, without a row {}, \
+             with alive sets {}, in exact space {}; \
+             I64 {}, U64 {}, F64 {}, Bytes {}, Str {}, Bool {}, DateTime {}; most rows {}",
+            self.conversions.print(convert::CHECKS.iter().map(|(number, _)| *number)),
+            self.empty_rows[0],
+            self.empty_rows[1],
+            self.empty_rows[2],
+            self.old_alive,
+            self.exact,
+            t[0],
+            t[1],
+            t[2],
+            t[3],
+            t[4],
+            t[5],
+            t[7],
+            self.most_rows
+        );
+        println!(
+            "joins of converted segments beside the crate's of the stored ones: {}; accepted: stacked {}, \
+             ordered {}, without the crate's repeated offsets {}",
+            self.converted.print([10].into_iter()),
+            self.converted_stacked,
+            self.converted.accepted() - self.converted_stacked,
+            self.repeats
+        );
     }
 }
 
@@ -273,18 +444,30 @@ fn show(sections: &Sections) -> String {
     }
 }
 
-/// What is wrong with one call of the joiner, if anything.
-fn fault(joiner: &mut dyn Joiner, case: &Case, expected: &Outcome, salt: u64) -> Option<String> {
-    let mut lists = Lists::new(case.lent, salt);
-    let input = case.sections.clone();
-    let number = joiner.join(&input, &mut lists);
-    if input != case.sections {
+/// What is wrong with one call of the joiner or of its converter, if anything.
+fn fault(joiner: &mut dyn Joiner, task: &Task, must: &Must, salt: u64) -> Option<String> {
+    let (before, answer, expected, fault) = match (task, must) {
+        (Task::Join { sections, lent, .. }, Must::Join(outcome)) => {
+            let mut lists = Lists::new(*lent, salt);
+            let input = sections.clone();
+            let answer = joiner.join(&input, &mut lists);
+            (input == *sections, answer, outcome.number(), lists.fault(outcome))
+        }
+        (Task::Convert { sections, space }, Must::Convert(outcome)) => {
+            let mut lists = NewLists::new(*space, salt);
+            let input = sections.clone();
+            let answer = joiner.convert(&input, &mut lists);
+            (input == *sections, answer, outcome.number(), lists.fault(outcome))
+        }
+        _ => unreachable!(),
+    };
+    if !before {
         return Some("the input was written to".into());
     }
-    if number != expected.number() {
-        return Some(format!("the answer is {number}, must be {}", expected.number()));
+    if answer != expected {
+        return Some(format!("the answer is {answer}, must be {expected}"));
     }
-    lists.fault(expected)
+    fault
 }
 
 fn text_fault(program: &Path, bytes: &[u8], expected: &str) -> Option<String> {
@@ -327,13 +510,10 @@ fn first_difference(is: &str, must_be: &str) -> String {
     "nothing".into()
 }
 
-fn report(o: &Options, case: u64, call: usize, fault: &str, sections: Option<&Sections>, lent: Option<Lent>) {
+fn report(o: &Options, case: u64, call: usize, fault: &str, input: Option<String>) {
     let mut text = format!("DIFFERENCE in call {call} of case {case}: {fault}\n");
-    if let Some(sections) = sections {
-        text += &format!("  input: {}\n", show(sections));
-    }
-    if let Some(lent) = lent {
-        text += &format!("  {lent:?}\n");
+    if let Some(input) = input {
+        text += &format!("  {input}\n");
     }
     print!("{text}  again: oracle/compare {} 1 --from {case}, with the same other options\n", o.seed);
 }
@@ -362,30 +542,29 @@ pub fn compare(o: &Options, ours: &Ours) -> bool {
                     let wrong = match expected_text(bytes) {
                         Err(fault) => Some(fault),
                         Ok((outcome, text)) => {
-                            stats.count(&outcome, || sections.as_ref().unwrap().cut());
+                            stats.count_join(&outcome, || sections.as_ref().unwrap().cut());
                             text_fault(path, bytes, &text)
                         }
                     };
                     if let Some(fault) = wrong {
                         differs(&mut stats);
-                        report(o, case, i, &fault, sections.as_ref(), None);
+                        report(o, case, i, &fault, sections.as_ref().map(show));
                     }
                 }
                 continue;
             }
-            for (i, case_call) in calls(o.seed, case).iter().enumerate() {
-                let call = Call::new(&case_call.sections, case_call.lent);
-                let wrong = match expected(&call) {
+            for (i, task) in tasks(o.seed, case).iter().enumerate() {
+                let wrong = match task.must() {
                     Err(fault) => Some(fault),
-                    Ok(outcome) => {
-                        stats.count(&outcome, || call.input().clone());
+                    Ok(must) => {
+                        stats.count(task, &must);
                         let joiner = joiner.as_mut().unwrap();
-                        fault(joiner.as_mut(), case_call, &outcome, o.seed ^ case << 8)
+                        fault(joiner.as_mut(), task, &must, o.seed ^ case << 8)
                     }
                 };
                 if let Some(fault) = wrong {
                     differs(&mut stats);
-                    report(o, case, i, &fault, Some(&case_call.sections), Some(case_call.lent));
+                    report(o, case, i, &fault, Some(task.show()));
                 }
             }
         }
@@ -398,26 +577,21 @@ pub fn compare(o: &Options, ours: &Ours) -> bool {
             stats.add(&worker.join().expect("a worker panicked"));
         }
     });
-    stats.print(
-        o,
-        match ours {
-            Ours::Library => "the library",
-            Ours::Program(_) => "the program",
-            Ours::Model => "the model",
-        },
-    );
+    stats.print(o, ours);
     stats.differences == 0
 }
 
 /// Gives each slip the same calls until it is found, and tells whether all are.
 pub fn find_slips(o: &Options) -> bool {
-    let mut left: Vec<_> = SLIPS.iter().map(|slip| (slip, Standin::wrong(slip))).collect();
+    let mut left: Vec<_> = slips().map(|slip| (slip, Standin::wrong(slip))).collect();
     for case in o.from..o.from + o.count {
-        for case_call in calls(o.seed, case) {
-            let call = Call::new(&case_call.sections, case_call.lent);
-            let outcome = expected(&call).unwrap_or_else(|fault| panic!("case {case}: {fault}"));
+        for task in tasks(o.seed, case) {
+            let must = task.must().unwrap_or_else(|fault| panic!("case {case}: {fault}"));
             left.retain_mut(|(slip, joiner)| {
-                let fault = fault(joiner, &case_call, &outcome, o.seed ^ case << 8);
+                if slip.converts() != task.converts() {
+                    return true;
+                }
+                let fault = fault(joiner, &task, &must, o.seed ^ case << 8);
                 if let Some(fault) = &fault {
                     println!("found in case {case}: {} ({fault})", slip.name);
                 }
@@ -429,8 +603,8 @@ pub fn find_slips(o: &Options) -> bool {
         }
     }
     left.iter().for_each(|(slip, _)| println!("NOT FOUND: {}", slip.name));
-    let found = SLIPS.len() - left.len();
-    println!("seed {}, cases from {}: {found} of {} slips found", o.seed, o.from, SLIPS.len());
+    let all = slips().count();
+    println!("seed {}, cases from {}: {} of {all} slips found", o.seed, o.from, all - left.len());
     left.is_empty()
 }
 
@@ -448,8 +622,8 @@ pub fn has_library() -> bool {
     cfg!(library)
 }
 
-/// The crate's column in document 01's form, or why there is none; as the program prints it.
-pub fn listing(sections: &Sections, as_is: bool) -> Result<String, String> {
+/// The crate's column, or the table's number; as the program prints it.
+pub fn listing(sections: &Sections) -> Result<String, String> {
     let lent = Lent {
         working: usize::MAX,
         ids: usize::MAX,
@@ -461,13 +635,7 @@ pub fn listing(sections: &Sections, as_is: bool) -> Result<String, String> {
     };
     let call = Call::new(sections, lent);
     match table::answer(&call) {
-        0 => {
-            let mut l: Listing = run::column(call.input())?;
-            if !as_is && run::corner(call.input()) {
-                l.offsets.dedup();
-            }
-            Ok(l.print())
-        }
+        0 => Ok(run::column(call.input())?.print()),
         number => Ok(Outcome::Refused(number).print()),
     }
 }

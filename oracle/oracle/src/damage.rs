@@ -1,7 +1,10 @@
-//! Damaged copies of good inputs. Which number they are answered with, if any, is the table's.
+//! Damaged copies of good inputs. Which number they are answered with, if any, is the table's, or for
+//! the converter convert.rs's.
+use crate::convert::{self, Space};
+use crate::model;
 use crate::rng::Rng;
-use crate::table::Lent;
-use crate::wire::{Input, Sections};
+use crate::table::{self, Lent};
+use crate::wire::{Input, Sections, Seg};
 
 const ODD: &[u32] = &[5, 6, 8, 9, 100, 254, 256, 257, 511, 65_535, 1 << 31, u32::MAX - 1, u32::MAX];
 const TYPES: &[u32] = &[0, 1, 2, 3, 4, 5, 7, 255];
@@ -9,32 +12,37 @@ const TYPES: &[u32] = &[0, 1, 2, 3, 4, 5, 7, 255];
 /// Changes one thing in a segment or in the addresses; record numbers stay those of the runs.
 fn segments(rng: &mut Rng, input: &mut Input) {
     if rng.one_in(6) || input.segs.is_empty() {
-        let n = input.segs.len();
-        let list = &mut input.addresses;
-        match rng.below(8) {
-            0 => list.push([rng.below(n as u64 + 2) as u32, rng.below(8) as u32]),
-            1 => drop(list.pop()),
-            2 if !list.is_empty() => list.push(list[rng.index(list.len())]),
-            3 if !list.is_empty() => {
-                let i = rng.index(list.len());
-                list[i][0] = rng.below(n as u64 + 1) as u32;
-            }
-            4 if !list.is_empty() => {
-                let i = rng.index(list.len());
-                list[i][1] = list[i][1].wrapping_add(rng.pick(&[1, u32::MAX, 1 << 31]));
-            }
-            5 if !list.is_empty() => drop(list.remove(rng.index(list.len()))),
-            6 if !list.is_empty() => {
-                let (i, j) = (rng.index(list.len()), rng.index(list.len()));
-                list[i] = list[j];
-            }
-            _ => input.mode ^= 1,
-        }
-        return;
+        return addresses(rng, input);
     }
     let i = rng.index(input.segs.len());
-    let ordered = input.mode == 1;
-    let s = &mut input.segs[i];
+    segment(rng, &mut input.segs[i], input.mode == 1);
+}
+
+fn addresses(rng: &mut Rng, input: &mut Input) {
+    let n = input.segs.len();
+    let list = &mut input.addresses;
+    match rng.below(8) {
+        0 => list.push([rng.below(n as u64 + 2) as u32, rng.below(8) as u32]),
+        1 => drop(list.pop()),
+        2 if !list.is_empty() => list.push(list[rng.index(list.len())]),
+        3 if !list.is_empty() => {
+            let i = rng.index(list.len());
+            list[i][0] = rng.below(n as u64 + 1) as u32;
+        }
+        4 if !list.is_empty() => {
+            let i = rng.index(list.len());
+            list[i][1] = list[i][1].wrapping_add(rng.pick(&[1, u32::MAX, 1 << 31]));
+        }
+        5 if !list.is_empty() => drop(list.remove(rng.index(list.len()))),
+        6 if !list.is_empty() => {
+            let (i, j) = (rng.index(list.len()), rng.index(list.len()));
+            list[i] = list[j];
+        }
+        _ => input.mode ^= 1,
+    }
+}
+
+fn segment(rng: &mut Rng, s: &mut Seg, ordered: bool) {
     let step = rng.pick(&[1, u32::MAX, 2]);
     fn at<T>(rng: &mut Rng, list: &[T]) -> Option<usize> {
         if list.is_empty() { None } else { Some(rng.index(list.len())) }
@@ -101,12 +109,46 @@ fn segments(rng: &mut Rng, input: &mut Input) {
     }
 }
 
+/// Turns a segment to kind 3, with the lists that make it right, or leaves them as they are.
+fn old_kind(rng: &mut Rng, input: &mut Input) {
+    if input.segs.is_empty() {
+        return;
+    }
+    let i = rng.index(input.segs.len());
+    let s = &mut input.segs[i];
+    let can_be_right = s.ty != 255 && s.rows <= 200_000 && !table::runs_of(s);
+    if can_be_right && !rng.one_in(4) {
+        let mut counts = vec![0; s.rows as usize];
+        model::filled(s).into_iter().for_each(|(row, range)| counts[row as usize] = range.len() as u32);
+        s.ids.clear();
+        s.offsets = vec![0];
+        for count in counts {
+            s.offsets.push(s.offsets.last().unwrap() + count);
+        }
+    }
+    s.kind = 3;
+}
+
 /// Changes one thing in the sections: lengths, and numbers that nobody knows.
 fn sections(rng: &mut Rng, s: &mut Sections) {
-    let n = s.records.len();
     match rng.below(20) {
         0 => s.mode = rng.pick(&[0, 1, 2, 3, 255, 256, u32::MAX]),
         1 => s.required = rng.pick(ODD),
+        2..19 => records_and_runs(rng, s),
+        // Too many segments, or as many as may be.
+        _ if rng.one_in(4) => {
+            let many = rng.pick(&[255, 256, 256, 257, 257, 300]);
+            while s.records.len() < many {
+                s.records.push([255, 0, 0, 0, 0, 0, 0, 0]);
+            }
+        }
+        _ => s.required = rng.pick(TYPES),
+    }
+}
+
+fn records_and_runs(rng: &mut Rng, s: &mut Sections) {
+    let n = s.records.len();
+    match rng.between(2, 18) {
         2..5 if n > 0 => s.records[rng.index(n)][rng.pick(&[0, 0, 1, 7])] = rng.pick(ODD),
         5..8 if n > 0 => {
             let number = &mut s.records[rng.index(n)][rng.index(5) + 3];
@@ -142,14 +184,7 @@ fn sections(rng: &mut Rng, s: &mut Sections) {
             s.term_lengths[i] = s.term_lengths[i].wrapping_add(1);
             s.term_lengths[j] = s.term_lengths[j].wrapping_sub(1);
         }
-        // Too many segments, or as many as may be.
-        _ if rng.one_in(4) => {
-            let many = rng.pick(&[255, 256, 256, 257, 257, 300]);
-            while s.records.len() < many {
-                s.records.push([255, 0, 0, 0, 0, 0, 0, 0]);
-            }
-        }
-        _ => s.required = rng.pick(TYPES),
+        _ => {}
     }
 }
 
@@ -173,6 +208,10 @@ pub fn copy(rng: &mut Rng, good: &Input, needed: Lent, lent: Lent) -> (Sections,
     let mut lent = lent;
     let times = rng.pick(&[1, 1, 1, 2, 2, 3]);
     let mut in_sections = 0;
+    // Beside the others, so that what comes before 19 and what after it is tried with it.
+    if rng.one_in(8) {
+        old_kind(rng, &mut input);
+    }
     for _ in 0..times {
         match rng.below(10) {
             0..6 => segments(rng, &mut input),
@@ -188,6 +227,39 @@ pub fn copy(rng: &mut Rng, good: &Input, needed: Lent, lent: Lent) -> (Sections,
         sections(rng, &mut s);
     }
     (s, lent)
+}
+
+/// A copy of a segment of kind 3 for the converter, with one to three damages, in too little space
+/// for ids or for offsets, or both.
+pub fn stored(rng: &mut Rng, good: &Seg) -> (Sections, Space) {
+    let mut space = convert::needed(good);
+    let mut damaged = good.clone();
+    let mut in_sections = 0;
+    for _ in 0..rng.pick(&[1, 1, 1, 2, 2, 3]) {
+        match rng.below(12) {
+            0..6 => segment(rng, &mut damaged, true),
+            6..8 => in_sections += 1,
+            // All rows alive, and a bit past them where the last word has place for one.
+            8 | 9 if damaged.rows <= 200_000 => {
+                let (words, past) = (damaged.rows.div_ceil(64) as usize, damaged.rows % 64);
+                let mut set = vec![u64::MAX; words];
+                if past > 0 {
+                    let bit = rng.between(past as u64, 63);
+                    set[words - 1] = !(u64::MAX << past) | 1 << bit;
+                }
+                damaged.alive = Some(set);
+            }
+            _ => {
+                let place = if rng.one_in(2) { &mut space.ids } else { &mut space.offsets };
+                *place = if rng.one_in(4) { 0 } else { place.saturating_sub(1) };
+            }
+        }
+    }
+    let mut s = convert::sections(&damaged);
+    for _ in 0..in_sections {
+        records_and_runs(rng, &mut s);
+    }
+    (s, space)
 }
 
 /// Damages of the wire form itself.

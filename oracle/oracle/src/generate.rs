@@ -1,4 +1,5 @@
-//! Random inputs that document 01 accepts, or (a few) refuses with 10.
+//! Random inputs that document 01 accepts, or (a few) refuses with 10; and the same with segments of
+//! kind 3 among the others, which go through the converter first.
 use crate::model;
 use crate::rng::Rng;
 use crate::wire::{Input, Seg};
@@ -19,6 +20,15 @@ pub enum Shape {
     Huge,
 }
 
+/// Which kinds the segments have.
+#[derive(Clone, Copy, Debug, PartialEq, Eq)]
+pub enum Kinds {
+    /// Those that a join takes.
+    Joined,
+    /// Kind 3 for the most part.
+    Stored,
+}
+
 /// Which shape a case has. The joining program takes 65,536 bytes, so no Large one.
 pub fn shape(rng: &mut Rng, program: bool) -> Shape {
     match rng.below(10_000) {
@@ -28,6 +38,14 @@ pub fn shape(rng: &mut Rng, program: bool) -> Shape {
         470..480 if !program => Shape::Large,
         480..510 => Shape::Huge,
         _ => Shape::Small,
+    }
+}
+
+/// The same for stored segments: kind 3 has an offset for each row, so no Huge one.
+pub fn stored_shape(rng: &mut Rng) -> Shape {
+    match shape(rng, false) {
+        Shape::Huge => Shape::Small,
+        shape => shape,
     }
 }
 
@@ -173,16 +191,26 @@ fn alive_set(rng: &mut Rng, rows: u32, counts: &[(u32, u32)]) -> Vec<u64> {
     words
 }
 
-fn segment(rng: &mut Rng, ty: u32, ordered: bool, flavour: u64, shape: Shape, words: &[Vec<u8>]) -> Seg {
+/// What the segments of an input have in common.
+struct Common {
+    kinds: Kinds,
+    ordered: bool,
+    flavour: u64,
+    shape: Shape,
+    words: Vec<Vec<u8>>,
+}
+
+fn segment(rng: &mut Rng, ty: u32, common: &Common) -> Seg {
+    let Common { kinds, ordered, flavour, shape, ref words } = *common;
     let rows = rows(rng, shape);
     let mut s = Seg { ty, rows, ..Seg::default() };
     if ty != 255 {
-        s.kind = match rng.below(16) {
-            0 => 0,
-            1..=4 => 1,
-            5..=8 => 2,
-            9..=11 => 3,
-            _ => 4,
+        s.kind = match (kinds, rng.below(16)) {
+            (_, 0) => 0,
+            (Kinds::Joined, 1..=4) | (Kinds::Stored, 1 | 2) => 1,
+            (Kinds::Joined, 5..=8) | (Kinds::Stored, 3 | 4) => 2,
+            (Kinds::Joined, _) | (Kinds::Stored, 5 | 6) => 4,
+            (Kinds::Stored, _) => 3,
         };
         if shape == Shape::Huge && rows > 1_000 {
             s.kind = rng.pick(&[0, 2, 4]);
@@ -238,7 +266,7 @@ fn addresses(rng: &mut Rng, segs: &[Seg]) -> Vec<[u32; 2]> {
     list
 }
 
-pub fn input(rng: &mut Rng, shape: Shape) -> Input {
+pub fn input(rng: &mut Rng, shape: Shape, kinds: Kinds) -> Input {
     let mode = if shape == Shape::Huge { 0 } else { rng.below(2) as u32 };
     let n = match (shape, rng.below(20)) {
         (Shape::Segments, 0) => 256,
@@ -267,6 +295,7 @@ pub fn input(rng: &mut Rng, shape: Shape) -> Input {
         _ => base,
     };
     let words = if base == 0 { vocabulary(rng, Shape::Small) } else { vocabulary(rng, shape) };
+    let common = Common { kinds, ordered: mode == 1, flavour, shape, words };
     let another = rng.one_in(40);
     let mut segs: Vec<Seg> = Vec::new();
     for _ in 0..n {
@@ -277,7 +306,7 @@ pub fn input(rng: &mut Rng, shape: Shape) -> Input {
         } else {
             ty_of(rng)
         };
-        segs.push(segment(rng, ty, mode == 1, flavour, shape, &words));
+        segs.push(segment(rng, ty, &common));
     }
     // Rows sum to at most 4294967294, sometimes to just that.
     let sum = |segs: &[Seg]| segs.iter().map(|s| s.rows as u64).sum::<u64>();

@@ -1,6 +1,6 @@
 //! The joiner's static library, called as C would call it: each run as a pointer and a number of
 //! elements, in the order of document 01's sections.
-use crate::ours::{Element, Joiner, Lists, Run};
+use crate::ours::{Element, Joiner, Lists, NewLists, Run};
 use crate::wire::Sections;
 
 unsafe extern "C" {
@@ -40,16 +40,40 @@ unsafe extern "C" {
         // nine
         out_numbers: *mut u64,
     ) -> u32;
+
+    fn jadmirus_convert(
+        // eight
+        record: *const u32,
+        ids: *const u32,
+        ids_len: usize,
+        offsets: *const u32,
+        offsets_len: usize,
+        values: *const u64,
+        values_len: usize,
+        term_lengths: *const u32,
+        term_lengths_len: usize,
+        term_bytes: *const u8,
+        term_bytes_len: usize,
+        alive: *const u64,
+        alive_len: usize,
+        out_ids: *mut u32,
+        out_ids_len: usize,
+        out_offsets: *mut u32,
+        out_offsets_len: usize,
+        // eight
+        out_record: *mut u32,
+    ) -> u32;
 }
 
 pub struct Library;
 
+fn run<T: Element>(run: &mut Run<T>) -> (*mut T, usize) {
+    let lent = run.lent();
+    (lent.as_mut_ptr(), lent.len())
+}
+
 impl Joiner for Library {
     fn join(&mut self, s: &Sections, lists: &mut Lists) -> u32 {
-        fn run<T: Element>(run: &mut Run<T>) -> (*mut T, usize) {
-            let lent = run.lent();
-            (lent.as_mut_ptr(), lent.len())
-        }
         let working = run(&mut lists.working);
         let ids = run(&mut lists.ids);
         let offsets = run(&mut lists.offsets);
@@ -94,6 +118,35 @@ impl Joiner for Library {
                 map.0,
                 map.1,
                 numbers.0,
+            )
+        }
+    }
+
+    fn convert(&mut self, s: &Sections, lists: &mut NewLists) -> u32 {
+        let ids = run(&mut lists.ids);
+        let offsets = run(&mut lists.offsets);
+        let record = run(&mut lists.record);
+        // The same holds here.
+        unsafe {
+            jadmirus_convert(
+                s.records[0].as_ptr(),
+                s.ids.as_ptr(),
+                s.ids.len(),
+                s.offsets.as_ptr(),
+                s.offsets.len(),
+                s.values.as_ptr(),
+                s.values.len(),
+                s.term_lengths.as_ptr(),
+                s.term_lengths.len(),
+                s.term_bytes.as_ptr(),
+                s.term_bytes.len(),
+                s.alive.as_ptr(),
+                s.alive.len(),
+                ids.0,
+                ids.1,
+                offsets.0,
+                offsets.1,
+                record.0,
             )
         }
     }

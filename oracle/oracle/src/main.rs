@@ -1,6 +1,7 @@
 mod bench;
 mod cases;
 mod compare;
+mod convert;
 mod damage;
 mod generate;
 #[cfg(library)]
@@ -25,7 +26,7 @@ use wire::Sections;
 const USAGE: &str = "\
 oracle compare SEED COUNT [--library | --program PATH | --model | --slips] [--from CASE] [--jobs N]
                              the joiner against the crate and the table (see oracle/compare)
-oracle crate [--as-is]       one input on stdin; the listing, made by the crate's merge
+oracle crate                 one input on stdin; the listing, made by the crate's merge
 oracle model                 the same by the rules of document 01 alone, as the joining program does
 oracle sample SEED COUNT IN OUT
                              the stored sample of inputs and listings (see oracle/sample)
@@ -60,8 +61,7 @@ fn run(args: &[String]) -> Result<bool, String> {
     let words: Vec<&str> = args.iter().map(|a| a.as_str()).collect();
     match words[..] {
         ["compare", ..] => return compare_command(&words[1..]),
-        ["crate"] => print(compare::listing(&read()?, false)?.as_bytes()),
-        ["crate", "--as-is"] => print(compare::listing(&read()?, true)?.as_bytes()),
+        ["crate"] => print(compare::listing(&read()?)?.as_bytes()),
         ["model"] => print(table::program(&stdin()).print().as_bytes()),
         ["raw"] => match run::merge(&read()?.cut()) {
             Raw::Panic(text) => println!("panic: {text}"),

@@ -1,6 +1,7 @@
-//! The joiner's side of the comparison: one call with lent outputs. Back ends: the static library
-//! (library.rs), and stand-ins made of the model, right and wrong (slips.rs). The joining program
-//! is compared by its listings instead (compare.rs).
+//! The joiner's side of the comparison: one call with lent outputs, of the join or of the converter.
+//! Back ends: the static library (library.rs), and stand-ins made of the model, right and wrong
+//! (slips.rs). The joining program is compared by its listings instead (compare.rs).
+use crate::convert::{self, Converted, Space};
 use crate::table::Lent;
 use crate::wire::{Listing, Outcome, Sections};
 
@@ -162,7 +163,50 @@ pub fn numbers(l: &Listing) -> [u64; 9] {
     ]
 }
 
-/// A joiner: the answer's number; the column goes to the lists.
+/// All that a call of the converter is lent to write to.
+pub struct NewLists {
+    pub ids: Run<u32>,
+    pub offsets: Run<u32>,
+    pub record: Run<u32>,
+}
+
+impl NewLists {
+    pub fn new(space: Space, salt: u64) -> NewLists {
+        NewLists {
+            ids: Run::new(space.ids, salt),
+            offsets: Run::new(space.offsets, salt + 1),
+            record: Run::new(8, salt + 2),
+        }
+    }
+
+    /// How many elements are lent.
+    pub fn space(&self) -> Space {
+        Space { ids: self.ids.len(), offsets: self.offsets.len() }
+    }
+
+    /// Writes as an accepted conversion does.
+    pub fn write(&mut self, c: &Converted) {
+        self.ids.lent()[..c.ids.len()].copy_from_slice(&c.ids);
+        self.offsets.lent()[..c.offsets.len()].copy_from_slice(&c.offsets);
+        self.record.lent().copy_from_slice(&c.record);
+    }
+
+    /// What is wrong, if the call must have had this outcome. A refusal writes nothing; output
+    /// beyond the lists keeps its elements.
+    pub fn fault(&self, outcome: &convert::Outcome) -> Option<String> {
+        let (ids, offsets, record): (&[u32], &[u32], &[u32]) = match outcome {
+            convert::Outcome::Accepted(c) => (&c.ids, &c.offsets, &c.record),
+            convert::Outcome::Refused(_) => (&[], &[], &[]),
+        };
+        None.or_else(|| self.record.fault("the record", record))
+            .or_else(|| self.ids.fault("new ids", ids))
+            .or_else(|| self.offsets.fault("new offsets", offsets))
+    }
+}
+
+/// A joiner and its converter: the answer's number; what is written goes to the lists.
 pub trait Joiner {
     fn join(&mut self, sections: &Sections, lists: &mut Lists) -> u32;
+    /// Of the sections' one record and its runs.
+    fn convert(&mut self, sections: &Sections, lists: &mut NewLists) -> u32;
 }

@@ -181,14 +181,26 @@ pub fn beyond_the_crate(input: &Input) -> bool {
     input.segs.iter().any(|s| matches!(s.kind, 2 | 4) && !s.values.is_empty() && s.rows > MOST_ROWS)
 }
 
-/// The stacked corner, exactly: a stacked join that holds a kind 3 segment with a row of no value.
-/// The crate repeats an offset there; document 01's offsets have no repeats.
-pub fn corner(input: &Input) -> bool {
-    input.mode == 0
-        && input
-            .segs
-            .iter()
-            .any(|s| s.kind == 3 && model::held(s) && s.offsets.windows(2).any(|w| w[0] == w[1]))
+/// How many offsets the crate repeats where document 01's have no repeats: one for each row of no
+/// value in a held kind 3 segment of a stacked merge. Its row ids skip that row.
+pub fn repeats(input: &Input) -> usize {
+    if input.mode == 1 {
+        return 0;
+    }
+    let held = input.segs.iter().filter(|s| s.kind == 3 && model::held(s));
+    held.map(|s| s.offsets.windows(2).filter(|w| w[0] == w[1]).count()).sum()
+}
+
+/// Takes exactly those out of what the crate made of stored segments; an error if it repeats others.
+pub fn take_repeats_out(stored: &Input, l: &mut Listing) -> Result<(), String> {
+    let (repeats, before) = (repeats(stored), l.offsets.len());
+    if repeats > 0 {
+        l.offsets.dedup();
+    }
+    match before - l.offsets.len() {
+        n if n == repeats => Ok(()),
+        n => Err(format!("the crate repeats {n} offsets, {repeats} rows have no value")),
+    }
 }
 
 /// The merged file opened again by the crate's reader.

@@ -5,7 +5,6 @@ use std::collections::{BTreeMap, HashSet};
 use crate::cases::{input, sheets};
 use crate::compare::{expected_text, program_inputs};
 use crate::model;
-use crate::run;
 use crate::table;
 use crate::wire::{Input, Outcome, Seg};
 
@@ -36,16 +35,26 @@ const BY_HAND: &[&str] = &[
     "0 255 1/5/0",
     "0 255 255/1/0",
     "0 255 255/0/0/terms=a",
+    // 19: after 3 and before 4, whatever the lists are
+    "0 255 1/3/3/off=0,2,2,3/val=7,8,9",
+    "1 255 1/3/3/off=0,2,2,3/val=7,8,9/alive=5 addr=0:2,0:0",
+    "0 255 1/3/0/off=0",
+    "0 255 1/3/2/off=0,2,1/val=0",
+    "0 255 1/3/4294967295",
+    "0 255 1/3/1/off=0,1/val=7 1/2/3/ids=1,1/val=0,0",
+    "0 255 1/2/3/ids=1,1/val=0,0 5/3/1/off=0,1/val=2",
+    "0 255 1/3/1/off=0,1/val=7 9/1/1/val=0",
+    "0 255 255/3/1/off=0,1/val=7",
     // 4
     "0 255 1/2/3/ids=1,1/val=0,0",
     "0 255 1/2/3/ids=2,1/val=0,0",
     "0 255 1/2/1/ids=1/val=0",
     "0 255 1/1/2/val=0",
     "0 255 1/0/1/val=0",
-    "0 255 1/3/1/off=1,1/val=0",
-    "0 255 1/3/2/off=0,2,1/val=0",
+    "0 255 1/4/1/ids=0/off=1,1/val=0",
+    "0 255 1/4/2/ids=0,1/off=0,2,1/val=0",
     "0 255 1/4/2/ids=0,1/off=0,1,1/val=0",
-    "0 255 1/3/4294967295",
+    "0 255 1/4/4294967295",
     // 5
     "0 255 4/1/1/val=0/terms=b,a",
     "0 255 4/1/1/val=0/terms=a,a",
@@ -124,14 +133,13 @@ fn key(outcome: &Outcome, input: Option<&Input>) -> String {
             let held = || input.segs.iter().filter(|s| model::held(s));
             let terms: HashSet<&Vec<u8>> = held().flat_map(|s| &s.terms).collect();
             format!(
-                "0 mode {} type {} class {}{}{}{}{}{}",
+                "0 mode {} type {} class {}{}{}{}{}",
                 input.mode,
                 l.ty,
                 l.class,
                 if input.segs.iter().any(|s| s.alive.is_some()) { " alive" } else { "" },
                 if input.required != 255 { " required" } else { "" },
                 if held().any(|s| s.ty != l.ty) { " coerced" } else { "" },
-                if run::corner(input) { " corner" } else { "" },
                 if terms.len() > l.terms.len() { " unkept" } else { "" },
             )
         }
@@ -185,11 +193,11 @@ pub fn sample(seed: u64, count: usize) -> Result<(Vec<u8>, Vec<u8>), String> {
     inputs.extend(last);
 
     let (mut input_file, mut listing_file) = (Vec::new(), Vec::new());
-    let mut numbers = [0; 11];
+    let mut numbers: BTreeMap<u32, u32> = BTreeMap::new();
     for bytes in &inputs {
         // Here the crate is asked, and disagreement with the model is an error.
         let (outcome, text) = expected_text(bytes)?;
-        numbers[outcome.number() as usize] += 1;
+        *numbers.entry(outcome.number()).or_default() += 1;
         input_file.extend((bytes.len() as u64).to_le_bytes());
         input_file.extend(bytes);
         listing_file.extend(text.as_bytes());
@@ -198,9 +206,6 @@ pub fn sample(seed: u64, count: usize) -> Result<(Vec<u8>, Vec<u8>), String> {
         assert!(String::from_utf8_lossy(&listing_file).contains(listing), "{name}");
     }
     eprintln!("{} inputs, {} bytes; listings {} bytes", inputs.len(), input_file.len(), listing_file.len());
-    eprintln!(
-        "by answer, from 0: {numbers:?}; {} kinds of random ones, at most {most} of each",
-        of_key.len()
-    );
+    eprintln!("by answer: {numbers:?}; {} kinds of random ones, at most {most} of each", of_key.len());
     Ok((input_file, listing_file))
 }

@@ -1,16 +1,18 @@
-//! Stand-ins for the joiner, made of the model: one that is right, and one for each slip below,
-//! which the comparison must find (oracle/compare SEED COUNT --slips). They are tests of the
-//! comparison and of its inputs, of nothing else.
+//! Stand-ins for the joiner, made of the model: one that is right, and one for each slip below and in
+//! slips/converter.rs, which the comparison must find (oracle/compare SEED COUNT --slips). They are
+//! tests of the comparison and of its inputs, of nothing else.
+mod converter;
+
 use crate::model;
-use crate::ours::{Joiner, Lists};
+use crate::ours::{Joiner, Lists, NewLists};
 use crate::run;
 use crate::table::{self, CHECKS, Call, Check};
-use crate::wire::{Input, Listing, Outcome, Sections};
+use crate::wire::{Input, Listing, Outcome, Sections, Seg};
 
 #[derive(Clone, Copy)]
 pub enum How {
-    /// Check k + 1 before check k.
-    Swap(u32),
+    /// The first check right before the second.
+    Before(u32, u32),
     /// Without check k.
     Skip(u32),
     /// Another check k.
@@ -23,6 +25,8 @@ pub enum How {
     Leave(fn(&Outcome, &mut Lists)),
     /// The first accepted call's column for every later one.
     First,
+    /// A slip of the converter.
+    Converter(converter::How),
 }
 
 pub struct Slip {
@@ -34,19 +38,32 @@ const fn slip(name: &'static str, how: How) -> Slip {
     Slip { name, how }
 }
 
-pub const SLIPS: &[Slip] = &[
-    slip("2 before 1", How::Swap(1)),
-    slip("3 before 2", How::Swap(2)),
-    slip("4 before 3", How::Swap(3)),
-    slip("5 before 4", How::Swap(4)),
-    slip("6 before 5", How::Swap(5)),
-    slip("7 before 6", How::Swap(6)),
-    slip("8 before 7", How::Swap(7)),
-    slip("9 before 8", How::Swap(8)),
-    slip("10 before 9", How::Swap(9)),
+impl Slip {
+    pub fn converts(&self) -> bool {
+        matches!(self.how, How::Converter(_))
+    }
+}
+
+/// All of them, the joiner's and the converter's.
+pub fn slips() -> impl Iterator<Item = &'static Slip> {
+    SLIPS.iter().chain(converter::SLIPS)
+}
+
+const SLIPS: &[Slip] = &[
+    slip("2 before 1", How::Before(2, 1)),
+    slip("3 before 2", How::Before(3, 2)),
+    slip("19 before 3", How::Before(19, 3)),
+    slip("4 before 19", How::Before(4, 19)),
+    slip("5 before 4", How::Before(5, 4)),
+    slip("6 before 5", How::Before(6, 5)),
+    slip("7 before 6", How::Before(7, 6)),
+    slip("8 before 7", How::Before(8, 7)),
+    slip("9 before 8", How::Before(9, 8)),
+    slip("10 before 9", How::Before(10, 9)),
     slip("no 1", How::Skip(1)),
     slip("no 2", How::Skip(2)),
     slip("no 3", How::Skip(3)),
+    slip("kind 3 joined as before", How::Skip(19)),
     slip("no 4", How::Skip(4)),
     slip("no 5", How::Skip(5)),
     slip("no 6", How::Skip(6)),
@@ -90,17 +107,35 @@ pub const SLIPS: &[Slip] = &[
         }),
     ),
     slip(
+        "4 before 3 where no segment is of kind 3",
+        How::Check(3, |c| table::unknown(c) && (table::old_multivalued(c) || !table::runs(c))),
+    ),
+    slip("3 for kind 3", How::Check(3, |c| table::unknown(c) || table::old_multivalued(c))),
+    slip(
+        "19 for the first segment alone",
+        How::Check(19, |c| c.sections.records.first().is_some_and(|r| r[1] == 3)),
+    ),
+    slip(
+        "19 not without values",
+        How::Check(19, |c| c.sections.records.iter().any(|r| r[1] == 3 && r[5] > 0)),
+    ),
+    slip(
+        "19 only where a row has no value",
+        How::Check(19, |c| c.any_segment(|s| s.kind == 3 && s.offsets.windows(2).any(|w| w[0] == w[1]))),
+    ),
+    slip("19 only for right lists", How::Check(19, |c| c.any_segment(|s| s.kind == 3 && !table::runs_of(s)))),
+    slip("19 in stacked joins alone", How::Check(19, |c| c.sections.mode == 0 && table::old_multivalued(c))),
+    slip(
         "4 not for equal ids",
         How::Check(4, |c| {
             table::runs(c) && !c.input().segs.iter().any(|s| s.ids.windows(2).any(|w| w[0] == w[1]))
         }),
     ),
     slip(
-        "4 not for surplus ids on kind 3",
+        "4 not for equal offsets",
         How::Check(4, |c| {
-            let mut input = c.input().clone();
-            input.segs.iter_mut().filter(|s| s.kind == 3).for_each(|s| s.ids.clear());
-            table::runs(&Call::new(&input.sections(), c.lent))
+            let equal = |s: &Seg| s.offsets.windows(2).any(|w| w[0] == w[1]);
+            c.any_segment(|s| table::runs_of(s) && !(s.kind == 4 && equal(s)))
         }),
     ),
     slip(
@@ -162,7 +197,7 @@ pub const SLIPS: &[Slip] = &[
     slip(
         "9 not for a repeat, numbers being right",
         How::Check(9, |c| {
-            let alive = |s: &crate::wire::Seg| (0..s.rows).filter(|&r| s.is_alive(r)).count();
+            let alive = |s: &Seg| (0..s.rows).filter(|&r| s.is_alive(r)).count();
             table::addresses(c)
                 && (c.sections.mode == 0
                     || c.input().segs.iter().map(alive).sum::<usize>() != c.sections.addresses.len())
@@ -291,9 +326,10 @@ pub const SLIPS: &[Slip] = &[
     ),
     slip(
         "the offset of a row without values kept",
-        How::Column(|input, l| {
-            if run::corner(input) && !run::beyond_the_crate(input) {
-                l.offsets = run::column(input).unwrap().offsets;
+        How::Column(|_, l| {
+            if l.class == 2 && l.rows < 1_000_000 {
+                let rows = |id: &u32| l.ids.partition_point(|other| other <= id);
+                l.offsets = [0].into_iter().chain((0..l.rows).map(|row| l.offsets[rows(&row)])).collect();
             }
         }),
     ),
@@ -360,7 +396,7 @@ pub const SLIPS: &[Slip] = &[
     slip(
         "class without dropped and absent columns",
         How::Column(|input, l| {
-            let all_filled = |s: &crate::wire::Seg| {
+            let all_filled = |s: &Seg| {
                 !model::held(s)
                     || s.alive.is_none() && s.kind == 1
                     || s.alive.is_some() && {
@@ -553,6 +589,19 @@ fn with_terms(input: &Input, l: &mut Listing, terms: Vec<Vec<u8>>) {
     }
 }
 
+fn place<C>(checks: &[(u32, C)], k: u32) -> usize {
+    checks.iter().position(|&(number, _)| number == k).expect("a check of that number")
+}
+
+fn put_before<C>(checks: &mut Vec<(u32, C)>, k: u32, other: u32) {
+    let check = checks.remove(place(checks, k));
+    checks.insert(place(checks, other), check);
+}
+
+fn put_in_place<C>(checks: &mut [(u32, C)], k: u32, check: C) {
+    checks[place(checks, k)].1 = check;
+}
+
 /// The model as a joiner, with a slip or none.
 pub struct Standin {
     how: Option<How>,
@@ -567,18 +616,19 @@ impl Standin {
         Standin { how: Some(slip.how), first: None }
     }
     fn outcome(&mut self, sections: &Sections, lists: &Lists) -> Outcome {
-        let mut checks: Vec<(u32, Check)> = (1..).zip(CHECKS).collect();
+        let mut checks = CHECKS.to_vec();
         let lent = lists.lengths();
         match self.how {
-            Some(How::Swap(k)) => checks.swap(k as usize - 1, k as usize),
-            Some(How::Skip(k)) => drop(checks.remove(k as usize - 1)),
-            Some(How::Check(k, check)) => checks[k as usize - 1].1 = check,
+            Some(How::Before(k, other)) => put_before(&mut checks, k, other),
+            Some(How::Skip(k)) => checks.retain(|&(number, _)| number != k),
+            Some(How::Check(k, check)) => put_in_place(&mut checks, k, check),
             Some(How::Read(f)) => {
                 let call = Call::new(sections, lent);
-                if table::answer_by(&checks[..9], &call) == 0 {
+                let (first, last) = checks.split_at(place(&checks, 10));
+                if table::answer_by(first, &call) == 0 {
                     let mut other = call.input().clone();
                     f(&mut other);
-                    return match table::answer_by(&checks[9..], &Call::new(&other.sections(), lent)) {
+                    return match table::answer_by(last, &Call::new(&other.sections(), lent)) {
                         0 => Outcome::Accepted(model::join(&other)),
                         number => Outcome::Refused(number),
                     };
@@ -616,5 +666,13 @@ impl Joiner for Standin {
             outcome
         });
         outcome.map_or(u32::MAX, |outcome| outcome.number())
+    }
+
+    fn convert(&mut self, sections: &Sections, lists: &mut NewLists) -> u32 {
+        let how = match self.how {
+            Some(How::Converter(how)) => Some(how),
+            _ => None,
+        };
+        run::caught(|| converter::convert(how, sections, lists)).unwrap_or(u32::MAX)
     }
 }

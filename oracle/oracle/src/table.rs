@@ -1,5 +1,5 @@
-//! Document 01's table of answers ("Answers of the joiner"), 1 to 11, and what its joining program
-//! does with standard input: written from the document's words alone.
+//! Document 01's table of answers ("Answers of the joiner"), 1 to 11, with document 02's 19, and what
+//! the joining program does with standard input: written from the documents' words alone.
 use std::cell::OnceCell;
 use std::cmp::Ordering;
 use std::collections::HashSet;
@@ -51,36 +51,37 @@ impl<'a> Call<'a> {
     pub fn joined(&self) -> &Listing {
         self.joined.get_or_init(|| model::join(self.input()))
     }
-    fn any_segment(&self, fails: impl Fn(&Seg) -> bool) -> bool {
+    pub fn any_segment(&self, fails: impl Fn(&Seg) -> bool) -> bool {
         self.input().segs.iter().any(fails)
     }
 }
 
 pub type Check = fn(&Call) -> bool;
 
-/// Check number n is entry n - 1: true where the number is to be given.
-pub const CHECKS: [Check; 11] = [
-    segments,
-    section_lengths,
-    unknown,
-    runs,
-    contents,
-    alive_sets,
-    sums,
-    working_bytes,
-    addresses,
-    types,
-    space,
+/// Each number with its check, true where the number is to be given, in the order of the checks:
+/// "19 .. tested right after 3".
+pub const CHECKS: [(u32, Check); 12] = [
+    (1, segments),
+    (2, section_lengths),
+    (3, unknown),
+    (19, old_multivalued),
+    (4, runs),
+    (5, contents),
+    (6, alive_sets),
+    (7, sums),
+    (8, working_bytes),
+    (9, addresses),
+    (10, types),
+    (11, space),
 ];
 
-/// "Checks run in number order, each over all segments. 0 is acceptance."
+/// The first check that fails, each over all segments. "0 is acceptance."
 pub fn answer_by(checks: &[(u32, Check)], call: &Call) -> u32 {
     checks.iter().find(|(_, fails)| fails(call)).map_or(0, |(number, _)| *number)
 }
 
 pub fn answer(call: &Call) -> u32 {
-    let numbered: Vec<(u32, Check)> = (1..).zip(CHECKS).collect();
-    answer_by(&numbered, call)
+    answer_by(&CHECKS, call)
 }
 
 pub fn outcome(sections: &Sections, lent: Lent) -> Outcome {
@@ -123,9 +124,12 @@ pub fn section_lengths(call: &Call) -> bool {
         || s.term_lengths.iter().map(|&n| n as u128).sum::<u128>() != s.term_bytes.len() as u128
 }
 
+pub fn known_type(ty: u32) -> bool {
+    matches!(ty, 0 | 1 | 2 | 3 | 4 | 5 | 7 | 255)
+}
+
 /// 3: unknown mode, type, required type, kind or flag; type 255 with a kind or lengths
 pub fn unknown(call: &Call) -> bool {
-    let known_type = |ty: u32| matches!(ty, 0 | 1 | 2 | 3 | 4 | 5 | 7 | 255);
     !matches!(call.sections.mode, 0 | 1)
         || !known_type(call.sections.required)
         || call.sections.records.iter().any(|&[ty, kind, _rows, ids, offsets, values, terms, flag]| {
@@ -136,35 +140,48 @@ pub fn unknown(call: &Call) -> bool {
         })
 }
 
+/// 19: a record of kind 3
+pub fn old_multivalued(call: &Call) -> bool {
+    call.sections.records.iter().any(|&[_type, kind, ..]| kind == 3)
+}
+
 /// 4: ids not ascending or not below rows; wrong number of ids, offsets or values; offsets not from
 /// 0, falling (kind 3) or not rising (kind 4)
+pub fn runs(call: &Call) -> bool {
+    call.any_segment(runs_of)
+}
+
+/// 4 of one segment; of kind 3 it is the converter's.
 ///
 /// "Kind 1 has a value for each row; 2 a value for each id; 3 rows + 1 offsets; 4 one offset more
 /// than ids; the last offset is the number of values. Lists not named here are empty, and kind 0
 /// has none."
-pub fn runs(call: &Call) -> bool {
-    call.any_segment(|s| {
-        let (ids, offsets, values) = (s.ids.len() as u64, s.offsets.len() as u64, s.values.len() as u64);
-        let rows = s.rows as u64;
-        let right_numbers = match s.kind {
-            0 => ids == 0 && offsets == 0 && values == 0,
-            1 => ids == 0 && offsets == 0 && values == rows,
-            2 => offsets == 0 && values == ids,
-            3 => ids == 0 && offsets == rows + 1,
-            _ => offsets == ids + 1,
-        };
-        let ids_right = s.ids.windows(2).all(|w| w[0] < w[1]) && s.ids.iter().all(|&id| id < s.rows);
-        let offsets_right = s.kind < 3
-            || s.offsets.first() == Some(&0)
-                && s.offsets.windows(2).all(|w| if s.kind == 3 { w[0] <= w[1] } else { w[0] < w[1] })
-                && s.offsets.last().map(|&o| o as u64) == Some(values);
-        !(right_numbers && ids_right && offsets_right)
-    })
+pub fn runs_of(s: &Seg) -> bool {
+    let (ids, offsets, values) = (s.ids.len() as u64, s.offsets.len() as u64, s.values.len() as u64);
+    let rows = s.rows as u64;
+    let right_numbers = match s.kind {
+        0 => ids == 0 && offsets == 0 && values == 0,
+        1 => ids == 0 && offsets == 0 && values == rows,
+        2 => offsets == 0 && values == ids,
+        3 => ids == 0 && offsets == rows + 1,
+        _ => offsets == ids + 1,
+    };
+    let ids_right = s.ids.windows(2).all(|w| w[0] < w[1]) && s.ids.iter().all(|&id| id < s.rows);
+    let offsets_right = s.kind < 3
+        || s.offsets.first() == Some(&0)
+            && s.offsets.windows(2).all(|w| if s.kind == 3 { w[0] <= w[1] } else { w[0] < w[1] })
+            && s.offsets.last().map(|&o| o as u64) == Some(values);
+    !(right_numbers && ids_right && offsets_right)
 }
 
 /// 5: Bool above 1, ordinal not below the terms, terms not strictly ascending, terms on another
 /// type or on kind 0
 pub fn contents(call: &Call) -> bool {
+    call.any_segment(contents_of)
+}
+
+/// 5 of one segment.
+pub fn contents_of(s: &Seg) -> bool {
     let bytewise = |a: &[u8], b: &[u8]| {
         for (x, y) in a.iter().zip(b) {
             if x != y {
@@ -173,25 +190,23 @@ pub fn contents(call: &Call) -> bool {
         }
         a.len().cmp(&b.len())
     };
-    call.any_segment(|s| {
-        let words = s.ty == 3 || s.ty == 4;
-        s.ty == 5 && s.values.iter().any(|&v| v > 1)
-            || words && s.values.iter().any(|&v| v >= s.terms.len() as u64)
-            || s.terms.windows(2).any(|w| bytewise(&w[0], &w[1]) != Ordering::Less)
-            || !s.terms.is_empty() && (!words || s.kind == 0)
-    })
+    let words = s.ty == 3 || s.ty == 4;
+    s.ty == 5 && s.values.iter().any(|&v| v > 1)
+        || words && s.values.iter().any(|&v| v >= s.terms.len() as u64)
+        || s.terms.windows(2).any(|w| bytewise(&w[0], &w[1]) != Ordering::Less)
+        || !s.terms.is_empty() && (!words || s.kind == 0)
 }
 
 /// 6: an alive bit past the rows, or an alive set in a stacked join
 pub fn alive_sets(call: &Call) -> bool {
-    call.any_segment(|s| {
-        s.alive.as_ref().is_some_and(|words| {
-            call.sections.mode == 0
-                || words.iter().enumerate().any(|(i, word)| {
-                    (0..64).any(|bit| word >> bit & 1 == 1 && i as u64 * 64 + bit >= s.rows as u64)
-                })
-        })
-    })
+    call.any_segment(|s| s.alive.is_some() && call.sections.mode == 0 || past_the_rows(s))
+}
+
+/// An alive bit past the rows.
+pub fn past_the_rows(s: &Seg) -> bool {
+    let past = |i: usize, bit: u64| i as u64 * 64 + bit >= s.rows as u64;
+    let mut words = s.alive.iter().flatten().enumerate();
+    words.any(|(i, word)| (0..64).any(|bit| word >> bit & 1 == 1 && past(i, bit)))
 }
 
 /// 7: rows, values or term bytes sum above 4294967294
@@ -343,6 +358,40 @@ mod tests {
         ] {
             refused(3, text);
         }
+        // 19: any kind 3, whatever its lists are, after 3 and before 4
+        for text in [
+            "0 255 1/3/3/off=0,2,2,3/val=7,8,9",
+            "1 255 1/3/3/off=0,2,2,3/val=7,8,9/alive=5 addr=0:2,0:0",
+            "0 255 1/3/0/off=0",
+            "0 255 1/3/0",
+            "0 255 1/3/2/off=0,2,1/val=0",
+            "0 255 1/3/1/off=0,1/val=0/ids=0",
+            "0 255 1/3/4294967295/off=0",
+            "0 255 5/3/1/off=0,1/val=2",
+            "0 255 1/3/1/off=0,1/val=7 1/2/3/ids=1,1/val=0,0",
+            "0 255 1/2/3/ids=1,1/val=0,0 1/3/1/off=0,1/val=7",
+            "0 255 1/3/1/off=0,1/val=7/alive=1",
+            "0 255 1/3/0/off=0 255/0/4294967295",
+            "0 255 1/3/0/off=0 5/1/1/val=1",
+        ] {
+            refused(19, text);
+        }
+        refused(1, &format!("0 255{}", " 1/3/0/off=0".repeat(257)));
+        refused(19, &format!("0 255{}", " 1/3/0/off=0".repeat(256)));
+        let mut s = input("0 255 1/3/1/off=0,1/val=7").sections();
+        s.values.clear();
+        assert_eq!(outcome(&s, PLENTY), Outcome::Refused(2));
+        for text in [
+            "0 255 1/3/1/off=0,1/val=7 9/1/1/val=0",
+            "0 255 9/1/1/val=0 1/3/1/off=0,1/val=7",
+            "0 255 9/3/1/off=0,1/val=7",
+            "0 255 255/3/0",
+            "0 255 255/3/1/off=0,1/val=7",
+            "2 255 1/3/0/off=0",
+            "0 6 1/3/0/off=0",
+        ] {
+            refused(3, text);
+        }
         // 4: ids 1 1
         for text in [
             "0 255 1/2/3/ids=1,1/val=0,0",
@@ -358,22 +407,15 @@ mod tests {
             "0 255 1/1/1/val=0/off=0",
             "0 255 1/1/1/val=0/ids=0",
             "0 255 1/2/1/ids=0/val=0/off=0,1",
-            "0 255 1/3/0",
-            "0 255 1/3/1/off=0",
-            "0 255 1/3/1/off=1,1/val=0",
-            "0 255 1/3/2/off=0,2,1/val=0",
-            "0 255 1/3/1/off=0,1/val=0,0",
-            "0 255 1/3/1/off=0,1/val=0/ids=0",
             "0 255 1/4/0",
             "0 255 1/4/1/ids=0/off=0,0",
             "0 255 1/4/2/ids=0,1/off=0,1,1/val=0",
             "0 255 1/4/0/off=1",
             "0 255 1/4/1/off=0,1/val=0",
-            "0 255 1/3/4294967295/off=0",
+            "0 255 1/4/1/ids=0/off=0,1/val=0,0",
         ] {
             refused(4, text);
         }
-        refused(0, "0 255 1/3/0/off=0");
         refused(0, "0 255 1/4/0/off=0");
         // 5: terms b a
         for text in [
@@ -444,7 +486,7 @@ mod tests {
         assert_eq!(number(text, Lent { term_lengths: 1, ..exact }), 11);
         assert_eq!(number(text, Lent { term_bytes: 3, ..exact }), 11);
         assert_eq!(number(text, Lent { map: 1, ..exact }), 11);
-        let text = "0 255 1/3/2/off=0,2,2/val=7,8";
+        let text = "0 255 1/4/2/ids=0/off=0,2/val=7,8";
         let exact = Lent { ids: 1, offsets: 2, values: 2, ..Lent::default() };
         assert_eq!(number(text, exact), 0);
         assert_eq!(number(text, Lent { ids: 0, ..exact }), 11);

@@ -1,4 +1,4 @@
-//! Answers 1 to 4: number of segments, lengths, codes, row ids and offsets.
+//! Answers 1 to 4 and 19: number of segments, lengths, codes, old kind, row ids and offsets.
 use super::not_above;
 use super::words::{are, element, kind_name, nth};
 use crate::codes::{ColumnType, NO_TYPE, kind, mode};
@@ -106,6 +106,13 @@ pub fn codes(cut: &Cut<'_>) -> Option<String> {
     ];
     let (name, _) = lists.into_iter().find(|(_, number)| *number > 0)?;
     Some(format!("{name}: a segment without a column has none"))
+}
+
+pub fn old(cut: &Cut<'_>) -> Option<String> {
+    cut.record.is_old().then(|| {
+        let kind = kind_name(cut.record.kind);
+        format!("kind {kind}: convert it first ('jadmirus convert')")
+    })
 }
 
 pub fn row_lists(cut: &Cut<'_>) -> Option<String> {

@@ -1,5 +1,5 @@
 //! Says in words what is refused and where: a walk of its own over the sections, in the order of
-//! the answers' numbers, beside the library's.
+//! the library's checks, beside the library's.
 //!
 //! Segments, rows and ordinals are counted from 0, as in the lists themselves; "the 2nd" is a place
 //! in a list, counted from 1.
@@ -44,6 +44,7 @@ pub fn join(s: &Sections) -> Option<Fault> {
         (Refusal::UnknownCode, &|| {
             lists::call_codes(s).or_else(|| each(&segments, lists::codes))
         }),
+        (Refusal::OldMultivalued, &|| each(&segments, lists::old)),
         (Refusal::RowLists, &|| each(&segments, lists::row_lists)),
         (Refusal::Contents, &|| {
             each(&segments, contents::values_and_terms)
@@ -65,6 +66,7 @@ pub fn time_order(s: &Sections) -> Option<Fault> {
     let segments = s.cut()?;
     first(&[
         (Refusal::UnknownCode, &|| each(&segments, lists::codes)),
+        (Refusal::OldMultivalued, &|| each(&segments, lists::old)),
         (Refusal::RowLists, &|| each(&segments, lists::row_lists)),
         (Refusal::Contents, &|| {
             each(&segments, contents::values_and_terms)
@@ -75,6 +77,30 @@ pub fn time_order(s: &Sections) -> Option<Fault> {
         (Refusal::TooLarge, &|| contents::totals(s)),
         (Refusal::Times, &|| each(&segments, times::times)),
     ])
+}
+
+/// What a conversion of the sections' old segments is refused for: the first segment that can't be
+/// converted.
+pub fn convert(s: &Sections) -> Option<Fault> {
+    if !s.has_old_segments() {
+        return None;
+    }
+    if let Some(fault) = lengths(s) {
+        return Some(fault);
+    }
+    let segments = s.cut()?;
+    let mut old = (0..).zip(&segments).filter(|(_, cut)| cut.record.is_old());
+    old.find_map(|(i, cut)| {
+        let one = |check: fn(&Cut<'_>) -> Option<String>| check(cut).map(|text| at(i, &text));
+        first(&[
+            (Refusal::UnknownCode, &|| one(lists::codes)),
+            (Refusal::RowLists, &|| one(lists::row_lists)),
+            (Refusal::Contents, &|| one(contents::values_and_terms)),
+            (Refusal::AliveSet, &|| {
+                one(|cut| contents::alive_set(cut, false))
+            }),
+        ])
+    })
 }
 
 /// What answer 2 is given for: lists that don't fit the records.
@@ -100,8 +126,12 @@ fn first(checks: &[Check<'_>]) -> Option<Fault> {
 }
 
 fn each(segments: &[Cut<'_>], check: impl Fn(&Cut<'_>) -> Option<String>) -> Option<String> {
-    let fault = |(i, cut)| check(cut).map(|text| format!("segment {i}, {text}"));
+    let fault = |(i, cut)| check(cut).map(|text| at(i, &text));
     segments.iter().enumerate().find_map(fault)
+}
+
+fn at(segment: usize, text: &str) -> String {
+    format!("segment {segment}, {text}")
 }
 
 /// The first element that isn't above the one before it: its place.

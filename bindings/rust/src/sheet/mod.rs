@@ -13,6 +13,7 @@
 //! let sections = jadmirus::sheet::read(sheet.as_bytes()).unwrap();
 //! assert_eq!(sections.join().unwrap().values(), [1, 1, 0]);
 //! ```
+mod converted;
 mod draft;
 mod elements;
 mod reader;
@@ -24,6 +25,7 @@ use std::error::Error;
 use std::fmt;
 use std::io::{self, BufRead};
 
+pub use converted::write_converted;
 pub(crate) use elements::term_text;
 pub use writer::{write, write_addresses, write_segments};
 

@@ -49,7 +49,7 @@ impl Keyword {
         (Keyword::TermBytes, "term-bytes"),
     ];
 
-    fn of(word: &str) -> Option<Keyword> {
+    pub fn of(word: &str) -> Option<Keyword> {
         Keyword::ALL
             .into_iter()
             .find(|(_, w)| *w == word)

@@ -113,7 +113,7 @@ fn write_wholes(s: &Sections, out: &mut dyn Write) -> io::Result<()> {
 const WIDTH: usize = 96;
 
 /// Writes an entry, on several lines if it is long.
-fn write_list(
+pub fn write_list(
     name: &str,
     elements: impl Iterator<Item = String>,
     out: &mut dyn Write,

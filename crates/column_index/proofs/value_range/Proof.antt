@@ -1,6 +1,5 @@
 use borrow.Author.Needs.{needs}
-use native.Mathlib.Omega.{arith}
-use Rattle.column_index.proofs.Laws.{range-empty, range-full, range-old}
+use Rattle.column_index.proofs.Laws.{range-empty, range-full}
 use Rattle.column_index.proofs.value_range.Statement.{statement}
 use Rattle.column_index.proofs.value_range.Tie as tie
 
@@ -16,17 +15,11 @@ add-t8 c = search needs
 returns-2 : tie.Need-returns-2
 returns-2 c = range-full _ _ _ _ _ (c .if2 .taken) (c .before .before .wide .ensures .0)
 
-between-requires : tie.Need-between-requires
-between-requires c κs = omega (arith, c .before .before .before .before .before .before .pre .old (c .if3 .taken), c .before .before .before .wide .ensures .0)
+ranked-range-requires : tie.Need-ranked-range-requires
+ranked-range-requires c κs = (c .before .before .before .before .before .pre, (c .before .if1 .left, c .if2 .left))
 
 returns-3 : tie.Need-returns-3
-returns-3 c = range-old _ _ _ _ _ _ _ (c .before .if3 .taken) (c .before .before .before .before .wide .ensures .0) (c .between .ensures .0) (c .between .ensures .1)
-
-ranked-range-requires : tie.Need-ranked-range-requires
-ranked-range-requires c κs = (c .before .before .before .before .before .before .pre, (c .before .before .if1 .left, c .before .if2 .left, c .if3 .left))
-
-returns-4 : tie.Need-returns-4
-returns-4 c = search needs
+returns-3 c = search needs
 
 pub value-range-spec : {M : Type 1} → statement M
 value-range-spec =
@@ -36,7 +29,5 @@ value-range-spec =
     returns
     add-t8
     returns-2
-    between-requires
-    returns-3
     ranked-range-requires
-    returns-4)
+    returns-3)

@@ -8,7 +8,7 @@ use Rattle.definitions.specs.Lists.{sum}
 use Rattle.places.specs.Width.{idsOf}
 use Rattle.places.proofs.Bulk.{seg-sum}
 use Rattle.column_index_merge.proofs.Class.{words-enough}
-use Rattle.column_index_merge.proofs.Count.{counted-alive, counted-whole}
+use Rattle.column_index_merge.proofs.Count.{listed-is, counted-alive, counted-whole}
 use Rattle.column_index_merge.proofs.segment_counts.Statement.{statement}
 use Rattle.column_index_merge.proofs.segment_counts.Tie as tie
 
@@ -39,8 +39,8 @@ alive-counts-requires c κs = (c .before .before .before .before .before .pre .0
 returns : tie.Need-returns
 returns c = let e = counted-alive (c .before .before .before .before .before .before .args .t1) (c .before .before .before .before .before .before .args .t2) (c .before .before .before .before .before .before .args .ids .now) (c .before .before .before .before .before .before .args .offsets .now) (c .before .before .before .before .before .before .args .words .now) (c .before .before .if1 .taken) in (c .alive-counts .ensures .0 ∙ ap (λ (l : List ℕ). length (idsOf 0 l)) e, c .alive-counts .ensures .1 ∙ ap sum e)
 
-segment-count-requires : tie.Need-segment-count-requires
-segment-count-requires c κs = c .before .before .before .before .pre .0 .sound
+listed-rows-requires : tie.Need-listed-rows-requires
+listed-rows-requires c κs = c .before .before .before .before .pre .0 .sound .ids-run
 
 array-read-t27 : tie.Need-array-read-t27
 array-read-t27 c = search needs
@@ -52,7 +52,7 @@ sub-t31 : tie.Need-sub-t31
 sub-t31 c = omega (arith, c .before .before .before .before .before .pre .0 .sound .values-run)
 
 returns-2 : tie.Need-returns-2
-returns-2 c = let e = counted-whole (c .before .before .before .before .before .args .t1) (c .before .before .before .before .before .args .t2) (c .before .before .before .before .before .args .ids .now) (c .before .before .before .before .before .args .offsets .now) (c .before .before .before .before .before .args .words .now) (c .before .if1 .left) in (c .segment-count .ensures ∙ ap (λ (l : List ℕ). length (idsOf 0 l)) e, sym (seg-sum (c .before .before .before .before .before .pre .0 .sound)) ∙ ap sum e)
+returns-2 c = let e = counted-whole (c .before .before .before .before .before .args .t1) (c .before .before .before .before .before .args .t2) (c .before .before .before .before .before .args .ids .now) (c .before .before .before .before .before .args .offsets .now) (c .before .before .before .before .before .args .words .now) (c .before .if1 .left) in (c .listed-rows .ensures ∙ listed-is (c .before .before .before .before .before .pre .0 .sound) ∙ ap (λ (l : List ℕ). length (idsOf 0 l)) e, sym (seg-sum (c .before .before .before .before .before .pre .0 .sound)) ∙ ap sum e)
 
 pub segment-counts-spec : {M : Type 1} → statement M
 segment-counts-spec =
@@ -67,7 +67,7 @@ segment-counts-spec =
     part-alive-counts-end
     alive-counts-requires
     returns
-    segment-count-requires
+    listed-rows-requires
     array-read-t27
     array-read-t30
     sub-t31

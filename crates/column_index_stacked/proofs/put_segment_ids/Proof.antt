@@ -4,7 +4,7 @@ use mathlib.Core.Path.{sym, _∙_}
 use native.Mathlib.Nat.{add-zero}
 use lib.ListN.{getD}
 use Rattle.runs.proofs.Laws.{put-nil, shifted-length}
-use Rattle.places.proofs.Bulk.{seg-ids-empty, seg-ids-full, seg-old, seg-ids-listed, seg-ids-below, ids-length, part-room, part-done}
+use Rattle.places.proofs.Bulk.{seg-ids-empty, seg-ids-full, seg-ids-listed, seg-ids-below, ids-length, part-room, part-done}
 use Rattle.column_index_stacked.proofs.put_segment_ids.Statement.{statement}
 use Rattle.column_index_stacked.proofs.put_segment_ids.Tie as tie
 use Rattle.definitions.proofs.Lists.{length-upFrom}
@@ -39,38 +39,6 @@ returns-2 c =
     let s = c .before .before .before .before .before .before .before .before .before in
     part-done _ _ (seg-ids-full (s .pre .0) (c .before .before .before .before .if2 .taken) (s .args .first)) _ (length-upFrom _ _) _ _ (c .before .before .append-range .ensures)
 
-array-read-c : tie.Need-array-read-c
-array-read-c c = search needs
-
-array-read-d : tie.Need-array-read-d
-array-read-d c = search needs
-
-mul-append-risen-ids : tie.Need-mul-append-risen-ids
-mul-append-risen-ids c = search needs
-
-sub-append-risen-ids : tie.Need-sub-append-risen-ids
-sub-append-risen-ids c = search needs
-
-part-append-risen-ids-start : tie.Need-part-append-risen-ids-start
-part-append-risen-ids-start c = search needs
-
-part-append-risen-ids-end : tie.Need-part-append-risen-ids-end
-part-append-risen-ids-end c = search needs
-
-append-risen-ids-requires : tie.Need-append-risen-ids-requires
-append-risen-ids-requires c κs =
-    let s = c .before .before .before .before .before .before .before .before in
-    let o = s .pre .0 .sound .old (c .before .before .if3 .taken) in
-    (o .3, (omega (arith, s .pre .1 .0, o .0), rw (← seg-old (s .pre .0) (c .before .before .if3 .taken)) (s .pre .1 .1)))
-
-same-length-2 : tie.Need-same-length-2
-same-length-2 c = search needs
-
-returns-3 : tie.Need-returns-3
-returns-3 c =
-    let s = c .before .before .before .before .before .before .before .before .before .before .before in
-    rw (seg-old (s .pre .0) (c .before .before .before .before .before .if3 .taken)) (c .before .before .append-risen-ids .ensures)
-
 array-read-a : tie.Need-array-read-a
 array-read-a c = search needs
 
@@ -91,34 +59,31 @@ part-append-shifted-end c = search needs
 
 append-shifted-requires : tie.Need-append-shifted-requires
 append-shifted-requires c κs =
-    let s = c .before .before .before .before .before .before .before .before in
-    let a = c .before .before .before .before .if1 .left in
-    let b = c .before .before .before .if2 .left in
-    let d = c .before .before .if3 .left in
-    (seg-ids-below (s .pre .0) _ (s .args .first) a b d (omega (arith, s .pre .1 .0)), part-room _ _ (seg-ids-listed (s .pre .0) a b d (s .args .first)) _ (shifted-length _ _) _ (s .pre .1 .1))
+    let s = c .before .before .before .before .before .before .before in
+    let a = c .before .before .before .if1 .left in
+    let b = c .before .before .if2 .left in
+    (seg-ids-below (s .pre .0) _ (s .args .first) a b (omega (arith, s .pre .1 .0)), part-room _ _ (seg-ids-listed (s .pre .0) a b (s .args .first)) _ (shifted-length _ _) _ (s .pre .1 .1))
 
 sub-result : tie.Need-sub-result
 sub-result c = search needs
 
 add-result-2 : tie.Need-add-result-2
 add-result-2 c =
-    let s = c .before .before .before .before .before .before .before .before .before .before .before in
-    let a = c .before .before .before .before .before .before .before .if1 .left in
-    let b = c .before .before .before .before .before .before .if2 .left in
-    let d = c .before .before .before .before .before .if3 .left in
-    let k = part-room _ _ (seg-ids-listed (s .pre .0) a b d (s .args .first)) _ (shifted-length _ _ ∙ ids-length (s .pre .0)) (s .args .at) (s .pre .1 .1) in
+    let s = c .before .before .before .before .before .before .before .before .before .before in
+    let a = c .before .before .before .before .before .before .if1 .left in
+    let b = c .before .before .before .before .before .if2 .left in
+    let k = part-room _ _ (seg-ids-listed (s .pre .0) a b (s .args .first)) _ (shifted-length _ _ ∙ ids-length (s .pre .0)) (s .args .at) (s .pre .1 .1) in
     search needs
 
-same-length-3 : tie.Need-same-length-3
-same-length-3 c = search needs
+same-length-2 : tie.Need-same-length-2
+same-length-2 c = search needs
 
-returns-4 : tie.Need-returns-4
-returns-4 c =
-    let s = c .before .before .before .before .before .before .before .before .before .before .before in
-    let a = c .before .before .before .before .before .before .before .if1 .left in
-    let b = c .before .before .before .before .before .before .if2 .left in
-    let d = c .before .before .before .before .before .if3 .left in
-    part-done _ _ (seg-ids-listed (s .pre .0) a b d (s .args .first)) _ (shifted-length _ _ ∙ ids-length (s .pre .0)) _ _ (c .before .before .append-shifted .ensures)
+returns-3 : tie.Need-returns-3
+returns-3 c =
+    let s = c .before .before .before .before .before .before .before .before .before .before in
+    let a = c .before .before .before .before .before .before .if1 .left in
+    let b = c .before .before .before .before .before .if2 .left in
+    part-done _ _ (seg-ids-listed (s .pre .0) a b (s .args .first)) _ (shifted-length _ _ ∙ ids-length (s .pre .0)) _ _ (c .before .before .append-shifted .ensures)
 
 pub put-segment-ids-spec : {M : Type 1} → statement M
 put-segment-ids-spec =
@@ -131,15 +96,6 @@ put-segment-ids-spec =
     add-result
     same-length
     returns-2
-    array-read-c
-    array-read-d
-    mul-append-risen-ids
-    sub-append-risen-ids
-    part-append-risen-ids-start
-    part-append-risen-ids-end
-    append-risen-ids-requires
-    same-length-2
-    returns-3
     array-read-a
     array-read-b
     mul-append-shifted
@@ -149,5 +105,5 @@ put-segment-ids-spec =
     append-shifted-requires
     sub-result
     add-result-2
-    same-length-3
-    returns-4)
+    same-length-2
+    returns-3)

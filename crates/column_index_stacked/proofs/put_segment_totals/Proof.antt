@@ -5,7 +5,7 @@ use native.Mathlib.Nat.{add-zero}
 use Prim.Native.Nat.{_+_, _-_}
 use lib.ListN.{getD}
 use Rattle.runs.proofs.Laws.{put-nil, shifted-length}
-use Rattle.places.proofs.Bulk.{seg-sum, seg-totals-empty, seg-totals-full, seg-old, seg-totals-optional, seg-totals-new, seg-new-long, seg-new-length, seg-totals-below, ids-length, part-room, part-done}
+use Rattle.places.proofs.Bulk.{seg-totals-empty, seg-totals-full, seg-totals-optional, seg-totals-multi, seg-multi-long, seg-multi-length, seg-totals-below, ids-length, part-room, part-done}
 use Rattle.column_index_stacked.proofs.put_segment_totals.Statement.{statement}
 use Rattle.column_index_stacked.proofs.put_segment_totals.Tie as tie
 use Rattle.definitions.proofs.Lists.{length-upFrom}
@@ -74,64 +74,37 @@ returns-3 c =
     let s = c .before .before .before .before .before .before .before .before .before .before in
     part-done _ _ (seg-totals-optional (s .pre .0) (c .before .before .before .before .if3 .taken) (s .args .total)) _ (length-upFrom _ _) _ _ (c .before .before .append-range2 .ensures)
 
-array-read-c : tie.Need-array-read-c
-array-read-c c = search needs
-
-array-read-d : tie.Need-array-read-d
-array-read-d c = search needs
-
-mul-append-risen-totals : tie.Need-mul-append-risen-totals
-mul-append-risen-totals c = search needs
-
-sub-append-risen-totals : tie.Need-sub-append-risen-totals
-sub-append-risen-totals c = search needs
-
-part-append-risen-totals-start : tie.Need-part-append-risen-totals-start
-part-append-risen-totals-start c = search needs
-
-part-append-risen-totals-end : tie.Need-part-append-risen-totals-end
-part-append-risen-totals-end c = search needs
-
-append-risen-totals-requires : tie.Need-append-risen-totals-requires
-append-risen-totals-requires c κs =
-    let s = c .before .before .before .before .before .before .before .before .before in
-    let e = c .before .before .if4 .taken in
-    let o = s .pre .0 .sound .old e in
-    (o .3, (rw (← seg-old (s .pre .0) e, seg-sum (s .pre .0)) (omega (arith, s .pre .1 .0)), rw (← seg-old (s .pre .0) e) (s .pre .1 .1)))
-
-same-length-3 : tie.Need-same-length-3
-same-length-3 c = search needs
-
-returns-4 : tie.Need-returns-4
-returns-4 c =
-    let s = c .before .before .before .before .before .before .before .before .before .before .before .before in
-    rw (seg-old (s .pre .0) (c .before .before .before .before .before .if4 .taken)) (c .before .before .append-risen-totals .ensures)
+array-read-b : tie.Need-array-read-b
+array-read-b c = search needs
 
 add-b : tie.Need-add-b
 add-b c =
     let u = c in
-    let s = u .before .before .before .before .before .before .before in
-    omega (arith, seg-new-long (s .pre .0) (u .before .before .before .if1 .left) (u .before .before .if2 .left) (u .before .if3 .left) (u .if4 .left))
+    let s = u .before .before .before .before .before .before in
+    omega (arith, seg-multi-long (s .pre .0) (u .before .before .if1 .left) (u .before .if2 .left) (u .if3 .left))
+
+array-read-d : tie.Need-array-read-d
+array-read-d c = search needs
 
 mul-append-shifted : tie.Need-mul-append-shifted
 mul-append-shifted c =
     let u = c in
-    let s = u .before .before .before .before .before .before .before in
-    let k = seg-new-long (s .pre .0) (u .before .before .before .if1 .left) (u .before .before .if2 .left) (u .before .if3 .left) (u .if4 .left) in
+    let s = u .before .before .before .before .before .before in
+    let k = seg-multi-long (s .pre .0) (u .before .before .if1 .left) (u .before .if2 .left) (u .if3 .left) in
     search needs
 
 sub-append-shifted : tie.Need-sub-append-shifted
 sub-append-shifted c =
     let u = c in
-    let s = u .before .before .before .before .before .before .before in
-    let k = seg-new-long (s .pre .0) (u .before .before .before .if1 .left) (u .before .before .if2 .left) (u .before .if3 .left) (u .if4 .left) in
+    let s = u .before .before .before .before .before .before in
+    let k = seg-multi-long (s .pre .0) (u .before .before .if1 .left) (u .before .if2 .left) (u .if3 .left) in
     search needs
 
 part-append-shifted-start : tie.Need-part-append-shifted-start
 part-append-shifted-start c =
     let u = c in
-    let s = u .before .before .before .before .before .before .before in
-    let k = seg-new-long (s .pre .0) (u .before .before .before .if1 .left) (u .before .before .if2 .left) (u .before .if3 .left) (u .if4 .left) in
+    let s = u .before .before .before .before .before .before in
+    let k = seg-multi-long (s .pre .0) (u .before .before .if1 .left) (u .before .if2 .left) (u .if3 .left) in
     search needs
 
 part-append-shifted-end : tie.Need-part-append-shifted-end
@@ -140,40 +113,38 @@ part-append-shifted-end c = search needs
 append-shifted-requires : tie.Need-append-shifted-requires
 append-shifted-requires c κs =
     let u = c .before .before in
-    let s = u .before .before .before .before .before .before .before in
-    let e = seg-totals-new (s .pre .0) (u .before .before .before .if1 .left) (u .before .before .if2 .left) (u .before .if3 .left) (u .if4 .left) (s .args .total) in
+    let s = u .before .before .before .before .before .before in
+    let e = seg-totals-multi (s .pre .0) (u .before .before .if1 .left) (u .before .if2 .left) (u .if3 .left) (s .args .total) in
     (seg-totals-below (s .pre .0) 4294967296 (s .args .total) _ e (omega (arith, s .pre .1 .0)), part-room _ _ e _ (shifted-length _ _) _ (s .pre .1 .1))
 
 sub-result : tie.Need-sub-result
 sub-result c =
     let u = c .before .before .before .before .before in
-    let s = u .before .before .before .before .before .before .before in
-    let k = seg-new-long (s .pre .0) (u .before .before .before .if1 .left) (u .before .before .if2 .left) (u .before .if3 .left) (u .if4 .left) in
+    let s = u .before .before .before .before .before .before in
+    let k = seg-multi-long (s .pre .0) (u .before .before .if1 .left) (u .before .if2 .left) (u .if3 .left) in
     search needs
 
 add-result-3 : tie.Need-add-result-3
 add-result-3 c =
     let u = c .before .before .before .before .before in
-    let s = u .before .before .before .before .before .before .before in
-    let a = u .before .before .before .if1 .left in
-    let b = u .before .before .if2 .left in
-    let g = u .before .if3 .left in
-    let d = u .if4 .left in
-    let k = part-room _ _ (seg-totals-new (s .pre .0) a b g d (s .args .total)) _ (shifted-length _ _ ∙ seg-new-length (s .pre .0) a b g d) (s .args .at) (s .pre .1 .1) in
+    let s = u .before .before .before .before .before .before in
+    let a = u .before .before .if1 .left in
+    let b = u .before .if2 .left in
+    let g = u .if3 .left in
+    let k = part-room _ _ (seg-totals-multi (s .pre .0) a b g (s .args .total)) _ (shifted-length _ _ ∙ seg-multi-length (s .pre .0) a b g) (s .args .at) (s .pre .1 .1) in
     search needs
 
-same-length-4 : tie.Need-same-length-4
-same-length-4 c = search needs
+same-length-3 : tie.Need-same-length-3
+same-length-3 c = search needs
 
-returns-5 : tie.Need-returns-5
-returns-5 c =
+returns-4 : tie.Need-returns-4
+returns-4 c =
     let u = c .before .before .before .before .before in
-    let s = u .before .before .before .before .before .before .before in
-    let a = u .before .before .before .if1 .left in
-    let b = u .before .before .if2 .left in
-    let g = u .before .if3 .left in
-    let d = u .if4 .left in
-    part-done _ _ (seg-totals-new (s .pre .0) a b g d (s .args .total)) _ (shifted-length _ _ ∙ seg-new-length (s .pre .0) a b g d) _ _ (c .before .before .append-shifted .ensures)
+    let s = u .before .before .before .before .before .before in
+    let a = u .before .before .if1 .left in
+    let b = u .before .if2 .left in
+    let g = u .if3 .left in
+    part-done _ _ (seg-totals-multi (s .pre .0) a b g (s .args .total)) _ (shifted-length _ _ ∙ seg-multi-length (s .pre .0) a b g) _ _ (c .before .before .append-shifted .ensures)
 
 pub put-segment-totals-spec : {M : Type 1} → statement M
 put-segment-totals-spec =
@@ -195,16 +166,9 @@ put-segment-totals-spec =
     add-result-2
     same-length-2
     returns-3
-    array-read-c
-    array-read-d
-    mul-append-risen-totals
-    sub-append-risen-totals
-    part-append-risen-totals-start
-    part-append-risen-totals-end
-    append-risen-totals-requires
-    same-length-3
-    returns-4
+    array-read-b
     add-b
+    array-read-d
     mul-append-shifted
     sub-append-shifted
     part-append-shifted-start
@@ -212,5 +176,5 @@ put-segment-totals-spec =
     append-shifted-requires
     sub-result
     add-result-3
-    same-length-4
-    returns-5)
+    same-length-3
+    returns-4)

@@ -3,7 +3,7 @@ use Prim.Native.Nat.{_-_}
 use native.Mathlib.Omega.{arith}
 use lib.ListN.{length}
 use borrow.Author.Needs.{needs}
-use Rattle.lists.proofs.Lists.{last-at}
+use Rattle.definitions.proofs.Slices.{last-at}
 use Rattle.segment_fit.specs.Fits.{lastOf}
 use Rattle.segment_fit.proofs.last_of.Statement.{statement}
 use Rattle.segment_fit.proofs.last_of.Tie as tie

@@ -26,19 +26,12 @@ returns-3 : tie.Need-returns-3
 unfolding fitsLists
 returns-3 c = other _ (ne-eqb _ _ (c .before .before .before .before .before .if1 .left)) (other _ (ne-eqb _ _ (c .before .before .before .if2 .left)) (chosen _ (eq-eqb _ _ (c .before .if3 .taken)) (c .optional-fits .ensures)))
 
-old-fits-requires : tie.Need-old-fits-requires
-old-fits-requires c κs = search needs
-
-returns-4 : tie.Need-returns-4
-unfolding fitsLists
-returns-4 c = other _ (ne-eqb _ _ (c .before .before .before .before .before .before .before .if1 .left)) (other _ (ne-eqb _ _ (c .before .before .before .before .before .if2 .left)) (other _ (ne-eqb _ _ (c .before .before .before .if3 .left)) (chosen _ (eq-eqb _ _ (c .before .if4 .taken)) (c .old-fits .ensures))))
-
 new-fits-requires : tie.Need-new-fits-requires
 new-fits-requires c κs = search needs
 
-returns-5 : tie.Need-returns-5
+returns-4 : tie.Need-returns-4
 unfolding fitsLists
-returns-5 c = other _ (ne-eqb _ _ (c .before .before .before .before .before .before .before .if1 .left)) (other _ (ne-eqb _ _ (c .before .before .before .before .before .if2 .left)) (other _ (ne-eqb _ _ (c .before .before .before .if3 .left)) (other _ (ne-eqb _ _ (c .before .if4 .left)) (c .new-fits .ensures))))
+returns-4 c = other _ (ne-eqb _ _ (c .before .before .before .before .before .if1 .left)) (other _ (ne-eqb _ _ (c .before .before .before .if2 .left)) (other _ (ne-eqb _ _ (c .before .if3 .left)) (c .new-fits .ensures)))
 
 pub lists-fit-spec : {M : Type 1} → statement M
 lists-fit-spec =
@@ -50,7 +43,5 @@ lists-fit-spec =
     returns-2
     optional-fits-requires
     returns-3
-    old-fits-requires
-    returns-4
     new-fits-requires
-    returns-5)
+    returns-4)

@@ -39,7 +39,7 @@ same-length-2 c = search needs
 
 -- src/lib.rt:80:1
 returns-4 : tie.Need-returns-4
-returns-4 c = marks-rows _ _ _ _ _ (c .before .before .before .before .before .before .before .before .before .before .before .before .before .before .pre .0) (c .before .before .before .before .before .before .before .before .if1 .left) (c .before .before .before .before .before .before .if2 .left) (c .before .before .before .before .wide .ensures .0) (c .before .before .mark-rows .ensures)
+returns-4 c = marks-rows _ _ _ _ _ (c .before .before .before .before .before .before .before .before .before .before .before .before .before .before .pre .0) (c .before .before .before .before .before .before .before .before .if1 .left) (c .before .before .before .before .before .before .if2 .left) (c .before .before .before .before .before .before .before .before .before .before .before .before .before .before .pre .1 (c .before .before .before .before .before .before .before .before .if1 .left) (c .before .before .before .before .before .before .if2 .left) (omega (arith, c .before .before .before .before .before .if3 .left)) .sound .current) (c .before .before .before .before .wide .ensures .0) (c .before .before .mark-rows .ensures)
 
 pub mark-segment-spec : {M : Type 1} → statement M
 mark-segment-spec =

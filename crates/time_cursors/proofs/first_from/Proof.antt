@@ -1,6 +1,6 @@
 use mathlib.Core.Path.{_∙_}
 use borrow.Author.Needs.{needs}
-use Rattle.time_cursors.proofs.Parts.{words-there, cursor-none, ids-ready, row-small, old-ready, new-ready, values-ready, cursor-some}
+use Rattle.time_cursors.proofs.Parts.{words-there, cursor-none, ids-ready, row-small, offsets-ready, values-ready, cursor-some}
 use Rattle.time_cursors.proofs.first_from.Statement.{statement}
 use Rattle.time_cursors.proofs.first_from.Tie as tie
 
@@ -87,7 +87,7 @@ values-until-requires c κs =
     let the-pre = c .before .before .before .before .before .before .before .before .before .before .pre in
     let the-next-alive = c .before .before .before .before .next-alive in
     let the-if1 = c .before .before .before .if1 in
-    (row-small (the-pre .0) (the-pre .1) (the-next-alive .ensures) (the-if1 .left) (c .before .ids-until .ensures), (old-ready (the-pre .0) (the-pre .1) (the-next-alive .ensures) (the-if1 .left) (c .before .ids-until .ensures), new-ready (the-pre .0) (the-pre .1) (the-next-alive .ensures) (the-if1 .left) (c .before .ids-until .ensures)))
+    (row-small (the-pre .0) (the-pre .1) (the-next-alive .ensures) (the-if1 .left) (c .before .ids-until .ensures), offsets-ready (the-pre .0) (the-pre .1) (the-next-alive .ensures) (the-if1 .left) (c .before .ids-until .ensures))
 
 array-read-g : tie.Need-array-read-g
 array-read-g c = search needs

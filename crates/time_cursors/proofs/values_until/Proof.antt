@@ -1,8 +1,8 @@
 use mathlib.Core.Path.{_∙_}
 use native.Mathlib.Omega.{arith}
 use borrow.Author.Needs.{needs}
-use Rattle.time_cursors.proofs.Laws.{until-empty, until-full, until-optional, until-old, until-new}
-use Rattle.column_index.proofs.Laws.{four-le}
+use Rattle.time_cursors.proofs.Laws.{until-empty, until-full, until-optional, until-multi}
+use Rattle.column_index.proofs.Laws.{three-le}
 use Rattle.time_cursors.proofs.values_until.Statement.{statement}
 use Rattle.time_cursors.proofs.values_until.Tie as tie
 
@@ -18,32 +18,17 @@ returns-2 c = until-full _ _ _ _ (c .if2 .taken)
 returns-3 : tie.Need-returns-3
 returns-3 c = until-optional _ _ _ _ (c .if3 .taken)
 
-add-wide : tie.Need-add-wide
-add-wide c = search needs
-
 mul-wide : tie.Need-mul-wide
-mul-wide c = omega (arith, c .before .before .before .before .before .pre .0)
+mul-wide c = omega (arith, c .before .before .before .before .pre .1 (three-le _ (c .before .before .if1 .left) (c .before .if2 .left) (c .if3 .left)), c .before .before .before .before .good .1)
 
 shared-slice-read-wide : tie.Need-shared-slice-read-wide
-shared-slice-read-wide c = c .before .before .before .before .before .before .pre .1 .0 (c .before .if4 .taken)
+shared-slice-read-wide c = c .before .before .before .before .before .pre .1 (three-le _ (c .before .before .before .if1 .left) (c .before .before .if2 .left) (c .before .if3 .left))
 
 wide-requires : tie.Need-wide-requires
 wide-requires c κs = search needs
 
 returns-4 : tie.Need-returns-4
-returns-4 c = c .wide .ensures .0 ∙ until-old _ _ _ _ (c .before .before .if4 .taken)
-
-mul-wide-2 : tie.Need-mul-wide-2
-mul-wide-2 c = omega (arith, c .before .before .before .before .before .pre .1 .1 (four-le _ (c .before .before .before .if1 .left) (c .before .before .if2 .left) (c .before .if3 .left) (c .if4 .left)), c .before .before .before .before .before .good .1)
-
-shared-slice-read-wide-2 : tie.Need-shared-slice-read-wide-2
-shared-slice-read-wide-2 c = c .before .before .before .before .before .before .pre .1 .1 (four-le _ (c .before .before .before .before .if1 .left) (c .before .before .before .if2 .left) (c .before .before .if3 .left) (c .before .if4 .left))
-
-wide-requires-2 : tie.Need-wide-requires-2
-wide-requires-2 c κs = search needs
-
-returns-5 : tie.Need-returns-5
-returns-5 c = c .wide2 .ensures .0 ∙ until-new _ _ _ _ (four-le _ (c .before .before .before .before .before .if1 .left) (c .before .before .before .before .if2 .left) (c .before .before .before .if3 .left) (c .before .before .if4 .left))
+returns-4 c = c .wide .ensures .0 ∙ until-multi _ _ _ _ (three-le _ (c .before .before .before .before .if1 .left) (c .before .before .before .if2 .left) (c .before .before .if3 .left))
 
 pub values-until-spec : {M : Type 1} → statement M
 values-until-spec =
@@ -53,12 +38,7 @@ values-until-spec =
     add-result
     returns-2
     returns-3
-    add-wide
     mul-wide
     shared-slice-read-wide
     wide-requires
-    returns-4
-    mul-wide-2
-    shared-slice-read-wide-2
-    wide-requires-2
-    returns-5)
+    returns-4)

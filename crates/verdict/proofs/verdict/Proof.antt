@@ -16,15 +16,15 @@ use Rattle.segment.specs.Records.{recordsOf, sectionsIn}
 use Rattle.segment.specs.Lent.{addressesOf, workingOnly, lentInput}
 use Rattle.merge_mapping.specs.Mapping.{rowsIn}
 use Rattle.segment.proofs.Walk.{records-long}
-use Rattle.definitions.specs.Answer.{total, sevenChecks}
+use Rattle.definitions.specs.Answer.{total, checksToSeven}
 use Rattle.verdict.proofs.verdict.Statement.{statement}
 use Rattle.verdict.proofs.verdict.Tie as tie
 
 zero-requires : tie.Need-zero-requires
 zero-requires c κs = search needs
 
-first-seven-requires : tie.Need-first-seven-requires
-first-seven-requires c κs = search needs
+first-to-seven-requires : tie.Need-first-to-seven-requires
+first-to-seven-requires c κs = search needs
 
 same-length : tie.Need-same-length
 same-length c = search needs
@@ -33,25 +33,25 @@ returns : tie.Need-returns
 returns c =
     let a = c .before .before .before .before .before .before .before .before .before .before .before .before .before .args in
     let i = lentInput (a .mode) (a .required) (a .records .now) (a .ids .now) (a .offsets .now) (a .values .now) (a .lengths .now) (a .bytes .now) (a .alive .now) (a .addresses .now) (length (a .work .now)) in
-    let e : c .before .first-seven .result ≡ firstOf (sevenChecks i) = c .before .first-seven .ensures ∙ ap firstOf (seven-same (a .mode) (a .required) (recordsOf (a .records .now)) (sectionsIn (a .ids .now) (a .offsets .now) (a .values .now) (a .lengths .now) (a .bytes .now) (a .alive .now)) [] (addressesOf (a .addresses .now)) (workingOnly 0) (workingOnly (length (a .work .now)))) in
+    let e : c .before .first-to-seven .result ≡ firstOf (checksToSeven i) = c .before .first-to-seven .ensures ∙ ap firstOf (seven-same (a .mode) (a .required) (recordsOf (a .records .now)) (sectionsIn (a .ids .now) (a .offsets .now) (a .values .now) (a .lengths .now) (a .bytes .now) (a .alive .now)) [] (addressesOf (a .addresses .now)) (workingOnly 0) (workingOnly (length (a .work .now)))) in
     (nine-first i e (c .if1 .taken), c .before .before .before .before .zero .ensures)
 
 totals-of-requires : tie.Need-totals-of-requires
 totals-of-requires c κs =
     let a = c .before .before .before .before .before .before .before .before .before .before .before .before .before .args in
     let i = lentInput (a .mode) (a .required) (a .records .now) (a .ids .now) (a .offsets .now) (a .values .now) (a .lengths .now) (a .bytes .now) (a .alive .now) (a .addresses .now) (length (a .work .now)) in
-    let e : c .before .first-seven .result ≡ firstOf (sevenChecks i) = c .before .first-seven .ensures ∙ ap firstOf (seven-same (a .mode) (a .required) (recordsOf (a .records .now)) (sectionsIn (a .ids .now) (a .offsets .now) (a .values .now) (a .lengths .now) (a .bytes .now) (a .alive .now)) [] (addressesOf (a .addresses .now)) (workingOnly 0) (workingOnly (length (a .work .now)))) in
-    let p = all-passed (sevenChecks i) 0 tt (sym e ∙ c .if1 .left) .0 in
+    let e : c .before .first-to-seven .result ≡ firstOf (checksToSeven i) = c .before .first-to-seven .ensures ∙ ap firstOf (seven-same (a .mode) (a .required) (recordsOf (a .records .now)) (sectionsIn (a .ids .now) (a .offsets .now) (a .values .now) (a .lengths .now) (a .bytes .now) (a .alive .now)) [] (addressesOf (a .addresses .now)) (workingOnly 0) (workingOnly (length (a .work .now)))) in
+    let p = all-passed (checksToSeven i) 0 tt (sym e ∙ c .if1 .left) .0 in
     let r = ready (i .records) (i .sections) (plain-passed i p) in
     omega (arith, r .few, records-long (a .records .now))
 
 room-enough-requires : tie.Need-room-enough-requires
 room-enough-requires c κs =
     let a = c .before .before .before .before .before .before .before .before .before .before .before .before .before .before .args in
-    let first-seven = c .before .before .first-seven in
+    let first-to-seven = c .before .before .first-to-seven in
     let i = lentInput (a .mode) (a .required) (a .records .now) (a .ids .now) (a .offsets .now) (a .values .now) (a .lengths .now) (a .bytes .now) (a .alive .now) (a .addresses .now) (length (a .work .now)) in
-    let e : first-seven .result ≡ firstOf (sevenChecks i) = first-seven .ensures ∙ ap firstOf (seven-same (a .mode) (a .required) (recordsOf (a .records .now)) (sectionsIn (a .ids .now) (a .offsets .now) (a .values .now) (a .lengths .now) (a .bytes .now) (a .alive .now)) [] (addressesOf (a .addresses .now)) (workingOnly 0) (workingOnly (length (a .work .now)))) in
-    let p = all-passed (sevenChecks i) 0 tt (sym e ∙ c .before .if1 .left) .0 in
+    let e : first-to-seven .result ≡ firstOf (checksToSeven i) = first-to-seven .ensures ∙ ap firstOf (seven-same (a .mode) (a .required) (recordsOf (a .records .now)) (sectionsIn (a .ids .now) (a .offsets .now) (a .values .now) (a .lengths .now) (a .bytes .now) (a .alive .now)) [] (addressesOf (a .addresses .now)) (workingOnly 0) (workingOnly (length (a .work .now)))) in
+    let p = all-passed (checksToSeven i) 0 tt (sym e ∙ c .before .if1 .left) .0 in
     let r = ready (i .records) (i .sections) (plain-passed i p) in
     let t : c .totals-of .result .rows ≡ total rowsIn (recordsOf (a .records .now)) = ap (λ (x : Totals). x .rows) (c .totals-of .ensures) in
     (omega (arith, r .rows), omega (arith, c .before .before .before .before .before .before .before .before .before .before .before .before .before .before .good .1 .1 .1 .1 .1 .1 .0 .1))
@@ -62,12 +62,12 @@ same-length-2 c = search needs
 returns-2 : tie.Need-returns-2
 returns-2 c =
     let a = c .before .before .before .before .before .before .before .before .before .before .before .before .before .before .before .before .args in
-    let first-seven = c .before .before .before .before .first-seven in
+    let first-to-seven = c .before .before .before .before .first-to-seven in
     let totals-of = c .before .before .totals-of in
     let zero = c .before .before .before .before .before .before .before .zero in
     let i = lentInput (a .mode) (a .required) (a .records .now) (a .ids .now) (a .offsets .now) (a .values .now) (a .lengths .now) (a .bytes .now) (a .alive .now) (a .addresses .now) (length (a .work .now)) in
-    let e : first-seven .result ≡ firstOf (sevenChecks i) = first-seven .ensures ∙ ap firstOf (seven-same (a .mode) (a .required) (recordsOf (a .records .now)) (sectionsIn (a .ids .now) (a .offsets .now) (a .values .now) (a .lengths .now) (a .bytes .now) (a .alive .now)) [] (addressesOf (a .addresses .now)) (workingOnly 0) (workingOnly (length (a .work .now)))) in
-    let p = all-passed (sevenChecks i) 0 tt (sym e ∙ c .before .before .before .if1 .left) .0 in
+    let e : first-to-seven .result ≡ firstOf (checksToSeven i) = first-to-seven .ensures ∙ ap firstOf (seven-same (a .mode) (a .required) (recordsOf (a .records .now)) (sectionsIn (a .ids .now) (a .offsets .now) (a .values .now) (a .lengths .now) (a .bytes .now) (a .alive .now)) [] (addressesOf (a .addresses .now)) (workingOnly 0) (workingOnly (length (a .work .now)))) in
+    let p = all-passed (checksToSeven i) 0 tt (sym e ∙ c .before .before .before .if1 .left) .0 in
     let t : totals-of .result .rows ≡ total rowsIn (recordsOf (a .records .now)) = ap (λ (x : Totals). x .rows) (totals-of .ensures) in
     let b = nine-room i p t refl (zero .kept .0) (c .before .room-enough .ensures) in
     (nine-eight i p (c .before .room-enough .result) b (c .if2 .taken), zero .ensures)
@@ -75,11 +75,11 @@ returns-2 c =
 addresses-fit-requires : tie.Need-addresses-fit-requires
 addresses-fit-requires c κs =
     let a = c .before .before .before .before .before .before .before .before .before .before .before .before .before .before .before .before .before .args in
-    let first-seven = c .before .before .before .before .before .first-seven in
+    let first-to-seven = c .before .before .before .before .before .first-to-seven in
     let totals-of = c .before .before .before .totals-of in
     let i = lentInput (a .mode) (a .required) (a .records .now) (a .ids .now) (a .offsets .now) (a .values .now) (a .lengths .now) (a .bytes .now) (a .alive .now) (a .addresses .now) (length (a .work .now)) in
-    let e : first-seven .result ≡ firstOf (sevenChecks i) = first-seven .ensures ∙ ap firstOf (seven-same (a .mode) (a .required) (recordsOf (a .records .now)) (sectionsIn (a .ids .now) (a .offsets .now) (a .values .now) (a .lengths .now) (a .bytes .now) (a .alive .now)) [] (addressesOf (a .addresses .now)) (workingOnly 0) (workingOnly (length (a .work .now)))) in
-    let p = all-passed (sevenChecks i) 0 tt (sym e ∙ c .before .before .before .before .if1 .left) .0 in
+    let e : first-to-seven .result ≡ firstOf (checksToSeven i) = first-to-seven .ensures ∙ ap firstOf (seven-same (a .mode) (a .required) (recordsOf (a .records .now)) (sectionsIn (a .ids .now) (a .offsets .now) (a .values .now) (a .lengths .now) (a .bytes .now) (a .alive .now)) [] (addressesOf (a .addresses .now)) (workingOnly 0) (workingOnly (length (a .work .now)))) in
+    let p = all-passed (checksToSeven i) 0 tt (sym e ∙ c .before .before .before .before .if1 .left) .0 in
     let r = ready (i .records) (i .sections) (plain-passed i p) in
     let t : totals-of .result .rows ≡ total rowsIn (recordsOf (a .records .now)) = ap (λ (x : Totals). x .rows) (totals-of .ensures) in
     record {
@@ -96,14 +96,14 @@ same-length-3 c = search needs
 returns-3 : tie.Need-returns-3
 returns-3 c =
     let a = c .before .before .before .before .before .before .before .before .before .before .before .before .before .before .before .before .before .before .before .before .before .args in
-    let first-seven = c .before .before .before .before .before .before .before .before .before .first-seven in
+    let first-to-seven = c .before .before .before .before .before .before .before .before .before .first-to-seven in
     let totals-of = c .before .before .before .before .before .before .before .totals-of in
     let zero = c .before .before .before .before .before .before .before .before .before .before .before .before .zero in
     let room-enough = c .before .before .before .before .before .before .room-enough in
     let addresses-fit = c .before .before .before .addresses-fit in
     let i = lentInput (a .mode) (a .required) (a .records .now) (a .ids .now) (a .offsets .now) (a .values .now) (a .lengths .now) (a .bytes .now) (a .alive .now) (a .addresses .now) (length (a .work .now)) in
-    let e : first-seven .result ≡ firstOf (sevenChecks i) = first-seven .ensures ∙ ap firstOf (seven-same (a .mode) (a .required) (recordsOf (a .records .now)) (sectionsIn (a .ids .now) (a .offsets .now) (a .values .now) (a .lengths .now) (a .bytes .now) (a .alive .now)) [] (addressesOf (a .addresses .now)) (workingOnly 0) (workingOnly (length (a .work .now)))) in
-    let p = all-passed (sevenChecks i) 0 tt (sym e ∙ c .before .before .before .before .before .before .before .before .if1 .left) .0 in
+    let e : first-to-seven .result ≡ firstOf (checksToSeven i) = first-to-seven .ensures ∙ ap firstOf (seven-same (a .mode) (a .required) (recordsOf (a .records .now)) (sectionsIn (a .ids .now) (a .offsets .now) (a .values .now) (a .lengths .now) (a .bytes .now) (a .alive .now)) [] (addressesOf (a .addresses .now)) (workingOnly 0) (workingOnly (length (a .work .now)))) in
+    let p = all-passed (checksToSeven i) 0 tt (sym e ∙ c .before .before .before .before .before .before .before .before .if1 .left) .0 in
     let t : totals-of .result .rows ≡ total rowsIn (recordsOf (a .records .now)) = ap (λ (x : Totals). x .rows) (totals-of .ensures) in
     let b = nine-room i p t refl (zero .kept .0) (room-enough .ensures) in
     (nine-nine i p (room-enough .result) b (c .before .before .before .before .before .if2 .left) (addresses-fit .ensures .0) (c .if3 .taken), (addresses-fit .ensures .1 ∙ ap (λ (n : ℕ). replicate n 0) (zero .kept .0)))
@@ -114,14 +114,14 @@ same-length-4 c = search needs
 returns-4 : tie.Need-returns-4
 returns-4 c =
     let a = c .before .before .before .before .before .before .before .before .before .before .before .before .before .before .before .before .before .before .before .before .before .args in
-    let first-seven = c .before .before .before .before .before .before .before .before .before .first-seven in
+    let first-to-seven = c .before .before .before .before .before .before .before .before .before .first-to-seven in
     let totals-of = c .before .before .before .before .before .before .before .totals-of in
     let zero = c .before .before .before .before .before .before .before .before .before .before .before .before .zero in
     let room-enough = c .before .before .before .before .before .before .room-enough in
     let addresses-fit = c .before .before .before .addresses-fit in
     let i = lentInput (a .mode) (a .required) (a .records .now) (a .ids .now) (a .offsets .now) (a .values .now) (a .lengths .now) (a .bytes .now) (a .alive .now) (a .addresses .now) (length (a .work .now)) in
-    let e : first-seven .result ≡ firstOf (sevenChecks i) = first-seven .ensures ∙ ap firstOf (seven-same (a .mode) (a .required) (recordsOf (a .records .now)) (sectionsIn (a .ids .now) (a .offsets .now) (a .values .now) (a .lengths .now) (a .bytes .now) (a .alive .now)) [] (addressesOf (a .addresses .now)) (workingOnly 0) (workingOnly (length (a .work .now)))) in
-    let p = all-passed (sevenChecks i) 0 tt (sym e ∙ c .before .before .before .before .before .before .before .before .if1 .left) .0 in
+    let e : first-to-seven .result ≡ firstOf (checksToSeven i) = first-to-seven .ensures ∙ ap firstOf (seven-same (a .mode) (a .required) (recordsOf (a .records .now)) (sectionsIn (a .ids .now) (a .offsets .now) (a .values .now) (a .lengths .now) (a .bytes .now) (a .alive .now)) [] (addressesOf (a .addresses .now)) (workingOnly 0) (workingOnly (length (a .work .now)))) in
+    let p = all-passed (checksToSeven i) 0 tt (sym e ∙ c .before .before .before .before .before .before .before .before .if1 .left) .0 in
     let t : totals-of .result .rows ≡ total rowsIn (recordsOf (a .records .now)) = ap (λ (x : Totals). x .rows) (totals-of .ensures) in
     let b = nine-room i p t refl (zero .kept .0) (room-enough .ensures) in
     (nine-none i p (room-enough .result) b (c .before .before .before .before .before .if2 .left) (addresses-fit .ensures .0) (c .if3 .left), (addresses-fit .ensures .1 ∙ ap (λ (n : ℕ). replicate n 0) (zero .kept .0)))
@@ -131,7 +131,7 @@ verdict-spec =
     tie.close
     (tie.spec
     zero-requires
-    first-seven-requires
+    first-to-seven-requires
     same-length
     returns
     totals-of-requires

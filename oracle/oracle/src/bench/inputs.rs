@@ -5,7 +5,6 @@
 //! opt        kind 2, U64, a row has a value if next() is even
 //! optsparse  kind 2, U64, a row has a value if next() % 50 == 0
 //! multi      kind 4, U64, next() % 4 values in a row
-//! multi-old  the same as kind 3
 //! mixed      kind 1, I64 and U64 in turn, value = next() >> 24: joined type I64
 //! mixed-f64  kind 1, I64, U64 and F64 in turn, integers = next(): joined type F64
 //! str        kind 1, Str, one term for ten rows but at most 100,000 ("term" and 8 digits, of twice
@@ -15,12 +14,14 @@
 //! interleaved        row 0 of each segment, row 1 of each segment, ..
 //! shuffled           in random order
 //! interleaved-alive  interleaved, one row in ten withdrawn
+//!
+//! The converter's segment is that of multi as kind 3, from seed 1.
 use tantivy_columnar::ColumnType;
 
 use crate::rng::Rng;
 use crate::wire::{Input, Seg};
 
-pub const COLUMNS: &[&str] = &["full", "opt", "optsparse", "multi", "multi-old", "mixed", "mixed-f64", "str"];
+pub const COLUMNS: &[&str] = &["full", "opt", "optsparse", "multi", "mixed", "mixed-f64", "str"];
 pub const ORDERS: &[&str] = &["stacked", "interleaved", "shuffled", "interleaved-alive"];
 
 /// A line of the table: a column in a row order.
@@ -54,7 +55,7 @@ impl Line {
     /// terms.
     pub fn openings(&self) -> u32 {
         match self.column {
-            "multi" | "multi-old" | "str" => 2,
+            "multi" | "str" => 2,
             _ => 1,
         }
     }
@@ -83,7 +84,6 @@ impl Line {
             "opt" => optional(&mut s, &mut rng, 2),
             "optsparse" => optional(&mut s, &mut rng, 50),
             "multi" => multivalued(&mut s, &mut rng, 4),
-            "multi-old" => multivalued(&mut s, &mut rng, 3),
             "mixed" => {
                 s.ty = i as u32 % 2;
                 s.values = words(&mut rng, rows);
@@ -97,6 +97,13 @@ impl Line {
         }
         s
     }
+}
+
+/// The segment that is converted.
+pub fn stored(rows: u32) -> Seg {
+    let mut s = Seg { ty: 1, rows, ..Seg::default() };
+    multivalued(&mut s, &mut Rng::new(1), 3);
+    s
 }
 
 fn words(rng: &mut Rng, n: u32) -> Vec<u64> {

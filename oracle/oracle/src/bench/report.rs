@@ -1,6 +1,6 @@
 //! The table and the growth series as text, and the machine that they were made on.
 use super::inputs::{Line, lines};
-use super::{Measured, ROUNDS, keep_memory, measure};
+use super::{Measured, MeasuredConversion, ROUNDS, keep_memory, measure, measure_conversion};
 use crate::compare::has_library;
 
 /// The lines whose growth is measured if none are named.
@@ -13,12 +13,26 @@ const GROWTH: &[Line] = &[
     Line { column: "str", order: "interleaved-alive" },
 ];
 
-/// Prints the table of the lines that have `word` in their name. False if checksums differ.
+/// Prints the tables of the lines that have `word` in their name. False if checksums differ.
 pub fn table(segs: usize, rows: u32, word: &str) -> Result<bool, String> {
-    let lines = begin(lines(word))?;
+    let lines = lines(word);
+    let converter = CONVERTER.contains(word);
+    begin(lines.len() + converter as usize)?;
+    println!("{}", machine());
+    let mut all_equal = true;
+    if !lines.is_empty() {
+        all_equal &= joins(&lines, segs, rows);
+    }
+    if converter {
+        all_equal &= conversion((segs as u32).saturating_mul(rows));
+    }
+    Ok(all_equal)
+}
+
+fn joins(lines: &[Line], segs: usize, rows: u32) -> bool {
     print_head(segs, rows);
     let (mut met, mut equal) = (0, 0);
-    for &line in &lines {
+    for &line in lines {
         let m = measure(line, segs, rows);
         let missed = missed(&m);
         met += missed.is_none() as usize;
@@ -27,13 +41,44 @@ pub fn table(segs: usize, rows: u32, word: &str) -> Result<bool, String> {
         progress(&m);
     }
     println!("\nTargets met on {met} of {} lines; checksums equal on {equal}.", lines.len());
-    Ok(equal == lines.len())
+    equal == lines.len()
+}
+
+/// The converter's name where lines are named.
+const CONVERTER: &str = "converter";
+
+/// The target: within three times a plain copy of the stored offsets.
+fn conversion(rows: u32) -> bool {
+    let m = measure_conversion(rows);
+    println!(
+        "\nThe converter: one segment of kind 3, 0 to 3 values in a row, beside a plain copy of its offsets. \
+         Times in ns per row, processor time, least of {ROUNDS} rounds.\n"
+    );
+    println!(
+        "| Rows | With a value | Values | Ours | Plain copy | Ours / copy | Target met | Checksum of ours and of the model |"
+    );
+    println!("|--:|--:|--:|--:|--:|--:|---|---|");
+    let MeasuredConversion { rows, ids, values, ours, copy, sums } = m;
+    println!(
+        "| {} | {} | {} | {} | {} | {} | {} | {} |",
+        grouped(rows),
+        grouped(ids),
+        grouped(values),
+        digits(ours),
+        digits(copy),
+        digits(ours / copy),
+        if ours > 3.0 * copy { "**no**: above 3 plain copies" } else { "yes" },
+        sum(sums)
+    );
+    let equal = if sums[0] == sums[1] { "" } else { ", CHECKSUMS DIFFER" };
+    let (ours, copy) = (digits(ours), digits(copy));
+    eprintln!("{CONVERTER:<28} {rows:>10} rows: ours {ours:>8}, copy {copy:>8} ns per row{equal}");
+    sums[0] == sums[1]
 }
 
 fn print_head(segs: usize, rows: u32) {
-    println!("{}\n", machine());
     println!(
-        "{segs} segments of {} rows. Times in ns per joined row, processor time, least of {ROUNDS} rounds.\n",
+        "\n{segs} segments of {} rows. Times in ns per joined row, processor time, least of {ROUNDS} rounds.\n",
         grouped(rows as usize)
     );
     println!(
@@ -43,12 +88,8 @@ fn print_head(segs: usize, rows: u32) {
 }
 
 fn table_row(m: &Measured, missed: Option<&str>) -> String {
-    let sum = match m.sums[0] == m.sums[1] {
-        true => format!("{:016x}", m.sums[0]),
-        false => "DIFFER".to_string(),
-    };
     format!(
-        "| {} | {} | {} | {} | {} | {} | {} | {} | {} | {} | {sum} |",
+        "| {} | {} | {} | {} | {} | {} | {} | {} | {} | {} | {} |",
         m.line.column,
         m.line.order,
         grouped(m.rows),
@@ -58,15 +99,20 @@ fn table_row(m: &Measured, missed: Option<&str>) -> String {
         digits(m.theirs / m.ours),
         digits(m.copy),
         digits(m.ours / m.copy),
-        missed.map_or("yes".to_string(), |text| format!("**no**: {text}"))
+        missed.map_or("yes".to_string(), |text| format!("**no**: {text}")),
+        sum(m.sums)
     )
+}
+
+fn sum(sums: [u64; 2]) -> String {
+    if sums[0] == sums[1] { format!("{:016x}", sums[0]) } else { "DIFFER".to_string() }
 }
 
 /// The target that a line misses: at least as fast as the crate; at least four times as fast on
 /// stacked Full, Optional and multivalued; stacked Full within three times a plain copy.
 fn missed(m: &Measured) -> Option<String> {
     let stacked = m.line.order == "stacked";
-    let plain = matches!(m.line.column, "full" | "opt" | "optsparse" | "multi" | "multi-old");
+    let plain = matches!(m.line.column, "full" | "opt" | "optsparse" | "multi");
     let wanted = if stacked && plain { 4.0 } else { 1.0 };
     if m.theirs < m.ours {
         return Some("slower than the crate".to_string());
@@ -83,7 +129,8 @@ fn missed(m: &Measured) -> Option<String> {
 /// Prints, as comma-separated values, the times at sizes that grow by half powers of ten from 1,000
 /// rows a segment to `most`. False if checksums differ.
 pub fn growth(segs: usize, most: u32, word: &str) -> Result<bool, String> {
-    let lines = begin(if word.is_empty() { GROWTH.to_vec() } else { lines(word) })?;
+    let lines = if word.is_empty() { GROWTH.to_vec() } else { lines(word) };
+    begin(lines.len())?;
     println!("column,order,joined_rows,crate_ns_per_row,ours_ns_per_row,copy_ns_per_row");
     let mut equal = true;
     for line in lines {
@@ -102,15 +149,15 @@ fn sizes(most: u32) -> impl Iterator<Item = u32> {
     (0..).map(|i| 10f64.powf(3.0 + i as f64 / 2.0).round() as u32).take_while(move |&rows| rows <= most)
 }
 
-fn begin(lines: Vec<Line>) -> Result<Vec<Line>, String> {
+fn begin(lines: usize) -> Result<(), String> {
     if !has_library() {
         return Err("built without the library: set JADMIRUS_LIB to its path when building".into());
     }
-    if lines.is_empty() {
+    if lines == 0 {
         return Err("no line has that word in its name".into());
     }
     keep_memory();
-    Ok(lines)
+    Ok(())
 }
 
 fn progress(m: &Measured) {

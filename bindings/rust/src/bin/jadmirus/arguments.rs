@@ -9,6 +9,7 @@ pub enum Command {
     Join,
     Order,
     Check,
+    Convert,
     Encode,
     Show,
 }
@@ -54,6 +55,7 @@ impl Command {
             "join" => Some(Command::Join),
             "order" => Some(Command::Order),
             "check" => Some(Command::Check),
+            "convert" => Some(Command::Convert),
             "encode" => Some(Command::Encode),
             "show" => Some(Command::Show),
             _ => None,
@@ -65,6 +67,7 @@ impl Command {
             Command::Join => "join",
             Command::Order => "order",
             Command::Check => "check",
+            Command::Convert => "convert",
             Command::Encode => "encode",
             Command::Show => "show",
         }

@@ -1,11 +1,12 @@
 //! The commands.
 use crate::Failure;
 use crate::arguments::{Arguments, Command, Form, Place};
-use crate::input::{self, Input};
+use crate::input::{self, Input, Source};
 use crate::output::{to, to_stdout};
 use crate::progress::Progress;
 use jadmirus::explain::{self, Fault};
 use jadmirus::{Joined, Refusal, Sections, Segment, WireFault, sheet};
+use std::fmt;
 use std::io::{self, IsTerminal, Write, stdout};
 
 #[derive(Clone, Copy, Debug, PartialEq, Eq)]
@@ -16,20 +17,23 @@ pub enum Status {
 
 pub fn run(arguments: &Arguments) -> Result<Status, Failure> {
     let mut progress = Progress::new();
-    let input = input::read(&arguments.input, arguments.from, &mut progress)?;
+    let keep = arguments.command == Command::Convert;
+    let source = input::read(&arguments.input, arguments.from, keep, &mut progress)?;
     let what = match arguments.command {
         Command::Join => "joining",
         Command::Order => "ordering",
         Command::Check => "checking",
+        Command::Convert => "converting",
         Command::Encode | Command::Show => "writing",
     };
     progress.step(what);
     match arguments.command {
-        Command::Join => join(arguments, input),
-        Command::Order => order(arguments, input),
-        Command::Check => check(arguments, input),
-        Command::Encode => encode(arguments, input),
-        Command::Show => show(arguments, input),
+        Command::Join => join(arguments, source.input),
+        Command::Order => order(arguments, source.input),
+        Command::Check => check(arguments, source.input),
+        Command::Convert => convert(arguments, source),
+        Command::Encode => encode(arguments, source.input),
+        Command::Show => show(arguments, source.input),
     }
 }
 
@@ -136,6 +140,27 @@ fn agree(answered: Option<Refusal>, found: Option<Fault>) -> Result<Status, Fail
     )))
 }
 
+fn convert(arguments: &Arguments, source: Source) -> Result<Status, Failure> {
+    let mut sections = match source.input {
+        Ok(sections) => sections,
+        Err(fault) => return refuse_wire(arguments, &fault),
+    };
+    let old = sections.has_old_segments();
+    if let Err(refusal) = sections.convert() {
+        let found = explain::convert(&sections).filter(|fault| fault.refusal == refusal);
+        return refuse_at(arguments, refusal, found);
+    }
+    let output = arguments.output.as_ref();
+    match source.form {
+        Form::Wire => write_wire(&sections, output)?,
+        Form::Sheet => to(output.unwrap_or(&Place::Standard), |out| match old {
+            true => sheet::write_converted(&source.text, &sections, out),
+            false => out.write_all(source.text.as_bytes()),
+        })?,
+    }
+    Ok(Status::Accepted)
+}
+
 fn encode(arguments: &Arguments, input: Input) -> Result<Status, Failure> {
     let sections = unrefused(arguments, input)?;
     write_wire(&sections, arguments.output.as_ref())?;
@@ -194,10 +219,21 @@ fn refuse(arguments: &Arguments, refusal: Refusal) -> Result<Status, Failure> {
 
 /// A wire form that can't be read is answer 2, before all other checks.
 fn refuse_wire(arguments: &Arguments, fault: &WireFault) -> Result<Status, Failure> {
-    to_stdout(|out| writeln!(out, "answer {}", Refusal::Lengths.number()))?;
+    refuse_at(arguments, Refusal::Lengths, Some(fault))
+}
+
+/// Tells a refusal and at once its place, if one was found.
+fn refuse_at(
+    arguments: &Arguments,
+    refusal: Refusal,
+    fault: Option<impl fmt::Display>,
+) -> Result<Status, Failure> {
+    to_stdout(|out| writeln!(out, "answer {}", refusal.number()))?;
     let name = input::name(&arguments.input);
-    eprintln!("jadmirus: {name}: {}", Refusal::Lengths);
-    eprintln!("jadmirus: {name}: {fault}");
+    eprintln!("jadmirus: {name}: {refusal}");
+    if let Some(fault) = fault {
+        eprintln!("jadmirus: {name}: {fault}");
+    }
     Ok(Status::Refused)
 }
 

@@ -7,6 +7,7 @@ Joins the segments of one play-log column, by the proved library of Jadmirus.
   jadmirus join FILE      join the segments and list the column
   jadmirus order FILE     put the rows of a column of times in time order
   jadmirus check FILE     say what would be refused, and where
+  jadmirus convert FILE   make old multivalued segments new ones, which can be joined
   jadmirus encode SHEET   write a sheet's wire form
   jadmirus show FILE      write a wire form as a sheet
 
@@ -22,7 +23,7 @@ A sheet, here of two days:
 
   segment
   type Str                # I64 U64 F64 Bytes Str Bool DateTime; none: no column
-  kind Optional           # Empty Full Optional OldMultivalued NewMultivalued
+  kind Optional           # Empty Full Optional NewMultivalued; OldMultivalued: to convert
   rows 3
   ids 0 2                 # the rows with a value
   values \"Air\" \"Can\"      # or ordinals, and then 'terms \"Air\" \"Can\"'
@@ -40,7 +41,8 @@ Joins the segments of FILE and lists the column: answer, type, class, rows, then
 offsets, values, terms and maps, each after its number of elements. Values are unsigned
 64-bit words, terms are in hexadecimal ('-': empty). A refusal is listed as its answer's
 number alone; its name and meaning go to standard error, and 'jadmirus check FILE' says
-where it comes from.
+where it comes from. Segments of kind OldMultivalued are refused (answer 19) until 'jadmirus
+convert' has made them new ones.
 
   --rows          print the values in words in the listing's place: each row that has any, its
                   number (from 0) and its values
@@ -60,7 +62,8 @@ Sorts the rows that are not withdrawn by time, then segment, then row, and write
 an 'addresses' entry for the sheet of an ordered join. The segments hold DateTime columns, or
 none; a row without a time follows the one before it in its segment, and before the first
 time it stands before all times. Mode, required type and addresses of FILE play no part. A
-refusal prints 'answer' and its number.
+refusal prints 'answer' and its number; that of an OldMultivalued segment is 19, and 'jadmirus
+convert' makes it a new one.
 
   --output FILE   write to that file instead of standard output
   --from FORM     the form of the input (sheet or wire), if it can't be told
@@ -80,6 +83,24 @@ library's answer; should they differ, that is said, and the status is 2.
   --from FORM     the form of the input (sheet or wire), if it can't be told
 
 Exit status: 0 accepted; 1 refused; 2 failed (usage, files, memory).
+";
+
+const CONVERT: &str = "\
+jadmirus convert FILE [--output FILE] [--from sheet|wire]
+
+Makes every segment of kind OldMultivalued one of kind NewMultivalued, which is what a join or
+a time order takes, and writes FILE with them: a sheet as a sheet, a wire form as a wire form.
+Each row has the same values in the same order. In a sheet, these segments' kind, ids and
+offsets are changed, and 'rows' is put in where it was left out; what else is in FILE stays as
+it is, comments too. A FILE without old segments comes out as it is.
+
+If a segment can't be converted, none is, and no FILE is written: 'answer' and its number are
+printed instead, and which segment it is and why goes to standard error.
+
+  --output FILE   write to that file instead of standard output; it may be FILE itself
+  --from FORM     the form of the input (sheet or wire), if it can't be told
+
+Exit status: 0 converted; 1 refused; 2 failed (usage, files, memory).
 ";
 
 const ENCODE: &str = "\
@@ -111,6 +132,7 @@ pub fn of(command: Command) -> &'static str {
         Command::Join => JOIN,
         Command::Order => ORDER,
         Command::Check => CHECK,
+        Command::Convert => CONVERT,
         Command::Encode => ENCODE,
         Command::Show => SHOW,
     }

@@ -17,7 +17,20 @@ pub fn name(place: &Place) -> String {
     }
 }
 
-pub fn read(place: &Place, form: Option<Form>, progress: &mut Progress) -> Result<Input, Failure> {
+/// An input, and how it was written.
+pub struct Source {
+    pub input: Input,
+    pub form: Form,
+    /// A sheet's own text, if it was to be kept.
+    pub text: String,
+}
+
+pub fn read(
+    place: &Place,
+    form: Option<Form>,
+    keep: bool,
+    progress: &mut Progress,
+) -> Result<Source, Failure> {
     let failed = |error: io::Error| Failure::of(&name(place), error);
     let mut reader: Box<dyn Read> = match place {
         Place::Standard => Box::new(io::stdin().lock()),
@@ -30,20 +43,30 @@ pub fn read(place: &Place, form: Option<Form>, progress: &mut Progress) -> Resul
         .read_to_end(&mut start)
         .map_err(failed)?;
     let form = form.unwrap_or_else(|| form_of(&start));
-    let reader = Watched {
+    let mut reader = Watched {
         reader: Cursor::new(start).chain(reader),
         progress,
     };
-    match form {
-        Form::Sheet => sheet::read(BufReader::with_capacity(1 << 16, reader))
-            .map(Ok)
-            .map_err(|error| Failure::of(&name(place), error)),
+    let mut text = Vec::new();
+    let input = match form {
+        Form::Sheet => {
+            let sections = if keep {
+                reader.read_to_end(&mut text).map_err(failed)?;
+                sheet::read(&text[..])
+            } else {
+                sheet::read(BufReader::with_capacity(1 << 16, reader))
+            };
+            Ok(sections.map_err(|error| Failure::of(&name(place), error))?)
+        }
         Form::Wire => match Sections::read_wire(reader) {
-            Ok(sections) => Ok(Ok(sections)),
-            Err(WireError::Fault(fault)) => Ok(Err(fault)),
-            Err(WireError::Io(error)) => Err(failed(error)),
+            Ok(sections) => Ok(sections),
+            Err(WireError::Fault(fault)) => Err(fault),
+            Err(WireError::Io(error)) => return Err(failed(error)),
         },
-    }
+    };
+    // What was read as a sheet is UTF-8.
+    let text = String::from_utf8(text).unwrap_or_default();
+    Ok(Source { input, form, text })
 }
 
 /// A wire form begins with a small number in eight bytes, so with zeros among them. A text has none,

@@ -1,0 +1,4 @@
+pub mod Risen
+pub mod Own
+pub mod Cells
+pub mod Outcomes

@@ -1,0 +1,3 @@
+pub mod Risen
+pub mod Fits
+pub mod Outcome

@@ -1,0 +1,253 @@
+//! Converters that are wrong on purpose.
+use super::{Slip, put_before, put_in_place, slip};
+use crate::convert::{self, CHECKS, Call, Check, Converted, Outcome};
+use crate::ours::NewLists;
+use crate::table;
+use crate::wire::{Sections, Seg};
+
+#[derive(Clone, Copy)]
+pub enum How {
+    /// The first check right before the second.
+    Before(u32, u32),
+    /// Without check k.
+    Skip(u32),
+    /// Another check k.
+    Check(u32, Check),
+    /// Something else is written.
+    Write(fn(&Seg, &mut Converted)),
+    /// Something else is left in memory.
+    Leave(fn(&Outcome, &mut NewLists)),
+}
+
+const fn wrong(name: &'static str, how: How) -> Slip {
+    slip(name, super::How::Converter(how))
+}
+
+pub const SLIPS: &[Slip] = &[
+    wrong("converter: 3 before 2", How::Before(3, 2)),
+    wrong("converter: 4 before 3", How::Before(4, 3)),
+    wrong("converter: 5 before 4", How::Before(5, 4)),
+    wrong("converter: 6 before 5", How::Before(6, 5)),
+    wrong("converter: 11 before 6", How::Before(11, 6)),
+    wrong("converter: 11 before 4", How::Before(11, 4)),
+    wrong("converter: no 2", How::Skip(2)),
+    wrong("converter: no 3", How::Skip(3)),
+    wrong("converter: no 4", How::Skip(4)),
+    wrong("converter: no 5", How::Skip(5)),
+    wrong("converter: no 6", How::Skip(6)),
+    wrong("converter: no 11", How::Skip(11)),
+    wrong(
+        "converter: 2 with alive words for flag 2",
+        How::Check(2, |c| {
+            let mut s = c.sections.clone();
+            s.records[0][7] = (s.records[0][7] != 0) as u32;
+            convert::lengths(&Call { sections: &s, ..*c })
+        }),
+    ),
+    wrong("converter: 3 not for kind 4", How::Check(3, |c| record(c)[1] != 4 && convert::unknown(c))),
+    wrong("converter: 3 not for type 255", How::Check(3, |c| record(c)[0] != 255 && convert::unknown(c))),
+    wrong("converter: 3 not for type 6", How::Check(3, |c| record(c)[0] != 6 && convert::unknown(c))),
+    wrong("converter: 3 not for an unknown flag", How::Check(3, |c| record(c)[7] < 2 && convert::unknown(c))),
+    wrong(
+        "converter: 3 with a kind that nobody knows alone",
+        How::Check(3, |c| record(c)[1] > 4 || record(c)[1] == 3 && convert::unknown(c)),
+    ),
+    wrong("converter: 3 for kind 3", How::Check(3, |_| true)),
+    wrong("converter: 4 not for ids", How::Check(4, |c| table::runs_of(&Seg { ids: vec![], ..c.segment() }))),
+    wrong(
+        "converter: 4 not for a first offset above 0",
+        How::Check(4, |c| {
+            let mut s = c.segment();
+            s.offsets.iter_mut().take(1).for_each(|first| *first = 0);
+            table::runs_of(&s)
+        }),
+    ),
+    wrong(
+        "converter: 4 not for a last offset below the number of values",
+        How::Check(4, |c| {
+            let mut s = c.segment();
+            let last = s.offsets.last().map_or(0, |&last| last as usize);
+            s.values.truncate(last);
+            table::runs_of(&s)
+        }),
+    ),
+    wrong(
+        "converter: 4 not for falling offsets",
+        How::Check(4, |c| {
+            let mut s = c.segment();
+            s.offsets.sort();
+            table::runs_of(&s)
+        }),
+    ),
+    wrong(
+        "converter: 4 for a repeated offset",
+        How::Check(4, |c| convert::runs(c) || c.segment().offsets.windows(2).any(|w| w[0] == w[1])),
+    ),
+    wrong(
+        "converter: 5 not for equal terms",
+        How::Check(5, |c| {
+            let mut s = c.segment();
+            s.terms.dedup();
+            table::contents_of(&s)
+        }),
+    ),
+    wrong(
+        "converter: 5 for the rows that are alive alone",
+        How::Check(5, |c| {
+            let s = c.segment();
+            let alive =
+                |row: usize| s.alive.as_ref().is_none_or(|words| words[row / 64] >> (row % 64) & 1 == 1);
+            let values = s.offsets.windows(2).enumerate().filter(|(row, _)| alive(*row));
+            let values = values.flat_map(|(_, w)| s.values[w[0] as usize..w[1] as usize].to_vec()).collect();
+            table::contents_of(&Seg { values, ..s.clone() })
+        }),
+    ),
+    wrong("converter: 6 for an alive set", How::Check(6, |c| record(c)[7] == 1)),
+    wrong(
+        "converter: 6 for the row after the last alone",
+        How::Check(6, |c| {
+            let s = c.segment();
+            let next = |words: &Vec<u64>| {
+                words.get(s.rows as usize / 64).is_some_and(|w| w >> (s.rows % 64) & 1 == 1)
+            };
+            s.alive.as_ref().is_some_and(next)
+        }),
+    ),
+    wrong(
+        "converter: 11 for the ids alone",
+        How::Check(11, |c| c.space.ids < convert::needed(&c.segment()).ids),
+    ),
+    wrong(
+        "converter: 11 for the offsets alone",
+        How::Check(11, |c| c.space.offsets < convert::needed(&c.segment()).offsets),
+    ),
+    wrong(
+        "converter: 11 by the rows",
+        How::Check(11, |c| {
+            let rows = record(c)[2] as usize;
+            c.space.ids < rows || c.space.offsets < rows + 1
+        }),
+    ),
+    wrong(
+        "converter: an empty row's offset kept",
+        How::Write(|old, new| {
+            new.offsets = old.offsets.clone();
+            new.record[4] = new.offsets.len() as u32;
+        }),
+    ),
+    wrong(
+        "converter: a row without values listed",
+        How::Write(|old, new| {
+            new.ids = (0..old.rows).collect();
+            new.offsets = old.offsets.clone();
+            new.record[3] = new.ids.len() as u32;
+            new.record[4] = new.offsets.len() as u32;
+        }),
+    ),
+    wrong(
+        "converter: a withdrawn row not listed",
+        How::Write(|old, new| {
+            new.ids.retain(|&row| old.is_alive(row));
+            new.record[3] = new.ids.len() as u32;
+        }),
+    ),
+    wrong(
+        "converter: counts in the offsets' place",
+        How::Write(|_, new| {
+            let counts: Vec<u32> = new.offsets.windows(2).map(|w| w[1] - w[0]).collect();
+            new.offsets[1..].copy_from_slice(&counts);
+        }),
+    ),
+    wrong(
+        "converter: no offset where no row has a value",
+        How::Write(|_, new| {
+            if new.ids.is_empty() {
+                new.offsets.clear();
+                new.record[4] = 0;
+            }
+        }),
+    ),
+    wrong("converter: the kind stays 3", How::Write(|_, new| new.record[1] = 3)),
+    wrong("converter: rows are those with a value", How::Write(|_, new| new.record[2] = new.record[3])),
+    wrong("converter: the number of ids stays", How::Write(|_, new| new.record[3] = 0)),
+    wrong("converter: the number of offsets stays", How::Write(|old, new| new.record[4] = old.rows + 1)),
+    wrong("converter: another number of values", How::Write(|_, new| new.record[5] = new.record[3])),
+    wrong("converter: no terms", How::Write(|_, new| new.record[6] = 0)),
+    wrong("converter: the flag dropped", How::Write(|_, new| new.record[7] = 0)),
+    wrong(
+        "converter: an id beyond the new ids",
+        How::Leave(|outcome, lists| {
+            if let Outcome::Accepted(new) = outcome
+                && let Some(place) = lists.ids.lent().get_mut(new.ids.len())
+            {
+                *place = 0;
+            }
+        }),
+    ),
+    wrong(
+        "converter: an offset beyond the new offsets",
+        How::Leave(|outcome, lists| {
+            if let Outcome::Accepted(new) = outcome
+                && let Some(place) = lists.offsets.lent().get_mut(new.offsets.len())
+            {
+                *place = new.offsets[new.offsets.len() - 1];
+            }
+        }),
+    ),
+    wrong("converter: an offset past what was lent", How::Leave(|_, lists| lists.offsets.past_the_end(0))),
+    wrong(
+        "converter: a refusal writes the record",
+        How::Leave(|outcome, lists| {
+            if let Outcome::Refused(_) = outcome {
+                lists.record.lent()[1] = 4;
+            }
+        }),
+    ),
+    wrong(
+        "converter: 11 once the ids are written",
+        How::Leave(|outcome, lists| {
+            if let Outcome::Refused(11) = outcome
+                && let Some(place) = lists.ids.lent().first_mut()
+            {
+                *place = 0;
+            }
+        }),
+    ),
+    wrong(
+        "converter: a refusal writes the first offset",
+        How::Leave(|outcome, lists| {
+            if let Outcome::Refused(4..) = outcome
+                && let Some(place) = lists.offsets.lent().first_mut()
+            {
+                *place = 0;
+            }
+        }),
+    ),
+];
+
+fn record(call: &Call) -> [u32; 8] {
+    call.sections.records[0]
+}
+
+/// The model as a converter, with a slip or none: the answer's number.
+pub fn convert(how: Option<How>, sections: &Sections, lists: &mut NewLists) -> u32 {
+    let call = Call { sections, space: lists.space() };
+    let mut checks = CHECKS.to_vec();
+    match how {
+        Some(How::Before(k, other)) => put_before(&mut checks, k, other),
+        Some(How::Skip(k)) => checks.retain(|&(number, _)| number != k),
+        Some(How::Check(k, check)) => put_in_place(&mut checks, k, check),
+        _ => {}
+    }
+    let mut outcome = convert::outcome_by(&checks, &call);
+    if let Outcome::Accepted(new) = &mut outcome {
+        if let Some(How::Write(f)) = how {
+            f(&call.segment(), new);
+        }
+        lists.write(new);
+    }
+    if let Some(How::Leave(f)) = how {
+        f(&outcome, lists);
+    }
+    outcome.number()
+}
