@@ -13,7 +13,7 @@ use lib.Dec.{ltb}
 use Rattle.runs.specs.Put.{put}
 use Rattle.runs.proofs.Laws.{put-one, put-put, Filling, fill-as, fill-more}
 use Rattle.lists.proofs.Numbers.{le-lt}
-use Rattle.convert.specs.Risen.{oneIf, risenIds, risenEnds, stepsBy, rises, falls, Alike}
+use Rattle.convert.specs.Risen.{oneIf, risenIds, risenEnds, stepsBy, rises, falls, SideBySide}
 
 -- ---- the next row, and the end
 
@@ -164,9 +164,9 @@ module _ (os : List ℕ) (q : ℕ) (h : 4 * q < length os) where
       let k = length-drop b os in
       length-take-le (a + 1 - b) (drop b os) (omega arith) ∙ (let z : a + 1 - b ≡ q + 1 = omega arith in z) ∙ part-first
 
-  pub parts-alike : length os < 4294967296
-      → Alike (take (q + 1) os) (take (q + q + 1 - q) (drop q os)) (take (q + q + q + 1 - (q + q)) (drop (q + q) os)) (take (q + q + q + q + 1 - (q + q + q)) (drop (q + q + q) os))
-  parts-alike n =
+  pub parts-beside : length os < 4294967296
+      → SideBySide (take (q + 1) os) (take (q + q + 1 - q) (drop q os)) (take (q + q + q + 1 - (q + q)) (drop (q + q) os)) (take (q + q + q + q + 1 - (q + q + q)) (drop (q + q + q) os))
+  parts-beside n =
       record {
         second = part-later (q + q) q refl (omega arith);
         third = part-later (q + q + q) (q + q) refl (omega arith);

@@ -36,7 +36,7 @@ abbrev pub falls : List ℕ → ℕ
 falls os = stepsBy (λ o p. ltb p o) os
 
 -- four runs of one length, of fewer than 2^32 steps in all
-pub record Alike (a b c d : List ℕ) : Type 0 where
+pub record SideBySide (a b c d : List ℕ) : Type 0 where
   pub second : length b ≡ length a
   pub third : length c ≡ length a
   pub fourth : length d ≡ length a

@@ -9,7 +9,7 @@ ghost use lib.Dec.{ltb};
 ghost use Rattle.definitions.specs.Convert.{convertOutcome};
 ghost use Rattle.segment.specs.Records.{recordIn, sectionsIn};
 ghost use Rattle.runs.specs.Put.{put};
-ghost use Rattle.convert.specs.Risen.{oneIf, risenIds, risenEnds, rises, falls, Alike};
+ghost use Rattle.convert.specs.Risen.{oneIf, risenIds, risenEnds, rises, falls, SideBySide};
 ghost use Rattle.convert.specs.Fits.{fitsLengths, fitsKind, fitsOld, verdictOf};
 ghost use Rattle.convert.specs.Outcome.{lentConvert, outcomeOf, renewedRecord};
 
@@ -96,6 +96,7 @@ fn one_more(s: Steps, a: u32, b: u32) -> Steps
     }
 }
 
+// The steps of one run.
 fn steps_in(offsets: &[u32]) -> Steps
     requires { ⌜ length (now offsets) < 4294967296 ⌝ }
     ensures { λ x. ⌜ x .risen ≡ rises (now (offsets .entry)) ⌝ }
@@ -115,7 +116,7 @@ fn steps_in(offsets: &[u32]) -> Steps
 
 // Those of four runs of one length, side by side: memory that is read at four places comes faster than at one.
 fn steps_in_four(a: &[u32], b: &[u32], c: &[u32], d: &[u32]) -> Steps
-    requires { ⌜ Alike (now a) (now b) (now c) (now d) ⌝ }
+    requires { ⌜ SideBySide (now a) (now b) (now c) (now d) ⌝ }
     ensures { λ x. ⌜ x .risen ≡ rises (now (a .entry)) + rises (now (b .entry)) + rises (now (c .entry)) + rises (now (d .entry)) ⌝ }
     ensures { λ x. ⌜ x .fallen ≡ falls (now (a .entry)) + falls (now (b .entry)) + falls (now (c .entry)) + falls (now (d .entry)) ⌝ }
 {
@@ -134,6 +135,7 @@ fn steps_in_four(a: &[u32], b: &[u32], c: &[u32], d: &[u32]) -> Steps
     s
 }
 
+// The steps of all offsets: four quarters, which share an offset each, and the rest.
 fn count_steps(offsets: &[u32]) -> Steps
     requires { ⌜ length (now offsets) < 4294967296 ⌝ }
     ensures { λ x. ⌜ x .risen ≡ length (risenIds 0 (now (offsets .entry))) ⌝ }

@@ -3,7 +3,7 @@ use mathlib.Core.Path.{sym, _∙_}
 use Prim.Native.Nat.{_-_, _/_}
 use lib.Dec.{ltb}
 use lib.ListN.{length}
-use Rattle.convert.proofs.Risen.{no-steps, quarter, part-first, parts-alike, steps-all, steps-few, ids-rises}
+use Rattle.convert.proofs.Risen.{no-steps, quarter, part-first, parts-beside, steps-all, steps-few, ids-rises}
 use Rattle.convert.proofs.count_steps.Statement.{statement}
 use Rattle.convert.proofs.count_steps.Tie as tie
 
@@ -78,7 +78,7 @@ part-steps-in-four-end-3 c = search needs
 steps-in-four-requires : tie.Need-steps-in-four-requires
 steps-in-four-requires c κs =
     let os = c .before .before .before .before .before .before .args .offsets .now in
-    parts-alike os ((length os - 1) / 4) (quarter (length os) (c .before .before .before .before .if1 .left)) (c .before .before .before .before .before .before .pre)
+    parts-beside os ((length os - 1) / 4) (quarter (length os) (c .before .before .before .before .if1 .left)) (c .before .before .before .before .before .before .pre)
 
 mul-steps-in : tie.Need-mul-steps-in
 mul-steps-in c = search needs
