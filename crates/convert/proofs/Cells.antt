@@ -1,6 +1,6 @@
 -- The converted segment's ids and offsets are those that the walk over the old offsets gives. Assumes nothing.
 use Prim.Native.Nat.{ℕ, zero, suc, _+_, _-_, _≤_}
-use native.Mathlib.Nat.{le-refl, le-trans}
+use native.Mathlib.Nat.{le-trans}
 use native.Mathlib.Omega.{arith}
 use mathlib.Core.Path.{_≡_, refl, sym, ap, ap₂, _∙_}
 use mathlib.Core.List.{List, [], _∷_, map}
@@ -17,6 +17,7 @@ use Rattle.definitions.specs.Join.{idsFrom, totalsFrom}
 use Rattle.definitions.specs.Answer.{listsFit}
 use Rattle.definitions.specs.Convert.{rowCells, converted}
 use Rattle.definitions.proofs.Convert.{old-lists, old-row}
+use Rattle.definitions.proofs.Slices.{le-last}
 use Rattle.convert.specs.Risen.{risenIds, risenEnds}
 
 -- ---- one row
@@ -44,10 +45,6 @@ map-shift : (f : ℕ → List ℕ) (s n : ℕ) → map f (upFrom (suc s) n) ≡ 
 map-shift f s zero = refl
 map-shift f s (suc n) = ap (λ (l : List (List ℕ)). f (suc s) ∷ l) (map-shift f (suc s) n)
 
-last-le : (o : ℕ) (os : List ℕ) → T (notFallingFrom o os) → o ≤ last (o ∷ os)
-last-le o [] h = le-refl o
-last-le o (p ∷ ps) h = le-trans (leb→le o p (and-l (leb o p) (notFallingFrom p ps) h)) (last-le p ps (and-r (leb o p) (notFallingFrom p ps) h))
-
 -- the values between each offset and the next
 abbrev cells : List ℕ → List ℕ → ℕ → List (List ℕ)
 cells os v n = map (λ k. slice (getD os k 0) (getD os (suc k) 0) v) (upTo n)
@@ -62,14 +59,14 @@ ids-cells n o (p ∷ ps) v h l =
     let t = and-r (leb o p) (notFallingFrom p ps) h in
     ap (idsFrom n) (cells-cons o p ps v (length ps))
     ∙ ids-cell n (slice o p v) (cells (p ∷ ps) v (length ps))
-    ∙ ap₂ (λ (b : Bool) (x : List ℕ). cond b (n ∷ x) x) (has-value o p v (le-trans (last-le p ps t) l)) (ids-cells (suc n) p ps v t l)
+    ∙ ap₂ (λ (b : Bool) (x : List ℕ). cond b (n ∷ x) x) (has-value o p v (le-trans (le-last p ps t) l)) (ids-cells (suc n) p ps v t l)
 
 totals-cells : (o : ℕ) (os v : List ℕ) → T (notFallingFrom o os) → last (o ∷ os) ≤ length v → totalsFrom o (cells (o ∷ os) v (length os)) ≡ risenEnds (o ∷ os)
 unfolding risenEnds
 totals-cells o [] v h l = refl
 totals-cells o (p ∷ ps) v h l =
     let t = and-r (leb o p) (notFallingFrom p ps) h in
-    let q = le-trans (last-le p ps t) l in
+    let q = le-trans (le-last p ps t) l in
     ap (totalsFrom o) (cells-cons o p ps v (length ps))
     ∙ totals-cell o (slice o p v) (cells (p ∷ ps) v (length ps))
     ∙ ap (λ (b : Bool). cond b ((o + length (slice o p v)) ∷ totalsFrom (o + length (slice o p v)) (cells (p ∷ ps) v (length ps))) (totalsFrom o (cells (p ∷ ps) v (length ps)))) (has-value o p v q)

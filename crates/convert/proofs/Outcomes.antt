@@ -17,7 +17,7 @@ use Rattle.definitions.specs.Convert.{ConvertInput, converted, oldSegment, conv
 use Rattle.definitions.proofs.Checks.{first-stays, first-passed, all-passed, passes}
 use Rattle.definitions.proofs.Lists.{or-both, or-holds}
 use Rattle.lists.proofs.Tests.{true-T}
-use Rattle.lists.proofs.Cuts.{cut-length}
+use Rattle.definitions.proofs.Sections.{cut-length}
 use Rattle.segment.specs.Records.{recordIn, sectionsIn}
 use Rattle.segment.specs.declared.Record.{Record}
 use Rattle.runs.specs.Put.{put}

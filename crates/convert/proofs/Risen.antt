@@ -1,6 +1,6 @@
 -- The walk over the offsets of an old multivalued segment: what each row adds to the new ids and offsets, and how they are written. Assumes nothing.
 use Prim.Native.Nat.{ℕ, zero, suc, _+_, _-_, _*_, _/_, _≤_, _<_, zero-le}
-use native.Mathlib.Nat.{add-zero, zero-add, add-assoc, le-of-suc-le-suc, not-suc-le-zero}
+use native.Mathlib.Nat.{le-refl, add-zero, zero-add, add-assoc, not-suc-le-zero}
 use native.Mathlib.Numerals.{add-one}
 use native.Mathlib.Omega.{arith}
 use mathlib.Core.Path.{_≡_, refl, sym, ap, ap₂, _∙_}
@@ -8,7 +8,7 @@ use mathlib.Core.List.{List, [], _∷_, _++_}
 use mathlib.Core.Logic.{_⊎_, inl, inr}
 use mathlib.Core.Bool.{Bool, true, false, cond}
 use lib.ListN.{length, take, drop, set, getD, length-set, length-drop}
-use lib.Seq.{drop-cons, drop-drop, take-all, length-take-le}
+use lib.Seq.{drop-cons, drop-drop, take-all, length-take-le, take-set-le, drop-set-lt}
 use lib.Dec.{ltb}
 use Rattle.runs.specs.Put.{put}
 use Rattle.runs.proofs.Laws.{put-one, put-put, Filling, fill-as, fill-more}
@@ -181,21 +181,10 @@ no-steps (o ∷ os) h = absurd (omega arith)
 
 -- ---- written
 
-take-set : (l : List ℕ) (i x : ℕ) → take i (set l i x) ≡ take i l
-take-set [] i x = refl
-take-set (y ∷ l) zero x = refl
-take-set (y ∷ l) (suc i) x = ap (λ (z : List ℕ). y ∷ z) (take-set l i x)
-
-drop-set : (l : List ℕ) (i j x : ℕ) → i < j → drop j (set l i x) ≡ drop j l
-drop-set [] i j x h = refl
-drop-set (y ∷ l) i zero x h = absurd (not-suc-le-zero h)
-drop-set (y ∷ l) zero (suc j) x h = refl
-drop-set (y ∷ l) (suc i) (suc j) x h = drop-set l i j x (le-of-suc-le-suc h)
-
 -- what stood at a place that is still to be put does not matter
 put-over : (at : ℕ) (vs old : List ℕ) (x : ℕ) → 0 < length vs → put at vs (set old at x) ≡ put at vs old
 unfolding put
-put-over at vs old x h = ap₂ (λ (a b : List ℕ). a ++ (vs ++ b)) (take-set old at x) (drop-set old at (at + length vs) x (omega arith))
+put-over at vs old x h = ap₂ (λ (a b : List ℕ). a ++ (vs ++ b)) (take-set-le at old at x (le-refl at)) (drop-set-lt (at + length vs) old at x (omega arith))
 
 -- a turn: x is written, and left behind where it belongs to the list
 pub fill-if : {start : ℕ} {whole old left out : List ℕ} {at : ℕ} → Filling start whole old left out at → (b : Bool) (x : ℕ) (left′ : List ℕ) → left ≡ cond b (x ∷ left′) left′

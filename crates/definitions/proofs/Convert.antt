@@ -6,7 +6,7 @@ use native.Mathlib.Omega.{arith}
 use mathlib.Core.Path.{_≡_, refl, sym, ap, ap₂, _∙_, subst}
 use mathlib.Core.List.{List, [], _∷_, map}
 use mathlib.Core.Bool.{Bool, true, false, not, cond, _||_, _&&_}
-use lib.ListN.{length, take, drop, getD, length-append, List·getD-eq-default}
+use lib.ListN.{length, take, getD, length-append, List·getD-eq-default}
 use lib.Seq.{slice, take-all, drop-nil}
 use lib.Dec.{T, eqb, ltb, leb, eqb→eq, eqb-refl, lt→ltb, ltb→lt, nltb→le}
 use lib.Ieee.Fits.{and-i, and-l, and-r}
@@ -20,6 +20,7 @@ use Rattle.definitions.specs.Join.{idsFrom, totalsFrom, isUsed, keptTerm
 use Rattle.definitions.specs.Answer.{lengthsWrong, codesKnown, isOld, idsFit, offsetsFit, emptyFits, fullFits, optionalFits, oldFits, newFits, listsFit, valuesFit, bitPastRows}
 use Rattle.definitions.specs.Convert.{rowCells, converted, ConvertInput, oldSegment, isConvertible, convertChecks, convertAnswer}
 use Rattle.definitions.proofs.Lists.{and3, and4, up-length, up-at}
+use Rattle.definitions.proofs.Sections.{cut-length}
 use Rattle.definitions.proofs.Slices.{walk-slices, fall-step, first-zero, last-at}
 use Rattle.definitions.proofs.Checks.{all-passed, passes}
 use Rattle.definitions.proofs.Decode.{multi-at, length-totals, ids-are}
@@ -292,10 +293,6 @@ leftSections i =
       alive = i .sections .alive;
     }
 
-cut-many : (ns bytes : List ℕ) → length (cut ns bytes) ≡ length ns
-cut-many [] bytes = refl
-cut-many (n ∷ ns) bytes = ap suc (cut-many ns (drop n bytes))
-
 -- a run as long as its section is the section
 whole-run : (n : ℕ) (l : List ℕ) → n + 0 ≡ length l → take n l ≡ l
 whole-run n l e = take-all n l (omega arith)
@@ -338,7 +335,7 @@ left-lengths i e =
       same-length (length (c .ids)) (c .ids) refl,
       same-length (length (c .offsets)) (c .offsets) refl,
       same-length (length (c .values)) (i .sections .values) (ap length (x .values)),
-      same-length (length (c .terms)) (i .sections .termLengths) (cut-many (take (i .given .terms) (i .sections .termLengths)) (i .sections .termBytes) ∙ ap length (x .terms)),
+      same-length (length (c .terms)) (i .sections .termLengths) (cut-length (take (i .given .terms) (i .sections .termLengths)) (i .sections .termBytes) ∙ ap length (x .terms)),
       is-true (eqb (sum (i .sections .termLengths)) (length (i .sections .termBytes))) (subst (λ (n : ℕ). T (eqb (sum (i .sections .termLengths)) n)) (x .bytes) (eqb-refl (sum (i .sections .termLengths)))),
       same-length (aliveWords (i .given)) (i .sections .alive) (x .alive),
     )
@@ -370,7 +367,7 @@ left-segment i e =
     terms-again : cut (take (length (cut (take (i .given .terms) (i .sections .termLengths)) (i .sections .termBytes))) (i .sections .termLengths)) (i .sections .termBytes)
         ≡ cut (take (i .given .terms) (i .sections .termLengths)) (i .sections .termBytes)
     terms-again =
-        ap (λ (n : ℕ). cut (take n (i .sections .termLengths)) (i .sections .termBytes)) (cut-many (take (i .given .terms) (i .sections .termLengths)) (i .sections .termBytes))
+        ap (λ (n : ℕ). cut (take n (i .sections .termLengths)) (i .sections .termBytes)) (cut-length (take (i .given .terms) (i .sections .termLengths)) (i .sections .termBytes))
         ∙ ap (λ (l : List ℕ). cut l (i .sections .termBytes)) (again (i .given .terms) (i .sections .termLengths) (exact (i .given) (i .sections) (passes (all-passed (convertChecks i) 0 tt e .0) 2) .terms))
 
 -- ---- the join of segments whose old ones were converted

@@ -1,5 +1,5 @@
 -- Segments laid out in sections and cut out of them again. Assumes nothing.
-use Prim.Native.Nat.{ℕ}
+use Prim.Native.Nat.{ℕ, suc}
 use mathlib.Core.Path.{_≡_, refl, ap, ap₂, _∙_}
 use mathlib.Core.List.{List, [], _∷_, _++_, map, append-assoc, map-append}
 use lib.ListN.{length, take, drop, length-map}
@@ -10,6 +10,10 @@ use Rattle.definitions.specs.Lists.{sum, concat, all}
 use Rattle.definitions.specs.Segment.{Segment, SegmentRecord, recordFrom, recordNumbers, Address, Space, aliveWords, cut, firstSegment, afterFirst, segmentsFrom, segmentsOf, recordOf, sectionsOf, Input}
 use Rattle.definitions.specs.Book.{isSegment}
 use Rattle.definitions.proofs.Lists.{length-concat, concat-append}
+
+pub cut-length : (ls bytes : List ℕ) → length (cut ls bytes) ≡ length ls
+cut-length [] bytes = refl
+cut-length (n ∷ ns) bytes = ap suc (cut-length ns (drop n bytes))
 
 pub cut-concat : (ts : List (List ℕ)) (rest : List ℕ) → cut (map length ts) (concat ts ++ rest) ≡ ts
 cut-concat [] rest = refl

@@ -37,6 +37,11 @@ fall-step (o ∷ []) k h l = absurd (not-suc-le-zero (le-of-suc-le-suc l))
 fall-step (o ∷ p ∷ ps) zero h l = leb→le o p (and-l (leb o p) (notFallingFrom p ps) h)
 fall-step (o ∷ p ∷ ps) (suc k) h l = fall-step (p ∷ ps) k (and-r (leb o p) (notFallingFrom p ps) h) (le-of-suc-le-suc l)
 
+-- the first is at most the last
+pub le-last : (o : ℕ) (os : List ℕ) → T (notFallingFrom o os) → o ≤ last (o ∷ os)
+le-last o [] h = le-refl o
+le-last o (p ∷ ps) h = le-trans (leb→le o p (and-l (leb o p) (notFallingFrom p ps) h)) (le-last p ps (and-r (leb o p) (notFallingFrom p ps) h))
+
 -- ---- the first of a list, and the last
 
 pub first-zero : (l : List ℕ) → getD l 0 1 ≡ 0 → getD l 0 0 ≡ 0

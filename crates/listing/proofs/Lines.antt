@@ -8,7 +8,7 @@ use lib.ListN.{length, drop, take, getD, drop-of-length-le}
 use lib.Seq.{drop-cons, drop-drop}
 use native.Mathlib.Nat.{add-sub-cancel-left}
 use Rattle.definitions.specs.Segment.{cut}
-use Rattle.lists.proofs.Cuts.{cut-length}
+use Rattle.definitions.proofs.Sections.{cut-length}
 use Rattle.definitions.specs.Listing.{decimal, numbersText, termText, termsText, hexadecimal, valueLine, listLine, termsLine, digit, newline, space, numbersPart, listsPart, termsPart, typeName, className, rowsName, idsName, offsetsName, valuesName, termsName, mapsName, answerName, acceptedText}
 
 pub value-is : (name : List ℕ) (n : ℕ) → valueLine name n ≡ name ++ (decimal n ++ newline)

@@ -34,7 +34,7 @@ use Rattle.definitions.proofs.Lists.{and3, and4, getD-in}
 use Rattle.lists.proofs.Parts.{drop-take, part-length as part-long}
 use Rattle.lists.proofs.Sums.{sums-are}
 use Rattle.lists.proofs.Lists.{all-at}
-use Rattle.lists.proofs.Cuts.{cut-length}
+use Rattle.definitions.proofs.Sections.{cut-length}
 use Rattle.runs.proofs.Laws.{below-part}
 use Rattle.definitions.proofs.Decode.{slice-nil}
 use Rattle.column_values_merge.proofs.Laws.{words-none}

@@ -21,7 +21,8 @@ use Rattle.definitions.specs.Answer.{total}
 use Rattle.segment.specs.Records.{recordsOf}
 use Rattle.segment.proofs.At.{sectionsAt, start-total, segment-is}
 use Rattle.term_cursors.proofs.Begin.{pos-mono, from-mono, from-sum}
-use Rattle.lists.proofs.Cuts.{cut-length, cut-bytes}
+use Rattle.definitions.proofs.Sections.{cut-length}
+use Rattle.lists.proofs.Cuts.{cut-bytes}
 use Rattle.lists.specs.Sums.{sumBelow}
 use Rattle.lists.proofs.Sums.{below-shift}
 use Rattle.lists.proofs.Parts.{part-length}

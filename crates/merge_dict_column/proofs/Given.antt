@@ -25,7 +25,7 @@ use Rattle.merge_dict_column.specs.Stands.{Stands, Flags}
 use Rattle.merge_dict_column.proofs.Ends.{dict-empty}
 use Rattle.merge_dict_column.proofs.Bridge.{sections-dict, dict-held, dict-none, terms-sum, texts-sum}
 use Rattle.lists.proofs.Numbers.{le-lt}
-use Rattle.lists.proofs.Cuts.{cut-length}
+use Rattle.definitions.proofs.Sections.{cut-length}
 use Rattle.term_cursors.proofs.Begin.{from-sum}
 use Rattle.lists.proofs.Sums.{sum-take-le}
 use Rattle.lists.proofs.Lists.{all-at}

@@ -19,7 +19,8 @@ use Rattle.sections_fit.specs.Walks.{lengthsRight, Exact, codesFrom, kno
 use Rattle.definitions.proofs.Lists.{or-left, or-right}
 use Rattle.lists.proofs.Tests.{both-true}
 use Rattle.lists.proofs.Numbers.{not-ltb}
-use Rattle.lists.proofs.Cuts.{cut-length, cut-bytes}
+use Rattle.definitions.proofs.Sections.{cut-length}
+use Rattle.lists.proofs.Cuts.{cut-bytes}
 use Rattle.lists.proofs.Sums.{sum-split}
 
 -- ---- 2

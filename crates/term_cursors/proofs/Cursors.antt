@@ -16,7 +16,7 @@ use Rattle.term_cursors.specs.Cursors.{unmarkedAt, cursorAt, lengthAt, l
 use Rattle.lists.proofs.Numbers.{le-lt}
 use Rattle.term_merger.specs.Live.{leftOf}
 use Rattle.lists.proofs.Parts.{run-length, part-at}
-use Rattle.lists.proofs.Cuts.{cut-length}
+use Rattle.definitions.proofs.Sections.{cut-length}
 use Rattle.lists.proofs.Sums.{sum-split, sum-step, sum-take-le}
 
 pub cut-at : (ls bs : List ℕ) (p : ℕ) → p < length ls → getD (cut ls bs) p [] ≡ take (getD ls p 0) (drop (sum (take p ls)) bs)

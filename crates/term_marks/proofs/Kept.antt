@@ -27,7 +27,7 @@ use Rattle.term_marks.specs.Marks.{bit, isKept, marksIn, columnsOf, mark
 use Rattle.term_marks.proofs.Laws.{marks-length}
 use Rattle.term_marks.proofs.Walk.{part, join-size}
 use Rattle.lists.proofs.Numbers.{le-lt}
-use Rattle.lists.proofs.Cuts.{cut-length}
+use Rattle.definitions.proofs.Sections.{cut-length}
 use Rattle.definitions.proofs.Lists.{up-at}
 use Rattle.lists.proofs.Parts.{part-length}
 use Rattle.lists.proofs.Lists.{all-at}
