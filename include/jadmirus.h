@@ -55,7 +55,7 @@ uint32_t jadmirus_join(
     uint32_t *out_term_lengths, size_t out_term_lengths_count,   /* of the joined terms, ascending; term_lengths_count suffice */
     uint8_t *out_term_bytes, size_t out_term_bytes_count,        /* their bytes; term_bytes_count suffice */
     uint32_t *out_map, size_t out_map_count,                     /* new ordinals of the held columns' terms, one segment's after another's, 0 for a term not kept; term_lengths_count suffice */
-    uint64_t out_numbers[9]);                                    /* type, class, rows; elements of ids, offsets, values, terms, term bytes, map */
+    uint64_t out_numbers[10]);                                   /* type, class, rows; elements of ids, offsets, values, terms, term bytes, map; term bytes copied, which are the joined terms' */
 
 /* The time order of the segments of a column of times (type 7, or 255 for none): their alive rows sorted by time, segment and row. A row without a time takes the
  * last one before it in its segment; before the first one it comes before all times. Returns the answer:

@@ -106,6 +106,7 @@ JOINED = {
     "values": (MANY, value),
     "terms": (MANY, term),
     "map": (MANY, number),
+    "copied": (ONE, number),
 }
 SORTED = {"addresses": (MANY, address)}
 CONVERTED = {"ids": (MANY, number), "offsets": (MANY, number), "record": (MANY, number)}
@@ -294,6 +295,7 @@ def printed(case):
     if answer == 0:
         head += ", type %d, class %d, rows %d, elements" % (column["type"], column["class"], column["rows"])
         head += "".join(" %d" % len(xs) for _, xs in outputs)
+        head += ", copied %d" % column.get("copied", sum(len(t) for t in column["terms"]))
     lists = [line(case, name, xs, space, str(BEFORE)) for (name, xs), space in zip(outputs, lent[1:])]
     return [head] + lists + [line(case, "working", [0] * lent[0], lent[0], "")]
 

@@ -7,7 +7,7 @@
 The proof files stand already, as `rt dev` prints them, with `?` or `search needs` at their needs. The answers are parted by lines:
 
     # FN            a function; the lines up to the first @ are `use` lines to add
-    @@              what follows goes before the first need (helpers)
+    @@              what follows goes before the first need, after invariants and measures (helpers)
     @NEED           what follows answers that need; a first line `unfolding ..` goes above it
 
 In an answer «x» stands for the path to x, c .before .. .x (paths.py lists them). A need without an answer gets `search needs`. The proof as it was
@@ -83,16 +83,21 @@ def answered(need, arguments, lines):
 def fill(crate, fn, text):
     known = paths_of(crate, fn)
     uses, answers = read_answers(text)
-    body = skeleton(crate, fn, known).split("\n")
+    body = re.sub(r"(?m) =\n +(\?|search needs)$", r" = \1", skeleton(crate, fn, known)).split("\n")
     heads = 0
     while heads < len(body) and (body[heads].startswith("use ") or body[heads].strip() == ""):
         heads += 1
     uses += [line for line in body[:heads] if line.strip() and line not in uses]
     if not any("borrow.Author.Needs" in line for line in uses):
         uses.insert(0, "use borrow.Author.Needs.{needs}")
-    out = uses + [""] + (answers["@"] + [""] if "@" in answers else [])
+    out = uses + [""]
     used = {"@"}
+    helpers = answers["@"] + [""] if "@" in answers else []
     for line in body[heads:]:
+        if ": tie.Need-" in line:
+            place = len(out) - 1 if out[-1].startswith("--") else len(out)
+            out[place:place] = helpers
+            helpers = []
         clause = re.match(r"(\S+)( .*)? = (\?|search needs)$", line)
         if not clause:
             out.append(line)

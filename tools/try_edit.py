@@ -45,7 +45,8 @@ def main():
             open(path, "w", encoding="utf-8").write(text.replace(old, new))
         began = time.time()
         said = subprocess.run(["rt", "dev", crate], cwd=room, stdout=subprocess.PIPE, stderr=subprocess.STDOUT, text=True).stdout.split("\n")
-        errors = [line for line in said if ": error" in line]
+        # a function without a proof file fails with a note; that its callers have no proof then is no fact
+        errors = [line for line in said if ": error" in line and "was not admitted" not in line or "it is not proved" in line]
         verdict = "NOT REFUSED" if any(line.startswith("logic=proved") for line in said) else errors[0][:300] if errors else "no error line:\n" + "\n".join(said[-5:])
         print(f"{name} ({time.time() - began:.0f} s): {verdict.replace(os.path.abspath(room) + '/', '')}", flush=True)
         shutil.rmtree(room)

@@ -43,7 +43,7 @@ unsafe extern "C" {
         out_term_bytes_count: usize,
         out_map: *mut u32,
         out_map_count: usize,
-        out_numbers: *mut [u64; 9],
+        out_numbers: *mut [u64; 10],
     ) -> u32;
 
     fn jadmirus_time_order(
@@ -97,8 +97,9 @@ pub(crate) struct Outputs {
     pub term_lengths: Vec<u32>,
     pub term_bytes: Vec<u8>,
     pub map: Vec<u32>,
-    /// Type, class, rows; elements of ids, offsets, values, terms, term bytes and map.
-    pub numbers: [u64; 9],
+    /// Type, class, rows; elements of ids, offsets, values, terms, term bytes and map; the term
+    /// bytes copied.
+    pub numbers: [u64; 10],
 }
 
 /// The join's answer. 0: the lists and the numbers are written.
@@ -213,7 +214,7 @@ mod tests {
     use super::*;
     use crate::segment::Segment;
 
-    const NONE: [u64; 9] = [77; 9];
+    const NONE: [u64; 10] = [77; 10];
 
     /// As many elements of everything.
     fn lent(elements: usize) -> Outputs {
@@ -248,6 +249,22 @@ mod tests {
         assert_eq!((join(&sections, &mut out), out.numbers), (11, NONE));
         assert_eq!(out.values, [0]);
         assert_eq!(join(&sections, &mut lent(2)), 0);
+    }
+
+    /// Two segments with the term ab: 2 bytes are copied, and 11 asks for 4.
+    #[test]
+    fn answer_11_for_term_bytes() {
+        let segment = || Segment::strs([["ab"]]);
+        let sections = Sections::of(&[segment(), segment()]).unwrap();
+        let joined = |bytes: usize| {
+            let mut out = lent(4);
+            out.term_bytes = vec![77; bytes];
+            let answer = join(&sections, &mut out);
+            (answer, out.numbers, out.term_bytes)
+        };
+        assert_eq!(joined(3), (11, NONE, vec![77; 3]));
+        let numbers = [4, 0, 2, 0, 0, 2, 1, 2, 2, 2];
+        assert_eq!(joined(4), (0, numbers, b"abMM".to_vec()));
     }
 
     #[test]

@@ -20,6 +20,7 @@ pub struct Joined {
     map: Vec<u32>,
     /// Each segment's part of the map; none if its column is not held.
     map_parts: Vec<Option<Range<usize>>>,
+    copied: u64,
 }
 
 /// One value of a row.
@@ -93,6 +94,12 @@ impl Joined {
     pub fn map_of(&self, segment: usize) -> Option<&[u32]> {
         let part = self.map_parts.get(segment)?.clone()?;
         Some(&self.map[part])
+    }
+
+    /// How many term bytes the join copied, counted where they are copied. It is proved that they
+    /// are as many as the joined terms have.
+    pub fn term_bytes_copied(&self) -> u64 {
+        self.copied
     }
 
     /// A row's values; none for a row past the last.
@@ -178,7 +185,18 @@ impl From<Joined> for Segment {
 
 /// The column in the outputs of an accepted join.
 pub(crate) fn from_outputs(outputs: Outputs, sections: &Sections) -> Joined {
-    let [typ, class, rows, ids, offsets, values, terms, bytes, map] = outputs.numbers;
+    let [
+        typ,
+        class,
+        rows,
+        ids,
+        offsets,
+        values,
+        terms,
+        bytes,
+        map,
+        copied,
+    ] = outputs.numbers;
     let lengths = first(outputs.term_lengths, terms);
     Joined {
         typ: ColumnType::from_code(typ as u32),
@@ -190,6 +208,7 @@ pub(crate) fn from_outputs(outputs: Outputs, sections: &Sections) -> Joined {
         terms: Terms::from_lengths(&lengths, first(outputs.term_bytes, bytes)),
         map: first(outputs.map, map),
         map_parts: map_parts(&sections.cut().unwrap_or_default()),
+        copied,
     }
 }
 

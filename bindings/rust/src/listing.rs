@@ -1,4 +1,4 @@
-//! The listing of a joined column.
+//! The listing of a joined column, and its numbers.
 use crate::codes::code_of;
 use crate::joined::Joined;
 use std::fmt::Display;
@@ -23,6 +23,27 @@ impl Joined {
         }
         writeln!(out)?;
         write_list(out, "maps", self.map())
+    }
+
+    /// Writes the numbers that come with acceptance, each in a line after its name: the listing's
+    /// without the lists, the number of term bytes, and how many of them were copied.
+    pub fn write_numbers(&self, out: &mut dyn Write) -> io::Result<()> {
+        let numbers = [
+            ("answer", 0),
+            ("type", u64::from(code_of(self.column_type()))),
+            ("class", u64::from(self.class().code())),
+            ("rows", u64::from(self.rows())),
+            ("ids", self.ids().len() as u64),
+            ("offsets", self.offsets().len() as u64),
+            ("values", self.values().len() as u64),
+            ("terms", self.terms().len() as u64),
+            ("term-bytes", self.terms().bytes().len() as u64),
+            ("maps", self.map().len() as u64),
+            ("term-bytes-copied", self.term_bytes_copied()),
+        ];
+        numbers
+            .iter()
+            .try_for_each(|(name, number)| writeln!(out, "{name} {number}"))
     }
 }
 

@@ -154,7 +154,7 @@ impl Sections {
             term_lengths: vec![0; terms],
             term_bytes: vec![0; self.term_bytes.len()],
             map: vec![0; terms],
-            numbers: [0; 9],
+            numbers: [0; 10],
         }
     }
 

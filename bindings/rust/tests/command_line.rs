@@ -79,6 +79,27 @@ fn rows_in_words() {
     );
 }
 
+/// Type, class and rows, the listing's counts, and the term bytes: a and b, copied once.
+#[test]
+fn numbers_alone() {
+    let text = "answer 0\ntype 4\nclass 1\nrows 4\nids 3\noffsets 0\nvalues 3\nterms 2\n\
+        term-bytes 2\nmaps 3\nterm-bytes-copied 2\n";
+    assert_eq!(accepted(&["join", "--numbers", "-"], C1.as_bytes()), text);
+    let path = file("numbers.sheet");
+    let words = ["join", "--numbers", "--output", &path, "-"];
+    assert_eq!(accepted(&words, C1.as_bytes()), text);
+    assert!(
+        fs::read_to_string(&path)
+            .unwrap()
+            .contains("terms \"a\" \"b\"")
+    );
+    let (out, _, status) = run(
+        &["join", "--numbers", "-"],
+        b"segment type 6 kind Full values 1",
+    );
+    assert_eq!((&*out, status), ("answer 3\n", 1));
+}
+
 #[test]
 fn refusals() {
     let sheet = "mode stacked segment type Bool kind Full values 2";
@@ -654,7 +675,7 @@ fn usage() {
         assert!(help.contains("Exit status: "));
     }
     assert!(accepted(&["--version"], b"").starts_with("jadmirus "));
-    let wrong: [&[&str]; 19] = [
+    let wrong: [&[&str]; 23] = [
         &[],
         &["merge"],
         &["join"],
@@ -665,6 +686,10 @@ fn usage() {
         &["check", "--output", "b", "a"],
         &["check", "--times=no", "a"],
         &["join", "--rows=1", "a"],
+        &["join", "--numbers=1", "a"],
+        &["join", "--numbers", "--output", "-", "a"],
+        &["join", "--rows", "--numbers", "a"],
+        &["order", "--numbers", "a"],
         &["join", "--as", "wire", "a"],
         &["join", "--rows", "--output", "-", "a"],
         &["join", "--", "--rows", "a"],

@@ -43,6 +43,7 @@ fn c1() {
     assert_eq!(joined.map_of(0), Some(&[1][..]));
     assert_eq!(joined.map_of(1), Some(&[0, 1][..]));
     assert_eq!(joined.map_of(2), None);
+    assert_eq!(joined.term_bytes_copied(), 2);
     let rows: Vec<(u32, Vec<Value>)> = joined
         .filled_rows()
         .map(|(row, values)| (row, values.collect()))
@@ -156,6 +157,49 @@ fn c12() {
     let joined = ordered(segment, &[1]);
     assert_eq!(terms(&joined), [b"b"]);
     assert_eq!((joined.values(), joined.map()), (&[0][..], &[0, 0][..]));
+    assert_eq!(joined.term_bytes_copied(), 1);
+}
+
+/// Document 02, (d): each joined term's bytes are copied once, and those of no other term.
+#[test]
+fn term_bytes_copied() {
+    let strs = |rows: &[&'static str]| Segment::strs(rows.iter().copied().map(Some));
+    let copied = |segments: &[Segment]| stacked(segments).term_bytes_copied();
+    assert_eq!(copied(&[strs(&["ab"]), strs(&["ab"])]), 2);
+    assert_eq!(copied(&[strs(&[""])]), 0);
+    assert_eq!(copied(&[Segment::u64s([[5]])]), 0);
+    assert_eq!(copied(&[Segment::no_column(1)]), 0);
+    // A column without values is dropped, and so is its term.
+    let dropped = Segment::optional(ColumnType::Str, 1, vec![], vec![]).with_terms(["ab"]);
+    assert_eq!(copied(&[dropped, strs(&["a"])]), 1);
+    // The first segment keeps ab alone, the second one keeps b.
+    let first = strs(&["ab", "b"]).with_alive(alive(1));
+    let addresses = [0, 1].map(|segment| Address { segment, row: 0 });
+    let joined = join(&[first, strs(&["b"])], Order::Ordered(&addresses), None).unwrap();
+    assert_eq!(terms(&joined), [&b"ab"[..], b"b"]);
+    assert_eq!(joined.term_bytes_copied(), 3);
+}
+
+/// Terms that are equal as far as 8, 16 or 24 bytes, or but for zero bytes at the end.
+#[test]
+fn terms_with_equal_beginnings() {
+    let long = "abcdefghijklmnopqrstuvwxyz0123456789";
+    for at in 0..=long.len() {
+        let begin = &long[..at];
+        let ends = ["", "\0", "\0\0", "a", "b", "bb"];
+        let all: Vec<String> = ends.iter().map(|end| format!("{begin}{end}")).collect();
+        // Each segment has one of them, the greatest first.
+        let segments: Vec<Segment> = all
+            .iter()
+            .rev()
+            .map(|term| Segment::strs([[&**term]]))
+            .collect();
+        let joined = stacked(&segments);
+        let expected: Vec<&[u8]> = all.iter().map(|term| term.as_bytes()).collect();
+        assert_eq!(terms(&joined), expected);
+        assert_eq!(joined.values(), [5, 4, 3, 2, 1, 0]);
+        assert_eq!(joined.term_bytes_copied(), 6 * at as u64 + 7);
+    }
 }
 
 #[test]

@@ -27,6 +27,7 @@ fn put_accepted(n: merge::Numbers) {
     case_lines::put(n.terms as u64);
     case_lines::put(n.bytes as u64);
     case_lines::put(n.map as u64);
+    case_lines::put_named(b", copied", n.copied as u64);
 }
 
 fn put_answer(a: merge::Answer) {

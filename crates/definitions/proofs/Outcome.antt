@@ -1,4 +1,5 @@
--- The laws of a call's outcome: its number is the table's answer, and the column of an accepted call is read back from the outputs. Assumes nothing.
+-- The laws of a call's outcome: its number is the table's answer, the column of an accepted call is read back from the outputs, and its terms are copied
+-- once. Assumes nothing.
 use Prim.Native.Nat.{ℕ}
 use mathlib.Core.Path.{_≡_, refl, sym, ap, _∙_, subst}
 use mathlib.Core.List.{List, map}
@@ -12,6 +13,7 @@ use Rattle.definitions.specs.Segment.{cut}
 use Rattle.definitions.specs.Join.{Joined}
 use Rattle.definitions.specs.Answer.{answer, joinOf}
 use Rattle.definitions.specs.Outcome.{Buffers, Numbers, accepted, refused, numberOf, written, numbersOf, refusedBuffers, acceptedBuffers, Lent, inputOf, joinOutcome, readBack}
+use Rattle.definitions.proofs.Lists.{length-concat}
 use Rattle.definitions.proofs.Sections.{cut-concat}
 
 -- the terms stand in their two outputs
@@ -56,3 +58,14 @@ accepted-is l n = go (eqb (answer (inputOf l)) 0) refl
         let q : numbersOf (joinOf (inputOf l)) ≡ n = cc in
         (eqb→eq (answer (inputOf l)) 0 (subst T (sym e) tt), ap (λ (m : Numbers). readBack m (acceptedBuffers (joinOf (inputOf l)) (l .buffers))) (sym q) ∙ read-back (joinOf (inputOf l)) (l .buffers))
     go false e p = absurd (let z : _≡_ {A = ℕ} 0 1 = cc in omega arith)
+
+-- and the term bytes copied are as many as the joined terms have (document 02, (d))
+pub copied-once : (l : Lent) (n : Numbers) → joinOutcome l .answer ≡ accepted n → n .copied ≡ length (concat (joinOf (inputOf l) .column .terms))
+unfolding joinOutcome numbersOf
+copied-once l n = go (eqb (answer (inputOf l)) 0)
+  where
+    go : (t : Bool) → cond t (accepted (numbersOf (joinOf (inputOf l)))) (refused (answer (inputOf l))) ≡ accepted n → n .copied ≡ length (concat (joinOf (inputOf l) .column .terms))
+    go true p =
+        let q : numbersOf (joinOf (inputOf l)) ≡ n = cc in
+        ap (λ (m : Numbers). m .copied) (sym q) ∙ sym (length-concat (joinOf (inputOf l) .column .terms))
+    go false p = absurd (let z : _≡_ {A = ℕ} 0 1 = cc in omega arith)

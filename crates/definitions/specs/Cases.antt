@@ -130,7 +130,7 @@ outcomes : List Outcome
 outcomes =
     -- C1: what stands beyond the lists stays, and the working bytes are zero
     record {
-      answer = accepted (record { type = 4; class = 1; rows = 4; ids = 3; offsets = 0; values = 3; terms = 2; termBytes = 2; map = 3 });
+      answer = accepted (record { type = 4; class = 1; rows = 4; ids = 3; offsets = 0; values = 3; terms = 2; termBytes = 2; map = 3; copied = 2 });
       buffers =
           record {
             ids = 1 ∷ 2 ∷ 3 ∷ 9 ∷ [];
@@ -170,9 +170,9 @@ outcomes =
             working = 0 ∷ 0 ∷ 0 ∷ [];
           };
     }
-    -- Bytes: a row of three values between rows of none, terms aaa b c d; then a row of one, terms b e. Each number is that of its own list, and no two are the same
+    -- Bytes: a row of three values between rows of none, terms aaa b c d; then a row of one, terms b e. Each list's number is its own, and no two are the same
     ∷ record {
-      answer = accepted (record { type = 3; class = 2; rows = 4; ids = 2; offsets = 3; values = 4; terms = 5; termBytes = 7; map = 6 });
+      answer = accepted (record { type = 3; class = 2; rows = 4; ids = 2; offsets = 3; values = 4; terms = 5; termBytes = 7; map = 6; copied = 7 });
       buffers =
           record {
             ids = 1 ∷ 3 ∷ replicate 6 9;

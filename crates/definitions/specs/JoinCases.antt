@@ -1,9 +1,11 @@
--- Each rule of the join by small cases (document 01, "The join"): a row's values, dropped columns, type, class, terms. Each table is proved by one computation.
--- Assumes nothing.
+-- Each rule of the join by small cases (document 01, "The join"): a row's values, dropped columns, type, class, terms; and the term bytes copied (document 02, (d)). Each
+-- table is proved by one computation. Assumes nothing.
+use Prim.Native.Nat.{ℕ}
 use mathlib.Core.Path.{_≡_, refl}
 use mathlib.Core.List.{List, [], _∷_, map}
 use Rattle.definitions.specs.Lists.{upTo}
-use Rattle.definitions.specs.Sheet.{plain, withAlive, none, full, one, str, dropped, a, b, five, nine, newKind, memory, stacked, inOrder, lending, sheetOf, accepts, refuses, Case, case}
+use Rattle.definitions.specs.Sheet.{plain, withAlive, none, full, one, str, dropped, a, b, five, nine, newKind, memory, stacked, inOrder, lending, outcomeOf, sheetOf, accepts, refuses, Case, case}
+use Rattle.definitions.specs.Outcome.{Lent, Answer, accepted, refused}
 use Rattle.definitions.specs.Segment.{address as at}
 
 -- ---- a row's values
@@ -165,6 +167,10 @@ termCases =
     ∷ str (1 ∷ 0 ∷ []) ([] ∷ a ∷ [])
     ∷ []))
     (accepts 4 0 7 [] [] (1 ∷ 3 ∷ 4 ∷ 2 ∷ 3 ∷ 1 ∷ 0 ∷ []) ([] ∷ a ∷ (97 ∷ 97 ∷ []) ∷ b ∷ (255 ∷ []) ∷ []) (1 ∷ 3 ∷ 4 ∷ 2 ∷ 3 ∷ 0 ∷ 1 ∷ []))
+    -- a term that begins another comes before it, though zero bytes alone follow
+    ∷ case
+    (stacked 255 (str (0 ∷ []) ((97 ∷ 0 ∷ []) ∷ []) ∷ str (0 ∷ 1 ∷ []) (a ∷ (97 ∷ 0 ∷ 0 ∷ []) ∷ []) ∷ str (0 ∷ []) ((97 ∷ 0 ∷ []) ∷ []) ∷ []))
+    (accepts 4 0 4 [] [] (1 ∷ 0 ∷ 2 ∷ 1 ∷ []) (a ∷ (97 ∷ 0 ∷ []) ∷ (97 ∷ 0 ∷ 0 ∷ []) ∷ []) (1 ∷ 0 ∷ 2 ∷ 1 ∷ []))
     -- a term that no row uses is kept by a segment without an alive set
     ∷ case (stacked 255 (str (1 ∷ []) (a ∷ b ∷ []) ∷ [])) (accepts 4 0 1 [] [] (1 ∷ []) (a ∷ b ∷ []) (0 ∷ 1 ∷ []))
     -- a term that one segment does not keep and another one keeps has its new ordinal in both parts of the map
@@ -181,3 +187,54 @@ termCases =
 termCases-hold : map (λ c. sheetOf (c .lent)) termCases ≡ map (λ c. c .expected) termCases
 unfolding sheetOf termCases
 termCases-hold = refl
+
+-- ---- the term bytes copied (document 02, (d)): each joined term's, once
+
+-- what an accepted join tells; a refused one has no such count
+abbrev copiedBy : Answer → List ℕ
+copiedBy (accepted n) = n .copied ∷ []
+copiedBy (refused k) = []
+
+copiedOf : Lent → List ℕ
+unfolding outcomeOf
+copiedOf l = copiedBy (outcomeOf l .answer)
+
+record Copies : Type 0 where
+  lent : Lent
+  expected : List ℕ
+
+abbrev copies : Lent → List ℕ → Copies
+copies l n = record { lent = l; expected = n }
+
+abbrev ab : List ℕ
+ab = 97 ∷ 98 ∷ []
+
+copyCases : List Copies
+copyCases =
+    -- C1: a and b, which stands in both segments
+    copies (stacked 255 (plain 4 2 2 (1 ∷ []) [] (0 ∷ []) (b ∷ []) ∷ str (1 ∷ 0 ∷ []) (a ∷ b ∷ []) ∷ [])) (2 ∷ [])
+    -- C12: b alone
+    ∷ copies (inOrder 255 (withAlive (2 ∷ []) (str (0 ∷ 1 ∷ []) (a ∷ b ∷ [])) ∷ []) (at 0 1 ∷ [])) (1 ∷ [])
+    -- ab in each of two segments
+    ∷ copies (stacked 255 (str (0 ∷ []) (ab ∷ []) ∷ str (0 ∷ []) (ab ∷ []) ∷ [])) (2 ∷ [])
+    -- the same with place for 4 bytes, which 11 asks for, and for 3
+    ∷ copies (lending (memory 4 9) (stacked 255 (str (0 ∷ []) (ab ∷ []) ∷ str (0 ∷ []) (ab ∷ []) ∷ []))) (2 ∷ [])
+    ∷ copies (lending (memory 3 9) (stacked 255 (str (0 ∷ []) (ab ∷ []) ∷ str (0 ∷ []) (ab ∷ []) ∷ []))) []
+    -- a term of 25 bytes in each of two segments
+    ∷ copies (lending (memory 50 9) (stacked 255 (str (0 ∷ []) (upTo 25 ∷ []) ∷ str (0 ∷ []) (upTo 25 ∷ []) ∷ []))) (25 ∷ [])
+    -- ab and b, which the first segment does not keep and the second one keeps
+    ∷ copies (inOrder 255 (withAlive (1 ∷ []) (str (0 ∷ 1 ∷ []) (ab ∷ b ∷ [])) ∷ str (0 ∷ []) (b ∷ []) ∷ []) (at 0 0 ∷ at 1 0 ∷ [])) (3 ∷ [])
+    -- the empty term
+    ∷ copies (stacked 255 (str (0 ∷ []) ([] ∷ []) ∷ [])) (0 ∷ [])
+    -- a dropped column's term is none of them: one without values, and one whose alive row has none
+    ∷ copies (stacked 255 (plain 4 2 1 [] [] [] (ab ∷ []) ∷ str (0 ∷ []) (a ∷ []) ∷ [])) (1 ∷ [])
+    ∷ copies (inOrder 255 (withAlive (2 ∷ []) (plain 4 2 2 (0 ∷ []) [] (0 ∷ []) (ab ∷ [])) ∷ str (0 ∷ []) (a ∷ []) ∷ []) (at 0 1 ∷ at 1 0 ∷ [])) (1 ∷ [])
+    -- no terms; no column, and where Str is required
+    ∷ copies (stacked 255 (one 1 5 ∷ [])) (0 ∷ [])
+    ∷ copies (stacked 255 (none 1 ∷ [])) (0 ∷ [])
+    ∷ copies (stacked 4 (none 1 ∷ [])) (0 ∷ [])
+    ∷ []
+
+copyCases-hold : map (λ c. copiedOf (c .lent)) copyCases ≡ map (λ c. c .expected) copyCases
+unfolding copiedOf copyCases
+copyCases-hold = refl

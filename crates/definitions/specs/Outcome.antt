@@ -5,7 +5,7 @@ use mathlib.Core.List.{List, _++_, map}
 use mathlib.Core.Bool.{cond}
 use lib.ListN.{length, take, drop, replicate}
 use lib.Dec.{eqb}
-use Rattle.definitions.specs.Lists.{concat}
+use Rattle.definitions.specs.Lists.{sum, concat}
 use Rattle.definitions.specs.Segment.{SegmentRecord, Sections, Address, Input, Space, recordFrom, addressFrom, cut}
 use Rattle.definitions.specs.Join.{Column, Joined}
 use Rattle.definitions.specs.Answer.{answer, joinOf}
@@ -20,7 +20,7 @@ pub record Buffers : Type 0 where
   pub map : List ℕ
   pub working : List ℕ
 
--- the numbers that come with acceptance: type, class and rows, and the number of elements of each list
+-- the numbers that come with acceptance: type, class and rows, the number of elements of each list, and the term bytes copied (document 02, (d))
 pub record Numbers : Type 0 where
   pub type : ℕ
   pub class : ℕ
@@ -31,6 +31,7 @@ pub record Numbers : Type 0 where
   pub terms : ℕ
   pub termBytes : ℕ
   pub map : ℕ
+  pub copied : ℕ
 
 -- the joiner's answer: 0 with its numbers, or the number of the first check that fails
 pub data Answer : Type 0 where
@@ -100,6 +101,7 @@ module _ {A : Type 0} where
 abbrev pub zeroed : List ℕ → List ℕ
 zeroed bytes = replicate (length bytes) 0
 
+-- the term bytes copied are the joined terms' bytes
 unfoldable pub numbersOf : Joined → Numbers
 numbersOf j =
     record {
@@ -112,6 +114,7 @@ numbersOf j =
       terms = length (j .column .terms);
       termBytes = length (concat (j .column .terms));
       map = length (j .map);
+      copied = sum (map length (j .column .terms));
     }
 
 -- a refusal changes no output

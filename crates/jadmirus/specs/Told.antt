@@ -7,12 +7,12 @@ use Rattle.definitions.specs.TimeOrder.{TimeAnswer, sorted, unsorted}
 use Rattle.definitions.specs.Convert.{ConvertAnswer, convertedTo, unconverted}
 use Rattle.merge_checked.specs.declared.Numbers as Declared
 
--- type, class, rows, and the number of ids, offsets, values, terms, term bytes and ordinals of the map
+-- type, class, rows, the number of ids, offsets, values, terms, term bytes and ordinals of the map, and the term bytes copied
 abbrev pub numbersListed : Numbers → List ℕ
-numbersListed n = n .type ∷ n .class ∷ n .rows ∷ n .ids ∷ n .offsets ∷ n .values ∷ n .terms ∷ n .termBytes ∷ n .map ∷ []
+numbersListed n = n .type ∷ n .class ∷ n .rows ∷ n .ids ∷ n .offsets ∷ n .values ∷ n .terms ∷ n .termBytes ∷ n .map ∷ n .copied ∷ []
 
 abbrev pub listOf : Declared.Numbers → List ℕ
-listOf n = n .typ ∷ n .class ∷ n .rows ∷ n .ids ∷ n .offsets ∷ n .values ∷ n .terms ∷ n .bytes ∷ n .map ∷ []
+listOf n = n .typ ∷ n .class ∷ n .rows ∷ n .ids ∷ n .offsets ∷ n .values ∷ n .terms ∷ n .bytes ∷ n .map ∷ n .copied ∷ []
 
 -- a refusal leaves them as they were
 abbrev pub numbersAfter : Answer → List ℕ → List ℕ

@@ -5,15 +5,15 @@ ghost use Rattle.definitions.specs.Outcome.{numberOf, joinOutcome, lentOf};
 ghost use Rattle.definitions.specs.Segment.{recordFrom};
 ghost use Rattle.definitions.specs.TimeOrder.{timeNumberOf, timeOutcome};
 ghost use Rattle.definitions.specs.Convert.{convertNumberOf, convertOutcome};
-ghost use Rattle.merge.specs.Whole.{buffersOf, answerOf};
+ghost use Rattle.merge.specs.Whole.{buffersOf};
 ghost use Rattle.segment.specs.Lent.{addressesOf};
 ghost use Rattle.time_checks.specs.Lent.{lentTimes};
 ghost use Rattle.time_order.specs.Outcome.{outputOf};
 ghost use Rattle.convert.specs.Outcome.{lentConvert};
 ghost use Rattle.jadmirus.specs.Told.{listOf, numbersAfter, countAfter, recordAfter};
 
-// The nine numbers of an acceptance in their order.
-fn numbers_of(n: merge::Numbers) -> [u64; 9]
+// The ten numbers of an acceptance in their order.
+fn numbers_of(n: merge::Numbers) -> [u64; 10]
     ensures { λ r. ⌜ r ≡ listOf n ⌝ }
 {
     [
@@ -26,6 +26,7 @@ fn numbers_of(n: merge::Numbers) -> [u64; 9]
         n.terms as u64,
         n.bytes as u64,
         n.map as u64,
+        n.copied as u64,
     ]
 }
 
@@ -49,7 +50,7 @@ pub extern "C" fn jadmirus_join(
     out_lengths: &mut [u32],
     out_bytes: &mut [u8],
     out_map: &mut [u32],
-    out_numbers: &mut [u64; 9],
+    out_numbers: &mut [u64; 10],
 ) -> u32
     ensures { λ r. ⌜ r ≡ numberOf (joinOutcome (lentOf mode required (now (records .entry)) (now (ids .entry)) (now (offsets .entry)) (now (values .entry)) (now (lengths .entry)) (now (bytes .entry)) (now (alive .entry)) (now (addresses .entry)) (buffersOf (now («out_ids» .entry)) (now («out_offsets» .entry)) (now («out_values» .entry)) (now («out_lengths» .entry)) (now («out_bytes» .entry)) (now («out_map» .entry)) (now (work .entry)))) .answer) ⌝ }
     ensures { λ _. ⌜ buffersOf (now («out_ids» .exit)) (now («out_offsets» .exit)) (now («out_values» .exit)) (now («out_lengths» .exit)) (now («out_bytes» .exit)) (now («out_map» .exit)) (now (work .exit)) ≡ joinOutcome (lentOf mode required (now (records .entry)) (now (ids .entry)) (now (offsets .entry)) (now (values .entry)) (now (lengths .entry)) (now (bytes .entry)) (now (alive .entry)) (now (addresses .entry)) (buffersOf (now («out_ids» .entry)) (now («out_offsets» .entry)) (now («out_values» .entry)) (now («out_lengths» .entry)) (now («out_bytes» .entry)) (now («out_map» .entry)) (now (work .entry)))) .buffers ⌝ }

@@ -89,7 +89,7 @@ aliveRun =
       bytes = 97 ∷ 98 ∷ [];
       alive = 2 ∷ [];
       addresses = (0 ∷ 1 ∷ []) ∷ [];
-      gave = A.Accepted (record { typ = 4; class = 0; rows = 1; ids = 0; offsets = 0; values = 1; terms = 1; bytes = 1; map = 2 });
+      gave = A.Accepted (record { typ = 4; class = 0; rows = 1; ids = 0; offsets = 0; values = 1; terms = 1; bytes = 1; map = 2; copied = 1 });
       left = leaves (nines 12) (0 ∷ nines 11) (1 ∷ nines 11) (98 ∷ nines 11) (0 ∷ 0 ∷ nines 10);
     }
 
@@ -106,7 +106,7 @@ stackedRun =
       bytes = 97 ∷ 98 ∷ 98 ∷ [];
       alive = [];
       addresses = [];
-      gave = A.Accepted (record { typ = 4; class = 1; rows = 4; ids = 3; offsets = 0; values = 3; terms = 2; bytes = 2; map = 3 });
+      gave = A.Accepted (record { typ = 4; class = 1; rows = 4; ids = 3; offsets = 0; values = 3; terms = 2; bytes = 2; map = 3; copied = 2 });
       left = leaves (0 ∷ 1 ∷ 3 ∷ nines 9) (1 ∷ 0 ∷ 1 ∷ nines 9) (1 ∷ 1 ∷ nines 10) (97 ∷ 98 ∷ nines 10) (0 ∷ 1 ∷ 1 ∷ nines 9);
     }
 
@@ -123,7 +123,7 @@ orderedRun =
       bytes = 97 ∷ 98 ∷ 98 ∷ [];
       alive = [];
       addresses = (0 ∷ 3 ∷ []) ∷ (1 ∷ 0 ∷ []) ∷ (0 ∷ 0 ∷ []) ∷ (0 ∷ 1 ∷ []) ∷ (0 ∷ 2 ∷ []) ∷ [];
-      gave = A.Accepted (record { typ = 4; class = 1; rows = 5; ids = 4; offsets = 0; values = 4; terms = 2; bytes = 2; map = 3 });
+      gave = A.Accepted (record { typ = 4; class = 1; rows = 5; ids = 4; offsets = 0; values = 4; terms = 2; bytes = 2; map = 3; copied = 2 });
       left = leaves (0 ∷ 1 ∷ 2 ∷ 3 ∷ nines 8) (1 ∷ 1 ∷ 1 ∷ 0 ∷ nines 8) (1 ∷ 1 ∷ nines 10) (97 ∷ 98 ∷ nines 10) (0 ∷ 1 ∷ 1 ∷ nines 9);
     }
 
@@ -132,7 +132,7 @@ runs = refusedRun ∷ aliveRun ∷ stackedRun ∷ orderedRun ∷ []
 
 -- the one join: the first segments in their own sequence, ordered by the origins of the result
 abbrev oneNumbers : Numbers
-oneNumbers = record { typ = 4; class = 1; rows = 5; ids = 4; offsets = 0; values = 4; terms = 2; bytes = 2; map = 5 }
+oneNumbers = record { typ = 4; class = 1; rows = 5; ids = 4; offsets = 0; values = 4; terms = 2; bytes = 2; map = 5; copied = 2 }
 
 abbrev oneRun : Run
 oneRun =

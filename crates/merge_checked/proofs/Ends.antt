@@ -144,7 +144,7 @@ module _ {mode required : ℕ} {records : List (List ℕ)} {ids offsets values l
         }
 
     -- ---- after the dictionary
-    module _ {n m : ℕ} {lens′ outs′ ords′ : List ℕ} (d : Joins ss lens outs ords n m lens′ outs′ ords′) where
+    module _ {n m k : ℕ} {lens′ outs′ ords′ : List ℕ} (d : Joins ss lens outs ords n m k lens′ outs′ ords′) where
       map-stands : Mapped ords′ ss
       map-stands = subst (λ (o : List ℕ). Mapped o ss) (sym (d .map-out)) (mapped ss ords (let k = map-count ss in let h = room .map in omega arith))
 
@@ -161,7 +161,7 @@ module _ {mode required : ℕ} {records : List (List ℕ)} {ids offsets values l
           → work′ ≡ work
           → outcomeOf
           (A.Accepted
-          (record { typ = x .typ; class = x .class; rows = x .rows; ids = x .ids; offsets = x .offsets; values = x .values; terms = n; bytes = m; map = x .map }))
+          (record { typ = x .typ; class = x .class; rows = x .rows; ids = x .ids; offsets = x .offsets; values = x .values; terms = n; bytes = m; map = x .map; copied = k }))
           (buffersOf ids′ offsets′ values′ lens′ outs′ ords′ work′)
           ≡ joinOutcome l
       unfolding numbersOf acceptedBuffers inputOf segmentsOf joinRules shape joinedColumn encode
@@ -184,6 +184,7 @@ module _ {mode required : ℕ} {records : List (List ℕ)} {ids offsets values l
                   terms = d .terms j;
                   termBytes = d .used j;
                   map = (ap (λ (s : Shape). s .map) (c .is) ∙ sym (map-count ss)) j;
+                  copied = d .copied j;
                 });
             buffers =
                 buffersOf

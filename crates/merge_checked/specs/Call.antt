@@ -25,6 +25,7 @@ numbersIn n =
       terms = n .terms;
       termBytes = n .bytes;
       map = n .map;
+      copied = n .copied;
     }
 
 -- the paper's number for each case is that of the definitions' answer

@@ -3,7 +3,7 @@ ghost use mathlib.Core.Path.{_≡_};
 ghost use Rattle.definitions.specs.Outcome.{lentOf, joinOutcome};
 ghost use Rattle.merge_checked.specs.Call.{outcomeOf, buffersOf, AfterNine, Tables};
 
-// What comes with acceptance: type, class and rows, and the number of elements of each list.
+// What comes with acceptance: type, class and rows, the number of elements of each list, and how many term bytes were copied.
 pub struct Numbers {
     pub typ: u32,
     pub class: u32,
@@ -14,6 +14,7 @@ pub struct Numbers {
     pub terms: usize,
     pub bytes: usize,
     pub map: usize,
+    pub copied: usize,
 }
 
 pub enum Answer {
@@ -117,6 +118,7 @@ fn join_tables(
                 terms: c.terms,
                 bytes: c.bytes,
                 map: x.map,
+                copied: c.copied,
             })
         }
     }

@@ -130,8 +130,8 @@ module _ {ss : List Segment} {records : List (List ℕ)} {held lengths bytes mar
       ∙ join-held (λ x. map (ordinalOf (termsOf ss)) (x .terms)) ss (λ s. map (ordinalOf (termsOf ss)) (heldDict records held lengths bytes s))
       (λ s l. split (λ x. map (ordinalOf (termsOf ss)) (x .terms)) (λ t s. map (ordinalOf (termsOf ss)) t) s l (λ t e. ap (map (ordinalOf (termsOf ss))) e) (λ e. refl))
 
-  pub joins : (lens outs ords : List ℕ) (n m : ℕ) (lens′ outs′ ords′ : List ℕ) → Dictionary records held lengths bytes marks all lens outs ords n m lens′ outs′ ords′ → Joins ss lens outs ords n m lens′ outs′ ords′
-  joins lens outs ords n m lens′ outs′ ords′ d = merged-same terms-are map-is d
+  pub joins : (lens outs ords : List ℕ) (n m k : ℕ) (lens′ outs′ ords′ : List ℕ) → Dictionary records held lengths bytes marks all lens outs ords n m k lens′ outs′ ords′ → Joins ss lens outs ords n m k lens′ outs′ ords′
+  joins lens outs ords n m k lens′ outs′ ords′ d = merged-same terms-are map-is d
 
 -- ---- the segments that the sections say have their terms in the runs
 

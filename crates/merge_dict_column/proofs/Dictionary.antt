@@ -15,7 +15,6 @@ use Rattle.definitions.specs.Join.{absent}
 use Rattle.definitions.specs.Answer.{sumOver, bytesIn}
 use Rattle.segment.specs.Records.{recordsOf, sectionsIn, segmentsIn}
 use Rattle.sections_fit.specs.Walks.{Exact}
-use Rattle.sections_fit.proofs.Own.{bytes-sum}
 use Rattle.runs.proofs.Zeros.{part-zero, cleared}
 use Rattle.column_index_merge.proofs.Held.{flag-none}
 use Rattle.term_cursors.specs.Runs.{posAt, Runs}
@@ -104,19 +103,19 @@ module _ {mode : ℕ} {records : List (List ℕ)} {held ids offsets values lengt
     texts-few : sumOver bytesIn ss ≤ 4294967294
     texts-few = sums-low (g .checked) .2
 
-    pub merge-given : Runs records held lengths marks (eqb mode 0) × Texts records held lengths bytes lens outs ords
+    pub merge-given : Runs records held lengths bytes marks (eqb mode 0) × Texts records held lengths bytes lens outs ords
     merge-given = (
       runs-of records held lengths bytes marks (eqb mode 0) (few-records (g .checked)) (le-of-eq (sym (g .flags))) (le-of-eq terms-are)
-          (λ e. le-of-eq (sym (marks-count (eqb-false mode 0 e)) ∙ sym (ap length front ∙ m-long))) (le-of-eq (whole .bytes)) (omega (arith, bytes-sum (recordsOf records) (sectionsIn ids offsets values lengths bytes alive) (whole .terms) (le-of-eq (whole .bytes)), whole .bytes, texts-few)),
+          (λ e. le-of-eq (sym (marks-count (eqb-false mode 0 e)) ∙ sym (ap length front ∙ m-long))) (le-of-eq (whole .bytes)),
       texts-of stands (values-fit (g .checked)) lens outs ords (le-of-eq terms-are) (le-of-eq (whole .bytes)) (g .terms) (g .map) (g .texts) texts-few,
     )
 
     -- ---- after the merge
-    pub left : (a b : ℕ) (lens′ outs′ ords′ : List ℕ) (z : List ℕ) → Dictionary records held lengths bytes marks (eqb mode 0) lens outs ords a b lens′ outs′ ords′
+    pub left : (a b e : ℕ) (lens′ outs′ ords′ : List ℕ) (z : List ℕ) → Dictionary records held lengths bytes marks (eqb mode 0) lens outs ords a b e lens′ outs′ ords′
         → z ≡ replicate (length marks) 0
-        → DictionaryLeft records ids offsets values lengths bytes alive work lens outs ords a b (z ++ drop n (m ++ drop n work)) lens′ outs′ ords′
-    left a b lens′ outs′ ords′ z d ze =
+        → DictionaryLeft records ids offsets values lengths bytes alive work lens outs ords a b e (z ++ drop n (m ++ drop n work)) lens′ outs′ ords′
+    left a b e lens′ outs′ ords′ z d ze =
         record {
-          joins = joins stands lens outs ords a b lens′ outs′ ords′ d;
+          joins = joins stands lens outs ords a b e lens′ outs′ ords′ d;
           clean = cleared work n marks-fit (g .clean) m l z ze ∙ sym (g .clean);
         }

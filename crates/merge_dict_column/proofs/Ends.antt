@@ -10,12 +10,13 @@ use lib.ListN.{length, getD, take, drop, replicate}
 use Rattle.definitions.specs.Lists.{sum, termsAscending, sortTerms}
 use Rattle.definitions.specs.Segment.{cut}
 use Rattle.definitions.specs.Join.{ordinalOf}
-use Rattle.term_merger.specs.Order.{cell, TermsInside}
+use Rattle.term_merger.specs.Order.{cell, keyIn, TermsInside}
+use Rattle.term_order.specs.Key.{Inside}
 use Rattle.term_cursors.specs.Cursors.{cursorAt, cursorOf, lensOf, dictOf, termsIn, sumOver}
 use Rattle.term_cursors.specs.Runs.{joinTo, countAt, heldAt, posAt, fromAt, toAt, Runs, firstCursor, Filled}
 use Rattle.term_walk.specs.Walk.{Ready, markedFrom, mapTo, walkedTerms, walkedMap}
 use Rattle.merge_dict_column.specs.Dict.{heldDict, mergedTerms, mergedMap, Texts}
-use Rattle.term_cursors.proofs.Cursors.{cursor-readable}
+use Rattle.term_cursors.proofs.Cursors.{cursor-end, cursor-inside}
 use Rattle.term_cursors.proofs.Begin.{held-sum, held-cases, held-le, pos-mono, from-mono, take-held, first-3, first-4}
 use Rattle.lists.proofs.Numbers.{le-lt}
 use Rattle.term_merger.specs.Live.{leftOf}
@@ -38,25 +39,24 @@ join-none f k (suc n) h e = go (le-lt n k) (λ (l : k ≤ n). join-none f k n l 
 
 -- ---- the cursors as the walk wants them
 
-cursor-at-zero : (lengths marks : List ℕ) (all : Bool) → _≡_ {A = List ℕ} (replicate 6 0) (cursorAt lengths marks all 0 0 0 0)
-unfolding cursorAt
-cursor-at-zero lengths marks all = refl
+cursor-at-zero : (lengths bytes marks : List ℕ) (all : Bool) → _≡_ {A = List ℕ} (replicate 8 0) (cursorAt lengths bytes marks all 0 0 0 0)
+cursor-at-zero lengths bytes marks all = cursor-end lengths bytes marks all 0 0 0 0 zero-le
 
-cursor-of-zero : (lengths marks : List ℕ) (all : Bool) (cursors : List (List ℕ)) (s f q e t : ℕ) → getD cursors s [] ≡ cursorAt lengths marks all f q e t → cell cursors s 0 ≡ f → cell cursors s 3 ≡ q → cell cursors s 4 ≡ e → cell cursors s 5 ≡ t
-    → getD cursors s [] ≡ cursorOf lengths marks all cursors s 0
+cursor-of-zero : (lengths bytes marks : List ℕ) (all : Bool) (cursors : List (List ℕ)) (s f q e t : ℕ) → getD cursors s [] ≡ cursorAt lengths bytes marks all f q e t → cell cursors s 0 ≡ f → cell cursors s 3 ≡ q → cell cursors s 4 ≡ e → cell cursors s 5 ≡ t
+    → getD cursors s [] ≡ cursorOf lengths bytes marks all cursors s 0
 unfolding cursorOf
-cursor-of-zero lengths marks all cursors s f q e t h a b c d =
+cursor-of-zero lengths bytes marks all cursors s f q e t h a b c d =
     let a′ : f ≡ cell cursors s 0 + sum (take 0 (lensOf lengths cursors s)) = omega arith in
     let b′ : q ≡ cell cursors s 3 + 0 = omega arith in
     let d′ : t ≡ cell cursors s 5 + 0 = omega arith in
-    h ∙ (λ i. cursorAt lengths marks all (a′ i) (b′ i) (sym c i) (d′ i))
+    h ∙ (λ i. cursorAt lengths bytes marks all (a′ i) (b′ i) (sym c i) (d′ i))
 
 pub dict-empty : (records : List (List ℕ)) (held lengths bytes : List ℕ) (s : ℕ) → heldAt records held s ≡ 0 → heldDict records held lengths bytes s ≡ []
 unfolding heldDict
 dict-empty records held lengths bytes s z = ap (λ (n : ℕ). cut (take n (drop (posAt records s) lengths)) (drop (fromAt records lengths s) bytes)) z
 
 module _ {records : List (List ℕ)} {held lengths bytes marks : List ℕ} {all : Bool} {cursors : List (List ℕ)} {lens outs ords : List ℕ}
-    (u : Runs records held lengths marks all) (x : Texts records held lengths bytes lens outs ords) (f : Filled records held lengths marks all (length records) cursors) where
+    (u : Runs records held lengths bytes marks all) (x : Texts records held lengths bytes lens outs ords) (f : Filled records held lengths bytes marks all (length records) cursors) where
   abbrev k : ℕ
   k = length records
 
@@ -65,10 +65,10 @@ module _ {records : List (List ℕ)} {held lengths bytes marks : List ℕ} {all 
   cell-0 s l = ap (λ (z : List ℕ). getD z 0 0) (f .cursor s l)
 
   cell-3 : (s : ℕ) → s < k → cell cursors s 3 ≡ posAt records s + countAt records s - heldAt records held s
-  cell-3 s l = ap (λ (z : List ℕ). getD z 3 0) (f .cursor s l) ∙ first-3 records held lengths marks all s
+  cell-3 s l = ap (λ (z : List ℕ). getD z 3 0) (f .cursor s l) ∙ first-3 records held lengths bytes marks all s
 
   cell-4 : (s : ℕ) → s < k → cell cursors s 4 ≡ posAt records s + countAt records s
-  cell-4 s l = ap (λ (z : List ℕ). getD z 4 0) (f .cursor s l) ∙ first-4 records held lengths marks all s
+  cell-4 s l = ap (λ (z : List ℕ). getD z 4 0) (f .cursor s l) ∙ first-4 records held lengths bytes marks all s
 
   cell-5 : (s : ℕ) → s < k → cell cursors s 5 ≡ toAt records held s
   unfolding firstCursor cursorAt
@@ -104,11 +104,11 @@ module _ {records : List (List ℕ)} {held lengths bytes marks : List ℕ} {all 
   end-le : (s : ℕ) → s < k → posAt records s + countAt records s ≤ posAt records k
   end-le s l = pos-mono records (suc s) k l
 
-  ready-cursor : (s : ℕ) → s < 256 → (s < k) ⊎ (k ≤ s) → getD cursors s [] ≡ cursorOf lengths marks all cursors s 0
+  ready-cursor : (s : ℕ) → s < 256 → (s < k) ⊎ (k ≤ s) → getD cursors s [] ≡ cursorOf lengths bytes marks all cursors s 0
   unfolding firstCursor
-  ready-cursor s m (inl l) = cursor-of-zero lengths marks all cursors s _ _ _ _ (f .cursor s l) (cell-0 s l) (cell-3 s l) (cell-4 s l) (cell-5 s l)
+  ready-cursor s m (inl l) = cursor-of-zero lengths bytes marks all cursors s _ _ _ _ (f .cursor s l) (cell-0 s l) (cell-3 s l) (cell-4 s l) (cell-5 s l)
   ready-cursor s m (inr l) =
-      cursor-of-zero lengths marks all cursors s 0 0 0 0 (f .blank s l m ∙ cursor-at-zero lengths marks all) (f .rest s 0 l) (f .rest s 3 l) (f .rest s 4 l) (f .rest s 5 l)
+      cursor-of-zero lengths bytes marks all cursors s 0 0 0 0 (f .blank s l m ∙ cursor-at-zero lengths bytes marks all) (f .rest s 0 l) (f .rest s 3 l) (f .rest s 4 l) (f .rest s 5 l)
 
   ready-low : (s : ℕ) → (s < k) ⊎ (k ≤ s) → cell cursors s 3 ≤ cell cursors s 4
   ready-low s (inl l) = omega (arith, cell-3 s l, cell-4 s l)
@@ -123,7 +123,7 @@ module _ {records : List (List ℕ)} {held lengths bytes marks : List ℕ} {all 
   ready-marked s (inr l) e = omega (arith, f .rest s 4 l)
 
   ready-fits : (s : ℕ) → (s < k) ⊎ (k ≤ s) → cell cursors s 0 + sum (lensOf lengths cursors s) ≤ length bytes
-  ready-fits s (inl l) = omega (arith, cell-0 s l, ap sum (lens-in s l), held-sum records held lengths s, from-mono records lengths (suc s) k l, x .inside)
+  ready-fits s (inl l) = omega (arith, cell-0 s l, ap sum (lens-in s l), held-sum records held lengths s, from-mono records lengths (suc s) k l, u .texts)
   ready-fits s (inr l) = omega (arith, f .rest s 0 l, ap sum (lens-out s l))
 
   ready-asc : (s : ℕ) → (s < k) ⊎ (k ≤ s) → T (termsAscending (dictOf lengths bytes cursors s))
@@ -159,8 +159,8 @@ module _ {records : List (List ℕ)} {held lengths bytes marks : List ℕ} {all 
   pub readable : TermsInside bytes cursors
   unfolding TermsInside
   readable s l =
-      subst (λ (z : List ℕ). (getD z 0 0 ≤ getD z 1 0) × (getD z 1 0 ≤ length bytes)) (sym (ready .cursor s l))
-      (cursor-readable lengths bytes marks all cursors s (ready .low s) (ready .inside s) (ready .fits s) 0 zero-le)
+      subst (λ (z : List ℕ). Inside bytes (keyIn z)) (sym (ready .cursor s l))
+      (cursor-inside lengths bytes marks all cursors s (ready .low s) (ready .inside s) (ready .fits s) 0 zero-le)
 
   -- ---- the terms and the map
 

@@ -73,14 +73,14 @@ module _ (records : List (List ℕ)) (held ids offsets values lengths bytes aliv
 -- ---- the runs
 
 pub runs-of : (records : List (List ℕ)) (held lengths bytes marks : List ℕ) (all : Bool) → length records ≤ 256 → length records ≤ length held → posAt records (length records) ≤ length lengths
-    → (all ≡ false → posAt records (length records) ≤ length marks) → sum lengths ≤ length bytes → length bytes < 18446744073709551616 → Runs records held lengths marks all
-runs-of records held lengths bytes marks all a b c d e f =
+    → (all ≡ false → posAt records (length records) ≤ length marks) → sum lengths ≤ length bytes → Runs records held lengths bytes marks all
+runs-of records held lengths bytes marks all a b c d e =
     record {
       few = a;
       flags = b;
       inside = c;
       marked = d;
-      small = omega (arith, from-sum records lengths (length records), sum-take-le lengths (posAt records (length records)));
+      texts = omega (arith, from-sum records lengths (length records), sum-take-le lengths (posAt records (length records)));
     }
 
 -- ---- the texts
@@ -137,7 +137,6 @@ module _ {ss : List Segment} {records : List (List ℕ)} {held lengths bytes mar
   texts-of lens outs ords a b c d e g =
       let i : fromAt records lengths (length records) ≤ length bytes = omega (arith, from-sum records lengths (length records), sum-take-le lengths (posAt records (length records))) in
       record {
-        inside = i;
         ascending = dict-ascends;
         terms = omega (arith, terms-sum st a i);
         places = omega (arith, terms-sum st a i);

@@ -24,7 +24,6 @@ mergedMap records held lengths bytes marks all = mapTo (mergedTerms records held
 -- ---- what the walk needs of the texts and the outputs
 
 pub record Texts (records : List (List ℕ)) (held lengths bytes : List ℕ) (lens outs ords : List ℕ) : Type 0 where
-  pub inside : fromAt records lengths (length records) ≤ length bytes
   pub ascending : (s : ℕ) → T (termsAscending (heldDict records held lengths bytes s))
   pub terms : toAt records held (length records) ≤ length lens
   pub places : toAt records held (length records) ≤ length ords
@@ -33,5 +32,5 @@ pub record Texts (records : List (List ℕ)) (held lengths bytes : List ℕ) (le
 
 -- ---- what is left at the end
 
-abbrev pub Dictionary : List (List ℕ) → List ℕ → List ℕ → List ℕ → List ℕ → Bool → List ℕ → List ℕ → List ℕ → ℕ → ℕ → List ℕ → List ℕ → List ℕ → Type 0
+abbrev pub Dictionary : List (List ℕ) → List ℕ → List ℕ → List ℕ → List ℕ → Bool → List ℕ → List ℕ → List ℕ → ℕ → ℕ → ℕ → List ℕ → List ℕ → List ℕ → Type 0
 Dictionary records held lengths bytes marks all = Merged (mergedTerms records held lengths bytes marks all) (mergedMap records held lengths bytes marks all)

@@ -34,6 +34,6 @@ pub record DictionaryGiven (mode : ℕ) (records : List (List ℕ)) (held ids of
   pub texts : sumOver bytesIn (heldOf (segmentsIn records ids offsets values lengths bytes alive)) ≤ length outs
   pub map : sumOver termsIn (heldOf (segmentsIn records ids offsets values lengths bytes alive)) ≤ length ords
 
-pub record DictionaryLeft (records : List (List ℕ)) (ids offsets values lengths bytes alive work lens outs ords : List ℕ) (n m : ℕ) (work′ lens′ outs′ ords′ : List ℕ) : Type 0 where
-  pub joins : Joins (segmentsIn records ids offsets values lengths bytes alive) lens outs ords n m lens′ outs′ ords′
+pub record DictionaryLeft (records : List (List ℕ)) (ids offsets values lengths bytes alive work lens outs ords : List ℕ) (n m k : ℕ) (work′ lens′ outs′ ords′ : List ℕ) : Type 0 where
+  pub joins : Joins (segmentsIn records ids offsets values lengths bytes alive) lens outs ords n m k lens′ outs′ ords′
   pub clean : work′ ≡ work

@@ -25,5 +25,5 @@ pub record Stands (ss : List Segment) (records : List (List ℕ)) (held lengths 
       → eqb (unmarkedAt marks all (posAt records s + i)) 0 ≡ cond (hasAliveSet (getD ss s absent)) (isUsed (getD ss s absent) i) true
 
 -- the outputs and the counts that the definitions give
-abbrev pub Joins : List Segment → List ℕ → List ℕ → List ℕ → ℕ → ℕ → List ℕ → List ℕ → List ℕ → Type 0
+abbrev pub Joins : List Segment → List ℕ → List ℕ → List ℕ → ℕ → ℕ → ℕ → List ℕ → List ℕ → List ℕ → Type 0
 Joins ss = Merged (termsOf ss) (mapOf ss)

@@ -1,7 +1,5 @@
 // The merged dictionary and the map from old ordinals to new ones (columnar/merge/merge_dict_column.rs, `serialize_merged_dict`).
 ghost use mathlib.Core.Path.{_≡_};
-ghost use mathlib.Core.Bool.{cond};
-ghost use lib.Dec.{eqb};
 ghost use Rattle.term_cursors.specs.Runs.{Runs};
 ghost use Rattle.merge_dict_column.specs.Dict.{Texts, Dictionary};
 ghost use Rattle.merge_dict_column.specs.Fill.{marksFor, MarksFor, DictionaryGiven, DictionaryLeft};
@@ -20,12 +18,12 @@ pub fn merge_dict(
     out_bytes: &mut [u8],
     map: &mut [u32],
 ) -> Kept
-    requires { ⌜ Runs (now records) (now held) (now lengths) (now marks) all ⌝ }
+    requires { ⌜ Runs (now records) (now held) (now lengths) (now bytes) (now marks) all ⌝ }
     requires { ⌜ Texts (now records) (now held) (now lengths) (now bytes) (now «out_lengths») (now «out_bytes») (now map) ⌝ }
-    ensures { λ r. ⌜ Dictionary (now (records .entry)) (now (held .entry)) (now (lengths .entry)) (now (bytes .entry)) (now (marks .entry)) all (now («out_lengths» .entry)) (now («out_bytes» .entry)) (now (map .entry)) (r .terms) (r .bytes) (now («out_lengths» .exit)) (now («out_bytes» .exit)) (now (map .exit)) ⌝ }
+    ensures { λ r. ⌜ Dictionary (now (records .entry)) (now (held .entry)) (now (lengths .entry)) (now (bytes .entry)) (now (marks .entry)) all (now («out_lengths» .entry)) (now («out_bytes» .entry)) (now (map .entry)) (r .terms) (r .bytes) (r .copied) (now («out_lengths» .exit)) (now («out_bytes» .exit)) (now (map .exit)) ⌝ }
 {
-    let mut cursors = [[0usize; 6]; term_merger::Heap::CAP];
-    term_cursors::fill_cursors(records, held, lengths, marks, all, &mut cursors);
+    let mut cursors = [[0usize; 8]; term_merger::Heap::CAP];
+    term_cursors::fill_cursors(records, held, lengths, bytes, marks, all, &mut cursors);
     let heap = term_merger::start_heap(bytes, &cursors);
     term_walk::merge_terms(
         heap,
@@ -77,7 +75,7 @@ pub fn fill_dictionary(
     out_map: &mut [u32],
 ) -> Kept
     requires { ⌜ DictionaryGiven mode (now records) (now held) (now ids) (now offsets) (now values) (now lengths) (now bytes) (now alive) (now work) (now «out_lengths») (now «out_bytes») (now «out_map») ⌝ }
-    ensures { λ r. ⌜ DictionaryLeft (now (records .entry)) (now (ids .entry)) (now (offsets .entry)) (now (values .entry)) (now (lengths .entry)) (now (bytes .entry)) (now (alive .entry)) (now (work .entry)) (now («out_lengths» .entry)) (now («out_bytes» .entry)) (now («out_map» .entry)) (r .terms) (r .bytes) (now (work .exit)) (now («out_lengths» .exit)) (now («out_bytes» .exit)) (now («out_map» .exit)) ⌝ }
+    ensures { λ r. ⌜ DictionaryLeft (now (records .entry)) (now (ids .entry)) (now (offsets .entry)) (now (values .entry)) (now (lengths .entry)) (now (bytes .entry)) (now (alive .entry)) (now (work .entry)) (now («out_lengths» .entry)) (now («out_bytes» .entry)) (now («out_map» .entry)) (r .terms) (r .bytes) (r .copied) (now (work .exit)) (now («out_lengths» .exit)) (now («out_bytes» .exit)) (now («out_map» .exit)) ⌝ }
 {
     // one mark for each term when ordered
     let n = runs::unless(mode == 0, lengths.len());

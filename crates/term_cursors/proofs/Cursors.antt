@@ -1,7 +1,8 @@
 -- The laws of cursors: the current term of a segment is its dictionary's. Assumes nothing.
 use mathlib.Core.Path.{_≡_, refl, sym, ap, _∙_}
-use mathlib.Core.Bool.{Bool, true, false}
+use mathlib.Core.Bool.{Bool, true, false, cond}
 use mathlib.Core.List.{List, [], _∷_}
+use lib.Dec.{ltb}
 use Prim.Native.Nat.{ℕ, zero, suc, _+_, _-_, _≤_, _<_}
 use native.Mathlib.Nat.{le-of-suc-le-suc, add-zero}
 use native.Mathlib.Omega.{arith}
@@ -11,8 +12,11 @@ use lib.Seq.{drop-cons, drop-drop}
 use borrow.Author.Tests.{lt-ltb, le-ltb, eq-eqb, ne-eqb}
 use Rattle.definitions.specs.Lists.{sum}
 use Rattle.definitions.specs.Segment.{cut}
-use Rattle.term_merger.specs.Order.{cell}
-use Rattle.term_cursors.specs.Cursors.{unmarkedAt, cursorAt, lengthAt, lensOf, dictOf, cursorOf, termAt, markAt, termsIn, bytesIn, sumOver}
+use Rattle.term_order.specs.declared.Key.{Key}
+use Rattle.term_order.specs.Key.{wordOf, termIn, keyAt, Inside}
+use Rattle.term_order.proofs.Words.{word-none}
+use Rattle.term_merger.specs.Order.{cell, keyIn}
+use Rattle.term_cursors.specs.Cursors.{unmarkedAt, termFrom, cursorAt, lengthAt, lensOf, dictOf, cursorOf, termAt, markAt, termsIn, bytesIn, sumOver}
 use Rattle.lists.proofs.Numbers.{le-lt}
 use Rattle.term_merger.specs.Live.{leftOf}
 use Rattle.lists.proofs.Parts.{run-length, part-at}
@@ -41,18 +45,30 @@ pub unmarked-some : (marks : List ℕ) (all : Bool) (at : ℕ) → all ≡ false
 unfolding unmarkedAt
 unmarked-some marks all at e h = rw (e, ne-eqb (getD marks at 0) 0 h)
 
-module _ (lengths marks : List ℕ) (all : Bool) (from pos end to : ℕ) where
-  pub cursor-end : end ≤ pos → _≡_ {A = List ℕ} (from ∷ from ∷ 0 ∷ pos ∷ end ∷ to ∷ []) (cursorAt lengths marks all from pos end to)
-  unfolding cursorAt
-  cursor-end h = rw (le-ltb pos end h, add-zero from)
+pub length-some : (lengths : List ℕ) (pos end : ℕ) → pos < end → lengthAt lengths pos end ≡ getD lengths pos 0
+length-some lengths pos end h = rw (lt-ltb pos end h)
 
-  pub cursor-some : pos < end → (n k : ℕ) → n ≡ getD lengths pos 0 → k ≡ unmarkedAt marks all pos
-      → _≡_ {A = List ℕ} (from ∷ (from + n) ∷ k ∷ pos ∷ end ∷ to ∷ []) (cursorAt lengths marks all from pos end to)
+module _ (lengths bytes marks : List ℕ) (all : Bool) (from pos end to : ℕ) where
+  pub cursor-end : end ≤ pos → _≡_ {A = List ℕ} (from ∷ from ∷ 0 ∷ pos ∷ end ∷ to ∷ 0 ∷ 0 ∷ []) (cursorAt lengths bytes marks all from pos end to)
   unfolding cursorAt
-  cursor-some h n k e f = rw (lt-ltb pos end h, e, f)
+  cursor-end h =
+      let e : from ≡ from + lengthAt lengths pos end = sym (ap (λ (b : Bool). from + cond b (getD lengths pos 0) 0) (le-ltb pos end h) ∙ add-zero from) in
+      let m : 0 ≡ cond (ltb pos end) (unmarkedAt marks all pos) 0 = sym (ap (λ (b : Bool). cond b (unmarkedAt marks all pos) 0) (le-ltb pos end h)) in
+      let t : termFrom lengths bytes from pos end ≡ [] = ap (λ (n : ℕ). take n (drop from bytes)) (let z : from + lengthAt lengths pos end - from ≡ 0 = omega arith in z) in
+      let v : 0 ≡ wordOf (termFrom lengths bytes from pos end) = word-none (termFrom lengths bytes from pos end) t in
+      let w : 0 ≡ wordOf (drop 8 (termFrom lengths bytes from pos end)) = word-none (drop 8 (termFrom lengths bytes from pos end)) (ap (drop 8) t) in
+      λ i. from ∷ (e i) ∷ (m i) ∷ pos ∷ end ∷ to ∷ (v i) ∷ (w i) ∷ []
 
-  pub length-some : pos < end → lengthAt lengths pos end ≡ getD lengths pos 0
-  length-some h = rw (lt-ltb pos end h)
+  pub cursor-some : pos < end → (n k : ℕ) → n ≡ getD lengths pos 0 → k ≡ unmarkedAt marks all pos → (key : Key) → key ≡ keyAt bytes from (from + n)
+      → _≡_ {A = List ℕ} (from ∷ (from + n) ∷ k ∷ pos ∷ end ∷ to ∷ key .first ∷ key .second ∷ []) (cursorAt lengths bytes marks all from pos end to)
+  unfolding cursorAt
+  cursor-some h n k e f key g =
+      let q : n ≡ lengthAt lengths pos end = e ∙ sym (length-some lengths pos end h) in
+      let m : k ≡ cond (ltb pos end) (unmarkedAt marks all pos) 0 = f ∙ sym (ap (λ (b : Bool). cond b (unmarkedAt marks all pos) 0) (lt-ltb pos end h)) in
+      let t : termIn bytes from (from + n) ≡ termFrom lengths bytes from pos end = ap (λ (x : ℕ). termIn bytes from (from + x)) q in
+      let v : key .first ≡ wordOf (termFrom lengths bytes from pos end) = ap (λ (x : Key). x .first) g ∙ ap wordOf t in
+      let w : key .second ≡ wordOf (drop 8 (termFrom lengths bytes from pos end)) = ap (λ (x : Key). x .second) g ∙ ap (λ (x : List ℕ). wordOf (drop 8 x)) t in
+      λ i. from ∷ (from + q i) ∷ (m i) ∷ pos ∷ end ∷ to ∷ (v i) ∷ (w i) ∷ []
 
 -- ---- a segment's cursor after p terms
 
@@ -79,7 +95,7 @@ module _ (lengths bytes marks : List ℕ) (all : Bool) (cursors : List (List ℕ
   ls = lensOf lengths cursors s
 
   abbrev cursor : ℕ → List ℕ
-  cursor p = cursorOf lengths marks all cursors s p
+  cursor p = cursorOf lengths bytes marks all cursors s p
 
   pub lens-length : length ls ≡ N
   lens-length = run-length Q E lengths inside
@@ -113,7 +129,7 @@ module _ (lengths bytes marks : List ℕ) (all : Bool) (cursors : List (List ℕ
   cursor-2 p h = rw (lt-ltb (Q + p) E (omega arith))
 
   some-length : (p : ℕ) → p < N → lengthAt lengths (Q + p) E ≡ getD ls p 0
-  some-length p h = length-some lengths marks all 0 (Q + p) E 0 (omega arith) ∙ sym (part-at N Q lengths p h)
+  some-length p h = length-some lengths (Q + p) E (omega arith) ∙ sym (part-at N Q lengths p h)
 
   none-length : (p : ℕ) → N ≤ p → lengthAt lengths (Q + p) E ≡ 0
   none-length p h = rw (le-ltb (Q + p) E (omega arith))
@@ -121,12 +137,17 @@ module _ (lengths bytes marks : List ℕ) (all : Bool) (cursors : List (List ℕ
   pub cursor-next : (p : ℕ) → p < N → getD (cursor p) 1 0 ≡ F + sum (take (p + 1) ls)
   cursor-next p h = omega (arith, cursor-1 p, some-length p h, sum-take-more ls p (rw lens-length h))
 
-  pub cursor-readable : (p : ℕ) → p ≤ N → (getD (cursor p) 0 0 ≤ getD (cursor p) 1 0) × (getD (cursor p) 1 0 ≤ length bytes)
-  cursor-readable p h = go (le-lt p N)
+  -- its key is its term's
+  pub cursor-key : (p : ℕ) → keyIn (cursor p) ≡ keyAt bytes (getD (cursor p) 0 0) (getD (cursor p) 1 0)
+  unfolding cursorOf cursorAt
+  cursor-key p = refl
+
+  pub cursor-inside : (p : ℕ) → p ≤ N → Inside bytes (keyIn (cursor p))
+  cursor-inside p h = record { low = omega (arith, cursor-0 p, cursor-1 p); high = go (le-lt p N) }
     where
-      go : (p < N) ⊎ (N ≤ p) → (getD (cursor p) 0 0 ≤ getD (cursor p) 1 0) × (getD (cursor p) 1 0 ≤ length bytes)
-      go (inl l) = (omega (arith, cursor-0 p, cursor-1 p), omega (arith, cursor-next p l, sum-take-le ls (p + 1)))
-      go (inr l) = (omega (arith, cursor-0 p, cursor-1 p), omega (arith, cursor-1 p, none-length p l, sum-take-le ls p))
+      go : (p < N) ⊎ (N ≤ p) → getD (cursor p) 1 0 ≤ length bytes
+      go (inl l) = omega (arith, cursor-next p l, sum-take-le ls (p + 1))
+      go (inr l) = omega (arith, cursor-1 p, none-length p l, sum-take-le ls p)
 
   pub cursor-term : (p : ℕ) → p < N → take (getD (cursor p) 1 0 - getD (cursor p) 0 0) (drop (getD (cursor p) 0 0) bytes) ≡ termAt lengths bytes cursors s p
   unfolding dictOf
@@ -139,26 +160,25 @@ module _ (lengths bytes marks : List ℕ) (all : Bool) (cursors : List (List ℕ
 
   pub cursor-length : (p : ℕ) → p < N → getD lengths (getD (cursor p) 3 0) 0 ≡ length (termAt lengths bytes cursors s p)
   cursor-length p h =
-      let r : (getD (cursor p) 0 0 ≤ getD (cursor p) 1 0) × (getD (cursor p) 1 0 ≤ length bytes) = cursor-readable p (omega arith) in
-      let t = run-length (getD (cursor p) 0 0) (getD (cursor p) 1 0) bytes (r .1) in
+      let t = run-length (getD (cursor p) 0 0) (getD (cursor p) 1 0) bytes (cursor-inside p (omega arith) .high) in
       let u : length (take (getD (cursor p) 1 0 - getD (cursor p) 0 0) (drop (getD (cursor p) 0 0) bytes)) ≡ length (termAt lengths bytes cursors s p) = ap length (cursor-term p h) in
       let v : getD lengths (getD (cursor p) 3 0) 0 ≡ getD lengths (Q + p) 0 = ap (λ (z : ℕ). getD lengths z 0) (cursor-3 p) in
       omega (arith, cursor-0 p, cursor-1 p, some-length p h, part-at N Q lengths p h)
 
-  pub cursor-more : (p : ℕ) → p < N → cursorAt lengths marks all (getD (cursor p) 1 0) (getD (cursor p) 3 0 + 1) (getD (cursor p) 4 0) (getD (cursor p) 5 0 + 1) ≡ cursor (p + 1)
+  pub cursor-more : (p : ℕ) → p < N → cursorAt lengths bytes marks all (getD (cursor p) 1 0) (getD (cursor p) 3 0 + 1) (getD (cursor p) 4 0) (getD (cursor p) 5 0 + 1) ≡ cursor (p + 1)
   unfolding cursorOf
   cursor-more p h =
       let a : getD (cursor p) 1 0 ≡ F + sum (take (p + 1) ls) = cursor-next p h in
       let b : getD (cursor p) 3 0 + 1 ≡ Q + (p + 1) = omega (arith, cursor-3 p) in
       let e : getD (cursor p) 4 0 ≡ E = cursor-4 p in
       let d : getD (cursor p) 5 0 + 1 ≡ cell cursors s 5 + (p + 1) = omega (arith, cursor-5 p) in
-      λ i. cursorAt lengths marks all (a i) (b i) (e i) (d i)
+      λ i. cursorAt lengths bytes marks all (a i) (b i) (e i) (d i)
 
   pub cursor-fits : (p : ℕ) → p < N → getD (cursor p) 1 0 + lengthAt lengths (getD (cursor p) 3 0 + 1) (getD (cursor p) 4 0) ≤ length bytes
   cursor-fits p h =
       let b : getD (cursor p) 3 0 + 1 ≡ Q + (p + 1) = omega (arith, cursor-3 p) in
       let q : lengthAt lengths (getD (cursor p) 3 0 + 1) (getD (cursor p) 4 0) ≡ lengthAt lengths (Q + (p + 1)) E = λ i. lengthAt lengths (b i) (cursor-4 p i) in
-      omega (arith, q, cursor-next p h, cursor-1 (p + 1), cursor-readable (p + 1) (omega arith) .1)
+      omega (arith, q, cursor-next p h, cursor-1 (p + 1), cursor-inside (p + 1) (omega arith) .high)
 
   -- the bytes that are left in a cursor
   pub left-bytes : (p : ℕ) → p < N → bytesIn lengths (cursor p) ≡ length (termAt lengths bytes cursors s p) + bytesIn lengths (cursor (p + 1))

@@ -1,11 +1,14 @@
 -- A segment's cursor (term_merger, Order), made from where the segment stands. Assumes nothing.
-use Prim.Native.Nat.{ℕ, _+_, _-_}
-use mathlib.Core.Bool.{Bool, cond}
+use Prim.Native.Nat.{ℕ, _+_, _-_, _≤_}
+use mathlib.Core.Bool.{Bool, false, cond}
 use mathlib.Core.List.{List, [], _∷_, map}
 use lib.Dec.{eqb, ltb}
-use lib.ListN.{take, drop, getD}
+use lib.ListN.{length, take, drop, getD}
+use mathlib.Core.Path.{_≡_}
+use Rattle.term_cursors.specs.declared.TermPlace.{TermPlace}
 use Rattle.definitions.specs.Lists.{sum}
 use Rattle.definitions.specs.Segment.{cut}
+use Rattle.term_order.specs.Key.{wordOf, termIn}
 use Rattle.term_merger.specs.Order.{cell}
 use Rattle.term_merger.specs.Live.{leftOf}
 
@@ -17,10 +20,28 @@ unmarkedAt marks all at = cond all 0 (cond (eqb (getD marks at 0) 0) 1 0)
 abbrev pub lengthAt : List ℕ → ℕ → ℕ → ℕ
 lengthAt lengths pos end = cond (ltb pos end) (getD lengths pos 0) 0
 
-unfoldable pub cursorAt : List ℕ → List ℕ → Bool → ℕ → ℕ → ℕ → ℕ → List ℕ
+-- the term at pos, empty past the last one
+abbrev pub termFrom : List ℕ → List ℕ → ℕ → ℕ → ℕ → List ℕ
+termFrom lengths bytes from pos end = termIn bytes from (from + lengthAt lengths pos end)
+
+-- the term at a place lies in the runs, and so does its mark
+pub record Standing (lengths bytes marks : List ℕ) (all : Bool) (at : TermPlace) : Type 0 where
+  pub inside : at .end ≤ length lengths
+  pub marked : all ≡ false → at .end ≤ length marks
+  pub text : at .from + lengthAt lengths (at .pos) (at .end) ≤ length bytes
+
+unfoldable pub cursorAt : List ℕ → List ℕ → List ℕ → Bool → ℕ → ℕ → ℕ → ℕ → List ℕ
 unfolding unmarkedAt
-cursorAt lengths marks all from pos end to =
-    from ∷ (from + lengthAt lengths pos end) ∷ cond (ltb pos end) (unmarkedAt marks all pos) 0 ∷ pos ∷ end ∷ to ∷ []
+cursorAt lengths bytes marks all from pos end to =
+    from
+    ∷ (from + lengthAt lengths pos end)
+    ∷ cond (ltb pos end) (unmarkedAt marks all pos) 0
+    ∷ pos
+    ∷ end
+    ∷ to
+    ∷ wordOf (termFrom lengths bytes from pos end)
+    ∷ wordOf (drop 8 (termFrom lengths bytes from pos end))
+    ∷ []
 
 -- ---- a segment, by its first cursor
 
@@ -32,9 +53,9 @@ unfoldable pub dictOf : List ℕ → List ℕ → List (List ℕ) → ℕ → Li
 dictOf lengths bytes cursors s = cut (lensOf lengths cursors s) (drop (cell cursors s 0) bytes)
 
 -- its cursor after p terms
-unfoldable pub cursorOf : List ℕ → List ℕ → Bool → List (List ℕ) → ℕ → ℕ → List ℕ
-cursorOf lengths marks all cursors s p =
-    cursorAt lengths marks all (cell cursors s 0 + sum (take p (lensOf lengths cursors s))) (cell cursors s 3 + p) (cell cursors s 4) (cell cursors s 5 + p)
+unfoldable pub cursorOf : List ℕ → List ℕ → List ℕ → Bool → List (List ℕ) → ℕ → ℕ → List ℕ
+cursorOf lengths bytes marks all cursors s p =
+    cursorAt lengths bytes marks all (cell cursors s 0 + sum (take p (lensOf lengths cursors s))) (cell cursors s 3 + p) (cell cursors s 4) (cell cursors s 5 + p)
 
 -- term i of segment s, and 0 if it is marked
 abbrev pub termAt : List ℕ → List ℕ → List (List ℕ) → ℕ → ℕ → List ℕ

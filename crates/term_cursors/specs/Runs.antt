@@ -41,22 +41,22 @@ textAt records held lengths s = sumBelow (λ k. sum (take (heldAt records held k
 
 -- ---- what the walk needs of the runs
 
-pub record Runs (records : List (List ℕ)) (held lengths marks : List ℕ) (all : Bool) : Type 0 where
+pub record Runs (records : List (List ℕ)) (held lengths bytes marks : List ℕ) (all : Bool) : Type 0 where
   pub few : length records ≤ 256
   pub flags : length records ≤ length held
   pub inside : posAt records (length records) ≤ length lengths
   pub marked : all ≡ false → posAt records (length records) ≤ length marks
-  pub small : fromAt records lengths (length records) < 18446744073709551616
+  pub texts : fromAt records lengths (length records) ≤ length bytes
 
 -- the first cursor of each segment
-unfoldable pub firstCursor : List (List ℕ) → List ℕ → List ℕ → List ℕ → Bool → ℕ → List ℕ
-firstCursor records held lengths marks all s =
-    cursorAt lengths marks all (fromAt records lengths s) (posAt records s + countAt records s - heldAt records held s) (posAt records s + countAt records s) (toAt records held s)
+unfoldable pub firstCursor : List (List ℕ) → List ℕ → List ℕ → List ℕ → List ℕ → Bool → ℕ → List ℕ
+firstCursor records held lengths bytes marks all s =
+    cursorAt lengths bytes marks all (fromAt records lengths s) (posAt records s + countAt records s - heldAt records held s) (posAt records s + countAt records s) (toAt records held s)
 
-pub record Filled (records : List (List ℕ)) (held lengths marks : List ℕ) (all : Bool) (n : ℕ) (cursors : List (List ℕ)) : Type 0 where
+pub record Filled (records : List (List ℕ)) (held lengths bytes marks : List ℕ) (all : Bool) (n : ℕ) (cursors : List (List ℕ)) : Type 0 where
   pub size : length cursors ≡ 256
-  pub cursor : (s : ℕ) → s < n → getD cursors s [] ≡ firstCursor records held lengths marks all s
+  pub cursor : (s : ℕ) → s < n → getD cursors s [] ≡ firstCursor records held lengths bytes marks all s
   pub rest : (s c : ℕ) → n ≤ s → getD (getD cursors s []) c 0 ≡ 0
-  pub blank : (s : ℕ) → n ≤ s → s < 256 → getD cursors s [] ≡ replicate 6 0
+  pub blank : (s : ℕ) → n ≤ s → s < 256 → getD cursors s [] ≡ replicate 8 0
   pub terms : sumOver termsIn cursors ≡ toAt records held n
   pub texts : sumOver (bytesIn lengths) cursors ≡ textAt records held lengths n

@@ -1,12 +1,10 @@
-// The cursors of the walk over the dictionaries: where each segment's current term stands, in six numbers, and the first cursor of every segment
+// The cursors of the walk over the dictionaries: where each segment's current term stands, in eight numbers, and the first cursor of every segment
 // (columnar/merge/term_merger.rs, `TermsWithSegmentOrd`; merge_dict_column.rs, the streams in `merge_dict_and_compute_term_ord_mapping`).
 ghost use mathlib.Core.Path.{_≡_};
-ghost use mathlib.Core.Bool.{false, cond};
-ghost use Prim.Native.Nat.{_+_, _<_, _≤_, _^_};
-ghost use lib.ListN.{length, replicate};
-ghost use lib.Dec.{eqb};
-ghost use Rattle.definitions.specs.Lists.{sum};
-ghost use Rattle.term_cursors.specs.Cursors.{unmarkedAt, cursorAt, lengthAt};
+ghost use mathlib.Core.Bool.{false};
+ghost use Prim.Native.Nat.{_+_, _<_};
+ghost use lib.ListN.{length, set, replicate};
+ghost use Rattle.term_cursors.specs.Cursors.{unmarkedAt, cursorAt, Standing};
 ghost use Rattle.term_cursors.specs.Runs.{Runs, Filled};
 use term_merger::Cursor;
 
@@ -24,27 +22,45 @@ fn unmarked_at(marks: &[u8], all: bool, at: usize) -> usize
     0
 }
 
-// A segment's cursor where its current term is the one at pos, and begins at byte from.
-pub fn cursor_at(
+// Where a segment's current term stands: its first byte, its place among the term lengths, the place after the segment's last term, and its place in the map.
+pub struct TermPlace {
+    pub from: usize,
+    pub pos: usize,
+    pub end: usize,
+    pub to: usize,
+}
+
+// A segment's cursor where its current term is the one at a place.
+fn cursor_at(lengths: &[u32], bytes: &[u8], marks: &[u8], all: bool, at: TermPlace) -> Cursor
+    requires { ⌜ Standing (now lengths) (now bytes) (now marks) all at ⌝ }
+    ensures { λ r. ⌜ r ≡ cursorAt (now (lengths .entry)) (now (bytes .entry)) (now (marks .entry)) all (at .from) (at .pos) (at .end) (at .to) ⌝ }
+{
+    let from = at.from;
+    let pos = at.pos;
+    if at.end <= pos {
+        return [from, from, 0, pos, at.end, at.to, 0, 0];
+    }
+    let till = from + segment::wide(lengths[pos]);
+    let k = unmarked_at(marks, all, pos);
+    let key = term_order::key_at(bytes, from, till);
+    [from, till, k, pos, at.end, at.to, key.first, key.second]
+}
+
+// The same, written as segment s's cursor.
+pub fn put_cursor(
     lengths: &[u32],
+    bytes: &[u8],
     marks: &[u8],
     all: bool,
-    from: usize,
-    pos: usize,
-    end: usize,
-    to: usize,
-) -> Cursor
-    requires { ⌜ end ≤ length (now lengths) ⌝ }
-    requires { ⌜ (all ≡ false → end ≤ length (now marks)) ⌝ }
-    requires { ⌜ from + lengthAt (now lengths) pos end < 2 ^ 64 ⌝ }
-    ensures { λ r. ⌜ r ≡ cursorAt (now (lengths .entry)) (now (marks .entry)) all from pos end to ⌝ }
+    at: TermPlace,
+    cursors: &mut [Cursor],
+    s: usize,
+)
+    requires { ⌜ Standing (now lengths) (now bytes) (now marks) all at ⌝ }
+    requires { ⌜ s < length (now cursors) ⌝ }
+    ensures { λ _. ⌜ now (cursors .exit) ≡ set (now (cursors .entry)) s (cursorAt (now (lengths .entry)) (now (bytes .entry)) (now (marks .entry)) all (at .from) (at .pos) (at .end) (at .to)) ⌝ }
 {
-    if end <= pos {
-        return [from, from, 0, pos, end, to];
-    }
-    let n = segment::wide(lengths[pos]);
-    let k = unmarked_at(marks, all, pos);
-    [from, from + n, k, pos, end, to]
+    cursors[s] = cursor_at(lengths, bytes, marks, all, at);
 }
 
 // The first cursor of each segment; one that is not held has no terms left.
@@ -52,13 +68,14 @@ pub fn fill_cursors(
     records: &[[u32; 8]],
     held: &[u8],
     lengths: &[u32],
+    bytes: &[u8],
     marks: &[u8],
     all: bool,
     cursors: &mut [Cursor],
 )
-    requires { ⌜ Runs (now records) (now held) (now lengths) (now marks) all ⌝ }
-    requires { ⌜ now cursors ≡ replicate 256 (replicate 6 0) ⌝ }
-    ensures { λ _. ⌜ Filled (now (records .entry)) (now (held .entry)) (now (lengths .entry)) (now (marks .entry)) all (length (now (records .entry))) (now (cursors .exit)) ⌝ }
+    requires { ⌜ Runs (now records) (now held) (now lengths) (now bytes) (now marks) all ⌝ }
+    requires { ⌜ now cursors ≡ replicate 256 (replicate 8 0) ⌝ }
+    ensures { λ _. ⌜ Filled (now (records .entry)) (now (held .entry)) (now (lengths .entry)) (now (bytes .entry)) (now (marks .entry)) all (length (now (records .entry))) (now (cursors .exit)) ⌝ }
 {
     let mut s: usize = 0;
     let mut pos: usize = 0;
@@ -69,8 +86,13 @@ pub fn fill_cursors(
         let n = segment::wide(r.terms);
         let end = pos + n;
         let k = runs::unless(held[s] == 0, n);
-        let cursor = cursor_at(lengths, marks, all, from, end - k, end, to);
-        cursors[s] = cursor;
+        let at = TermPlace {
+            from: from,
+            pos: end - k,
+            end: end,
+            to: to,
+        };
+        put_cursor(lengths, bytes, marks, all, at, cursors, s);
         from += runs::sum_of(&lengths[pos..end]);
         pos = end;
         to += k;

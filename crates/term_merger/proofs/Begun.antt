@@ -1,5 +1,5 @@
 -- How the heap begins. Assumes nothing.
-use mathlib.Core.Path.{_≡_, sym, ap, _∙_, subst}
+use mathlib.Core.Path.{_≡_, sym, ap, _∙_}
 use mathlib.Core.Logic.{_⊎_, inl, inr}
 use mathlib.Core.List.{List, []}
 use Prim.Native.Nat.{ℕ, _+_, _-_, _≤_, _<_, zero-le}
@@ -8,9 +8,8 @@ use lib.Dec.{eqb, ltb}
 use lib.ListN.{length, getD, List·getD-eq-default}
 use borrow.Author.Tests.{lt-ltb, le-ltb, eq-eqb, ne-eqb}
 use Rattle.term_merger.specs.declared.Heap.{Heap}
-use Rattle.term_merger.specs.Order.{cell}
 use Rattle.term_merger.specs.Heap.{count, one, held, Ordered, Pushed}
-use Rattle.term_merger.specs.Live.{leftOf, Back, Started}
+use Rattle.term_merger.specs.Live.{leftOf, Started}
 use Rattle.lists.proofs.Numbers.{same?, le-lt}
 use Rattle.term_merger.proofs.Heaps.{none-held}
 
@@ -32,9 +31,10 @@ begun-start bytes cursors h e =
       high = λ x l. none-held h x (omega arith);
     }
 
-module _ (bytes : List ℕ) (cursors : List (List ℕ)) (h h′ : Heap) (s : ℕ) (g : Begun bytes cursors h s) (less : s < 256) where
-  begun-push : Pushed bytes cursors h s h′ → 0 < leftOf cursors s → Begun bytes cursors h′ (s + 1)
-  begun-push p k =
+module _ {bytes : List ℕ} {cursors : List (List ℕ)} {h : Heap} {s : ℕ} (g : Begun bytes cursors h s) (less : s < 256) where
+  -- the segment has something left, and is pushed
+  pub begun-push : {h′ : Heap} → Pushed bytes cursors h s h′ → 0 < leftOf cursors s → Begun bytes cursors h′ (s + 1)
+  begun-push {h′} p k =
       record {
         top = omega arith;
         len = omega (arith, p .len, g .len);
@@ -53,23 +53,16 @@ module _ (bytes : List ℕ) (cursors : List (List ℕ)) (h h′ : Heap) (s : ℕ
           let m : x < s = omega arith in
           omega (arith, p .holds x, g .low x m)
 
-  begun-pass : h′ ≡ h → leftOf cursors s ≡ 0 → Begun bytes cursors h′ (s + 1)
-  begun-pass q k =
-      subst (λ (z : Heap). Begun bytes cursors z (s + 1)) (sym q)
-      (record { top = omega arith; len = omega (arith, g .len); inHeapOrder = g .inHeapOrder; low = λ x l. low x l (same? x s); high = λ x l. g .high x (omega arith) })
+  -- it has nothing left
+  pub begun-pass : leftOf cursors s ≡ 0 → Begun bytes cursors h (s + 1)
+  begun-pass k =
+      record { top = omega arith; len = omega (arith, g .len); inHeapOrder = g .inHeapOrder; low = λ x l. low x l (same? x s); high = λ x l. g .high x (omega arith) }
     where
       low : (x : ℕ) → x < s + 1 → (x ≡ s) ⊎ (x ≡ s → ⊥) → count x (held h) ≡ one (ltb 0 (leftOf cursors x))
       low x l (inl e) =
           let b : one (ltb 0 (leftOf cursors x)) ≡ 0 = ap one (le-ltb 0 (leftOf cursors x) (omega (arith, ap (leftOf cursors) e))) in
           omega (arith, g .high x (omega arith))
       low x l (inr d) = let m : x < s = omega arith in g .low x m
-
-  pub begun-more : Back bytes cursors h s h′ → Begun bytes cursors h′ (s + 1)
-  begun-more b = go (le-lt (cell cursors s 3) (cell cursors s 4))
-    where
-      go : (cell cursors s 3 < cell cursors s 4) ⊎ (cell cursors s 4 ≤ cell cursors s 3) → Begun bytes cursors h′ (s + 1)
-      go (inl k) = begun-push (b .live k) (omega arith)
-      go (inr k) = begun-pass (b .done k) (omega arith)
 
 pub begun-end : (bytes : List ℕ) (cursors : List (List ℕ)) (h : Heap) (s : ℕ) → Begun bytes cursors h s → 256 ≤ s → length cursors ≡ 256 → Started bytes cursors h
 begun-end bytes cursors h s g k e = record { len = omega (arith, g .len, g .top); inHeapOrder = g .inHeapOrder; holds = λ x. go x (le-lt x s) }

@@ -11,8 +11,8 @@ use lib.Seq.{getD-set-other, getD-take}
 use borrow.Author.Tests.{eqb-true, eq-eqb, ltb-false}
 use Rattle.term_merger.specs.declared.Heap.{Heap}
 use Rattle.term_merger.specs.Order.{keyOf, tieOf, orderAt, comesBefore}
-use Rattle.term_merger.specs.Heap.{count, one, held, Ordered, Out}
-use Rattle.term_merger.proofs.Laws.{LE, AtMost, at-most-le}
+use Rattle.term_merger.specs.Heap.{count, one, held, Ordered, Sinking}
+use Rattle.term_merger.proofs.Laws.{LE, AtMost, at-most-le, top-least}
 
 -- ---- counts
 
@@ -58,18 +58,32 @@ same-order bytes cursors s r a b d e =
     let g : getD (set cursors s r) b [] ≡ getD cursors b [] = getD-set-other cursors s b r [] e in
     rw (f, g)
 
-pub ordered-cursors : (bytes : List ℕ) (cursors : List (List ℕ)) (s : ℕ) (r seg : List ℕ) (n : ℕ) → n ≤ length seg → count s (take n seg) ≡ 0 → Ordered bytes cursors seg n → Ordered bytes (set cursors s r) seg n
+-- a number that is held once, at the top, stands at no other place
+top-once : (seg : List ℕ) (n k : ℕ) → n ≤ length seg → count (getD seg 0 0) (take n seg) ≡ 1 → 0 < k → k < n → getD seg k 0 ≡ getD seg 0 0 → ⊥
+unfolding count
+top-once [] n k h c p l e = omega arith
+top-once (x ∷ xs) zero k h c p l e = omega arith
+top-once (x ∷ xs) (suc n) zero h c p l e = omega arith
+top-once (x ∷ xs) (suc n) (suc k) h c p l e =
+    let o : one (eqb x x) ≡ 1 = ap one (eq-eqb x x refl) in
+    count-zero x (take n xs) (omega arith) k (rw (length-take n xs) (omega arith)) (getD-take n xs k 0 (le-of-suc-le-suc l) ∙ e)
+
+-- the top's cursor goes on: the others are in order
+pub sinking-cursors : (bytes : List ℕ) (cursors : List (List ℕ)) (r seg : List ℕ) (n : ℕ) → n ≤ length seg → count (getD seg 0 0) (take n seg) ≡ 1 → Ordered bytes cursors seg n → Sinking bytes (set cursors (getD seg 0 0) r) seg 0 n
 unfolding Ordered
-ordered-cursors bytes cursors s r seg n h z o j p l =
-    same-order bytes cursors s r (getD seg j 0) (getD seg ((j - 1) / 2) 0) (differs j l) (differs ((j - 1) / 2) (omega arith)) ∙ o j p l
-  where
-    differs : (k : ℕ) → k < n → getD seg k 0 ≡ s → ⊥
-    differs k i e = count-zero s (take n seg) z k (rw (length-take n seg) (omega arith)) (getD-take n seg k 0 i ∙ e)
+sinking-cursors bytes cursors r seg n h c o =
+    record {
+      others = λ j p l d.
+          same-order bytes cursors (getD seg 0 0) r (getD seg j 0) (getD seg ((j - 1) / 2) 0) (top-once seg n j h c p l) (top-once seg n ((j - 1) / 2) h c (let z : 0 < (j - 1) / 2 = omega arith in z) (omega arith))
+          ∙ o j p l;
+      under = λ j p l e q. absurd (omega arith);
+    }
 
 -- ---- the least
 
-pub out-le : (bytes : List ℕ) (cursors : List (List ℕ)) (h r : Heap) (top y : ℕ) → Out bytes cursors h r top → 0 < count y (held h) → LE (keyOf bytes cursors top) (tieOf cursors top) (keyOf bytes cursors y) (tieOf cursors y)
-out-le bytes cursors h r top y o c = at-most-le bytes cursors top y (subst (λ (z : ℕ). AtMost bytes cursors top z) same (o .least (at .0) inside))
+pub top-le : (bytes : List ℕ) (cursors : List (List ℕ)) (h : Heap) (y : ℕ) → Ordered bytes cursors (h .seg) (h .len) → 0 < count y (held h)
+    → LE (keyOf bytes cursors (getD (h .seg) 0 0)) (tieOf cursors (getD (h .seg) 0 0)) (keyOf bytes cursors y) (tieOf cursors y)
+top-le bytes cursors h y o c = at-most-le bytes cursors (getD (h .seg) 0 0) y (subst (λ (z : ℕ). AtMost bytes cursors (getD (h .seg) 0 0) z) same (top-least bytes cursors (h .seg) (h .len) (at .0) o inside))
   where
     at : (j : ℕ) × (j < length (held h)) × (getD (held h) j 0 ≡ y)
     at = count-index y (held h) c
@@ -80,5 +94,9 @@ out-le bytes cursors h r top y o c = at-most-le bytes cursors top y (subst (λ (
     same : getD (h .seg) (at .0) 0 ≡ y
     same = sym (getD-take (h .len) (h .seg) (at .0) 0 inside) ∙ at .2
 
-pub top-held : (bytes : List ℕ) (cursors : List (List ℕ)) (h r : Heap) (top : ℕ) → Out bytes cursors h r top → 0 < count top (held h)
-top-held bytes cursors h r top o = let k : one (eqb top top) ≡ 1 = ap one (eq-eqb top top refl) in omega (arith, o .holds top)
+pub top-held : (h : Heap) → 0 < h .len → h .len ≤ length (h .seg) → 0 < count (getD (h .seg) 0 0) (held h)
+top-held h l k = go (count (getD (h .seg) 0 0) (held h)) refl
+  where
+    go : (n : ℕ) → count (getD (h .seg) 0 0) (held h) ≡ n → 0 < n
+    go zero e = absurd (count-zero (getD (h .seg) 0 0) (held h) e 0 (rw (length-take (h .len) (h .seg)) (omega arith)) (getD-take (h .len) (h .seg) 0 0 l))
+    go (suc n) e = suc-le-suc zero-le

@@ -1,7 +1,7 @@
 -- The laws of the order of segments and of the heap. Assumes nothing.
-use mathlib.Core.Path.{_≡_, refl, sym, ap, _∙_, subst}
+use mathlib.Core.Path.{_≡_, refl, sym, ap, ap₂, _∙_, subst}
 use mathlib.Core.Logic.{_⊎_, inl, inr, _≢_}
-use mathlib.Core.Bool.{Bool, true, false, false≢true, true≢false}
+use mathlib.Core.Bool.{Bool, true, false, cond, false≢true, true≢false}
 use mathlib.Core.List.{List, [], _∷_, _++_}
 use Prim.Native.Nat.{ℕ, zero, suc, _+_, _-_, _/_, _≤_, _<_, compare, Ordering, Ordering·lt, Ordering·eq, Ordering·gt}
 use native.Mathlib.Nat.{le-of-suc-le-suc}
@@ -9,16 +9,19 @@ use native.Mathlib.Numerals.{add-one}
 use native.Mathlib.Omega.{arith}
 use lib.Arith.{lt-of-le-ne}
 use lib.Dec.{eqb, ltb}
-use lib.ListN.{length, set, getD, take, drop, length-set}
+use lib.ListN.{length, set, getD, take, length-set}
 use lib.Seq.{getD-set-other, getD-set-same, take-set-lt, getD-take, length-take-le, take-suc-set, take-suc}
 use Rattle.definitions.specs.Lists.{andThen, compareBytes, isBelow}
 use Rattle.definitions.proofs.Terms.{Cmp, cmp, Before, CmpBytes, cmp-bytes, after-is, same-is, before-trans, is-eq}
-use borrow.Author.Tests.{lt-ltb, le-ltb}
+use borrow.Author.Tests.{lt-ltb, le-ltb, ltb-true, ltb-false}
 use Rattle.term_order.specs.declared.TermOrder.{TermOrder}
 use Rattle.term_order.specs.Order.{orderOf}
+use Rattle.term_order.specs.declared.Key.{Key}
+use Rattle.term_order.specs.Key.{keyed, Inside}
 use Rattle.term_order.proofs.Laws.{told-lt, told-eq, told-gt}
-use Rattle.term_merger.specs.Order.{cell, keyOf, tieOf, orderAt, comesBefore, TermsInside}
-use Rattle.term_merger.specs.Heap.{one, count, Ordered, Sinking, FirstChild, Risen, Pushed, Out}
+use Rattle.term_merger.specs.Order.{cell, keyIn, keyOf, tieOf, orderAt, comesBefore, TermsInside}
+use Rattle.term_merger.specs.Heap.{one, count, Ordered, Sinking, FirstChild, Risen, Pushed}
+use Rattle.term_merger.specs.Live.{topLives, keptLen, keptNumbers, Settled}
 use Rattle.term_merger.specs.declared.Heap.{Heap}
 use Rattle.lists.proofs.Numbers.{same?}
 
@@ -249,11 +252,10 @@ module _ (bytes : List ℕ) (cursors : List (List ℕ)) where
       go (inr d) = r .others j p l d
 
   -- the last number goes to the first place
-  pub down-start : (seg : List ℕ) (v n : ℕ) → Ordered bytes cursors seg (n + 1) → Sinking bytes cursors (set seg 0 v) 0 n
-  unfolding Ordered
+  pub down-start : (seg : List ℕ) (v n : ℕ) → Sinking bytes cursors seg 0 (n + 1) → Sinking bytes cursors (set seg 0 v) 0 n
   down-start seg v n o =
       record {
-        others = λ j p l d. move (AtMost bytes cursors) (getD-set-other seg 0 ((j - 1) / 2) v 0 d) (getD-set-other seg 0 j v 0 (λ e. omega arith)) (o j p (omega arith));
+        others = λ j p l d. move (AtMost bytes cursors) (getD-set-other seg 0 ((j - 1) / 2) v 0 d) (getD-set-other seg 0 j v 0 (λ e. omega arith)) (o .others j p (omega arith) d);
         under = λ j p l e q. absurd (omega arith);
       }
 
@@ -263,21 +265,25 @@ module _ (bytes : List ℕ) (cursors : List (List ℕ)) where
 
 -- ---- what the code's comparison says
 
-pub readable-at : (bytes : List ℕ) (cursors : List (List ℕ)) (s : ℕ) → TermsInside bytes cursors → s < 256 → (cell cursors s 0 ≤ cell cursors s 1) × (cell cursors s 1 ≤ length bytes)
+pub inside-at : (bytes : List ℕ) (cursors : List (List ℕ)) (s : ℕ) → TermsInside bytes cursors → s < 256 → Inside bytes (keyIn (getD cursors s []))
 unfolding TermsInside
-readable-at bytes cursors s r h = r s h
+inside-at bytes cursors s r h = r s h
 
 module _ (bytes : List ℕ) (cursors : List (List ℕ)) (a b : ℕ) where
-  abbrev part : ℕ → List ℕ
-  part s = take (cell cursors s 1 - cell cursors s 0) (drop (cell cursors s 0) bytes)
+  abbrev told : Ordering
+  told = compareBytes (keyed bytes (keyIn (getD cursors a []))) (keyed bytes (keyIn (getD cursors b [])))
 
-  pub before-lt : TermOrder.Before ≡ orderOf (compareBytes (part a) (part b)) → true ≡ comesBefore bytes cursors a b
-  unfolding comesBefore orderAt keyOf
-  before-lt e = rw (told-lt (compareBytes (part a) (part b)) e)
+  -- what was compared are the keys that the two cursors hold
+  pub compared : {k l : Key} {o : TermOrder} → k ≡ keyIn (getD cursors a []) → l ≡ keyIn (getD cursors b []) → o ≡ orderOf (compareBytes (keyed bytes k) (keyed bytes l)) → o ≡ orderOf told
+  compared e f h = h ∙ ap₂ (λ (p q : Key). orderOf (compareBytes (keyed bytes p) (keyed bytes q))) e f
 
-  pub before-gt : TermOrder.After ≡ orderOf (compareBytes (part a) (part b)) → false ≡ comesBefore bytes cursors a b
+  pub before-lt : TermOrder.Before ≡ orderOf told → true ≡ comesBefore bytes cursors a b
   unfolding comesBefore orderAt keyOf
-  before-gt e = rw (told-gt (compareBytes (part a) (part b)) e)
+  before-lt e = rw (told-lt told e)
+
+  pub before-gt : TermOrder.After ≡ orderOf told → false ≡ comesBefore bytes cursors a b
+  unfolding comesBefore orderAt keyOf
+  before-gt e = rw (told-gt told e)
 
   ltb-below : (x y : ℕ) → ltb x y ≡ isBelow (andThen (compare x y) Ordering·eq)
   ltb-below x y = go (compare x y) (cmp x y)
@@ -287,18 +293,18 @@ module _ (bytes : List ℕ) (cursors : List (List ℕ)) (a b : ℕ) where
       go Ordering·eq h = le-ltb x y (omega arith)
       go Ordering·gt h = le-ltb x y (omega arith)
 
-  pub before-tie : TermOrder.Same ≡ orderOf (compareBytes (part a) (part b)) → (cell cursors a 2 ≡ cell cursors b 2 → ⊥) → ltb (cell cursors a 2) (cell cursors b 2) ≡ comesBefore bytes cursors a b
+  pub before-tie : TermOrder.Same ≡ orderOf told → (cell cursors a 2 ≡ cell cursors b 2 → ⊥) → ltb (cell cursors a 2) (cell cursors b 2) ≡ comesBefore bytes cursors a b
   unfolding comesBefore orderAt keyOf
-  before-tie e d = rw (told-eq (compareBytes (part a) (part b)) e) (go (compare (cell cursors a 2) (cell cursors b 2)) (cmp (cell cursors a 2) (cell cursors b 2)))
+  before-tie e d = rw (told-eq told e) (go (compare (cell cursors a 2) (cell cursors b 2)) (cmp (cell cursors a 2) (cell cursors b 2)))
     where
       go : (o : Ordering) → Cmp o (cell cursors a 2) (cell cursors b 2) → ltb (cell cursors a 2) (cell cursors b 2) ≡ isBelow (andThen o (andThen (compare a b) Ordering·eq))
       go Ordering·lt h = lt-ltb (cell cursors a 2) (cell cursors b 2) h
       go Ordering·eq h = absurd (d h)
       go Ordering·gt h = le-ltb (cell cursors a 2) (cell cursors b 2) (omega arith)
 
-  pub before-number : TermOrder.Same ≡ orderOf (compareBytes (part a) (part b)) → cell cursors a 2 ≡ cell cursors b 2 → ltb a b ≡ comesBefore bytes cursors a b
+  pub before-number : TermOrder.Same ≡ orderOf told → cell cursors a 2 ≡ cell cursors b 2 → ltb a b ≡ comesBefore bytes cursors a b
   unfolding comesBefore orderAt keyOf
-  before-number e d = rw (told-eq (compareBytes (part a) (part b)) e, d, is-eq (cell cursors b 2)) (ltb-below a b)
+  before-number e d = rw (told-eq told e, d, is-eq (cell cursors b 2)) (ltb-below a b)
 
 -- ---- the first child
 
@@ -365,27 +371,86 @@ count-drop seg (suc n) x h =
     omega arith
 
 module _ (bytes : List ℕ) (cursors : List (List ℕ)) where
-  pub pushed : (h m r : Heap) (s : ℕ) → length (h .seg) ≡ 256 → h .len < 256 → m .len ≡ h .len + 1 → m .seg ≡ set (h .seg) (h .len) s
-      → Risen bytes cursors m (h .len + 1) r → Pushed bytes cursors h s r
-  pushed h m r s l k e f g =
-      let n : r .len ≡ h .len + 1 = g .len ∙ e in
+  pub pushed : (h r : Heap) (s : ℕ) → length (h .seg) ≡ 256 → h .len < 256 → r .len ≡ h .len + 1 → Risen bytes cursors (set (h .seg) (h .len) s) (h .len + 1) (r .seg) → Pushed bytes cursors h s r
+  pushed h r s l k n g =
       record {
         len = n;
         inHeapOrder = ordered-at bytes cursors (r .seg) (h .len + 1) (r .len) (sym n) (g .inHeapOrder);
-        holds = λ x.
-            ap (λ (z : ℕ). count x (take z (r .seg))) n ∙ g .holds x ∙ ap (λ (z : List ℕ). count x (take (h .len + 1) z)) f
-            ∙ count-put (h .seg) (h .len) s x (omega arith);
+        holds = λ x. ap (λ (z : ℕ). count x (take z (r .seg))) n ∙ g .holds x ∙ count-put (h .seg) (h .len) s x (omega arith);
       }
 
-  pub popped : (h m r : Heap) (n : ℕ) → length (h .seg) ≡ 256 → h .len ≤ 256 → h .len ≡ n + 1 → m .len ≡ n → m .seg ≡ set (h .seg) 0 (getD (h .seg) n 0)
-      → Ordered bytes cursors (h .seg) (h .len) → Risen bytes cursors m n r → Out bytes cursors h r (getD (h .seg) 0 0)
-  popped h m r n l k z e f o g =
-      let q : r .len ≡ n = g .len ∙ e in
-      record {
-        len = omega arith;
-        inHeapOrder = ordered-at bytes cursors (r .seg) n (r .len) (sym q) (g .inHeapOrder);
-        holds = λ x.
-            ap (λ (y : ℕ). y + one (eqb x (getD (h .seg) 0 0))) (ap (λ (y : ℕ). count x (take y (r .seg))) q ∙ g .holds x ∙ ap (λ (y : List ℕ). count x (take n y)) f)
-            ∙ count-drop (h .seg) n x (omega arith) ∙ ap (λ (y : ℕ). count x (take y (h .seg))) (sym z);
-        least = λ j i. top-least bytes cursors (h .seg) (h .len) j o i;
-      }
+-- ---- the top stays or leaves
+
+module _ (cursors : List (List ℕ)) (seg : List ℕ) (len : ℕ) where
+  abbrev lives : Bool
+  lives = topLives cursors seg
+
+  pub top-stays : cell cursors (getD seg 0 0) 3 < cell cursors (getD seg 0 0) 4 → (len ≡ keptLen cursors seg len) × (seg ≡ keptNumbers cursors seg len)
+  unfolding keptLen keptNumbers
+  top-stays l =
+      let e : lives ≡ true = lt-ltb (cell cursors (getD seg 0 0) 3) (cell cursors (getD seg 0 0) 4) l in
+      (sym (ap (λ (b : Bool). cond b len (len - 1)) e), sym (ap (λ (b : Bool). cond b seg (set seg 0 (getD seg (len - 1) 0))) e))
+
+  pub top-leaves : cell cursors (getD seg 0 0) 4 ≤ cell cursors (getD seg 0 0) 3 → (len - 1 ≡ keptLen cursors seg len) × (set seg 0 (getD seg (len - 1) 0) ≡ keptNumbers cursors seg len)
+  unfolding keptLen keptNumbers
+  top-leaves l =
+      let e : lives ≡ false = le-ltb (cell cursors (getD seg 0 0) 3) (cell cursors (getD seg 0 0) 4) l in
+      (sym (ap (λ (b : Bool). cond b len (len - 1)) e), sym (ap (λ (b : Bool). cond b seg (set seg 0 (getD seg (len - 1) 0))) e))
+
+  pub kept-long : length seg ≡ 256 → length (keptNumbers cursors seg len) ≡ 256
+  unfolding keptNumbers
+  kept-long h = go lives
+    where
+      go : (b : Bool) → length (cond b seg (set seg 0 (getD seg (len - 1) 0))) ≡ 256
+      go true = h
+      go false = length-set seg 0 (getD seg (len - 1) 0) ∙ h
+
+  pub kept-few : keptLen cursors seg len ≤ len
+  unfolding keptLen
+  kept-few = go lives
+    where
+      go : (b : Bool) → cond b len (len - 1) ≤ len
+      go true = omega arith
+      go false = omega arith
+
+  -- what is left is in order but for the one at the first place
+  module _ (bytes : List ℕ) (some : 0 < len) where
+    pub kept-sinking : Sinking bytes cursors seg 0 len → Sinking bytes cursors (keptNumbers cursors seg len) 0 (keptLen cursors seg len)
+    unfolding keptLen keptNumbers
+    kept-sinking o = go lives
+      where
+        go : (b : Bool) → Sinking bytes cursors (cond b seg (set seg 0 (getD seg (len - 1) 0))) 0 (cond b len (len - 1))
+        go true = o
+        go false = down-start bytes cursors seg (getD seg (len - 1) 0) (len - 1) (subst (λ (n : ℕ). Sinking bytes cursors seg 0 n) (let e : len ≡ len - 1 + 1 = omega arith in e) o)
+
+    -- and once that one has sunk, in order
+    pub settled : {seg′ : List ℕ} → length seg ≡ 256 → len ≤ 256 → Risen bytes cursors (keptNumbers cursors seg len) (keptLen cursors seg len) seg′ → Settled bytes cursors seg len seg′ (keptLen cursors seg len)
+    unfolding keptLen keptNumbers
+    settled {seg′} k m g = go lives refl g
+      where
+        go : (b : Bool) → lives ≡ b → Risen bytes cursors (cond b seg (set seg 0 (getD seg (len - 1) 0))) (cond b len (len - 1)) seg′ → Settled bytes cursors seg len seg′ (cond b len (len - 1))
+        go true e g = inl (record { left = ltb-true (cell cursors (getD seg 0 0) 3) (cell cursors (getD seg 0 0) 4) e; size = refl; long = g .long; inHeapOrder = g .inHeapOrder; holds = g .holds })
+        go false e g =
+            let q : len - 1 + 1 ≡ len = omega arith in
+            inr
+            (record {
+              left = ltb-false (cell cursors (getD seg 0 0) 3) (cell cursors (getD seg 0 0) 4) e;
+              size = q;
+              long = g .long;
+              inHeapOrder = g .inHeapOrder;
+              holds = λ x. ap (λ (y : ℕ). y + one (eqb x (getD seg 0 0))) (g .holds x) ∙ count-drop seg (len - 1) x (omega arith) ∙ ap (λ (y : ℕ). count x (take y seg)) q;
+            })
+
+    -- the same of what the code has: m numbers in seg₁
+    module _ {m : ℕ} {seg₁ : List ℕ} (me : m ≡ keptLen cursors seg len) (se : seg₁ ≡ keptNumbers cursors seg len) (long : length seg ≡ 256) (few : len ≤ 256) where
+      pub sift-given : Sinking bytes cursors seg 0 len → (length seg₁ ≡ 256) × (m ≤ 256) × Sinking bytes cursors seg₁ 0 m
+      sift-given o = (
+        ap length se ∙ kept-long long,
+        omega (arith, me, kept-few),
+        subst (λ (x : List ℕ). Sinking bytes cursors x 0 m) (sym se) (subst (λ (n : ℕ). Sinking bytes cursors (keptNumbers cursors seg len) 0 n) (sym me) (kept-sinking o)),
+      )
+
+      pub sift-left : {seg′ : List ℕ} → Risen bytes cursors seg₁ m seg′ → Settled bytes cursors seg len seg′ m
+      sift-left {seg′} g =
+          subst (λ (n : ℕ). Settled bytes cursors seg len seg′ n) (sym me)
+          (settled long few (subst (λ (n : ℕ). Risen bytes cursors (keptNumbers cursors seg len) n seg′) me (subst (λ (x : List ℕ). Risen bytes cursors x m seg′) se g)))

@@ -1,84 +1,83 @@
 -- A walk by the heap: segment x is at P x, and its end is at N x; the heap holds those with something left. Assumes nothing.
-use mathlib.Core.Path.{_≡_, refl, sym, ap, _∙_, subst}
+use mathlib.Core.Path.{_≡_, sym, ap, _∙_, subst}
 use mathlib.Core.Logic.{_⊎_, inl, inr}
 use mathlib.Core.List.{List}
 use Prim.Native.Nat.{ℕ, _≤_, _<_, zero-le, suc-le-suc}
 use native.Mathlib.Omega.{arith}
 use lib.Dec.{eqb, ltb}
-use lib.ListN.{length, set}
+use lib.ListN.{length, getD, set}
 use borrow.Author.Tests.{lt-ltb, le-ltb, ltb-true, eq-eqb, ne-eqb}
-use Rattle.lists.proofs.Numbers.{le-lt, same?}
+use Rattle.lists.proofs.Numbers.{same?}
 use Rattle.term_merger.specs.declared.Heap.{Heap}
-use Rattle.term_merger.specs.Order.{cell}
-use Rattle.term_merger.specs.Heap.{count, one, held, Ordered, Pushed, Out}
-use Rattle.term_merger.specs.Live.{Back}
-use Rattle.term_merger.proofs.Heaps.{one-pos, none-left, ordered-cursors, top-held}
+use Rattle.term_merger.specs.Order.{cell, keyOf, tieOf}
+use Rattle.term_merger.specs.Heap.{count, one, held, Ordered, Sinking}
+use Rattle.term_merger.specs.Live.{Settled}
+use Rattle.term_merger.proofs.Laws.{LE}
+use Rattle.term_merger.proofs.Heaps.{one-pos, none-left, sinking-cursors, top-held, top-le}
 
 pub record Holding (bytes : List ℕ) (cursors : List (List ℕ)) (P N : ℕ → ℕ) (h : Heap) : Type 0 where
   pub len : h .len ≤ 256
+  pub full : length (h .seg) ≡ 256
   pub inHeapOrder : Ordered bytes cursors (h .seg) (h .len)
   pub holds : (x : ℕ) → count x (held h) ≡ one (ltb (P x) (N x))
 
 module _ {bytes : List ℕ} {cursors : List (List ℕ)} {P N : ℕ → ℕ} {h : Heap} (g : Holding bytes cursors P N h) where
-  pub some-held : (x : ℕ) → P x < N x → 0 < count x (held h)
+  some-held : (x : ℕ) → P x < N x → 0 < count x (held h)
   some-held x l = subst (λ (n : ℕ). 0 < n) (sym (g .holds x ∙ ap one (lt-ltb (P x) (N x) l))) (suc-le-suc zero-le)
 
   -- the heap is empty
   pub all-over : h .len ≤ 0 → (x : ℕ) → N x ≤ P x
   all-over e x = none-left h x (P x) (N x) e (g .holds x)
 
-  -- segment s is out
-  module _ {r : Heap} {s : ℕ} (o : Out bytes cursors h r s) where
+  -- segment s is the top
+  module _ (some : 0 < h .len) {s : ℕ} (top : s ≡ getD (h .seg) 0 0) where
     pub top-left : P s < N s
-    top-left = ltb-true (P s) (N s) (one-pos (ltb (P s) (N s)) (subst (λ (n : ℕ). 0 < n) (g .holds s) (top-held bytes cursors h r s o)))
+    top-left =
+        let c : 0 < count s (held h) = subst (λ (x : ℕ). 0 < count x (held h)) (sym top) (top-held h some (omega (arith, g .len, g .full))) in
+        ltb-true (P s) (N s) (one-pos (ltb (P s) (N s)) (subst (λ (n : ℕ). 0 < n) (g .holds s) c))
 
-    gone : count s (held r) ≡ 0
-    gone =
-        let a : one (eqb s s) ≡ 1 = ap one (eq-eqb s s refl) in
-        let b : one (ltb (P s) (N s)) ≡ 1 = ap one (lt-ltb (P s) (N s) top-left) in
-        omega (arith, o .holds s, g .holds s)
+    -- and the least of all that have something left
+    pub top-least : (x : ℕ) → P x < N x → LE (keyOf bytes cursors s) (tieOf cursors s) (keyOf bytes cursors x) (tieOf cursors x)
+    top-least x l = subst (λ (y : ℕ). LE (keyOf bytes cursors y) (tieOf cursors y) (keyOf bytes cursors x) (tieOf cursors x)) (sym top) (top-le bytes cursors h x (g .inHeapOrder) (some-held x l))
 
-    pub len-new : r .len < 256
-    len-new = omega (arith, o .len, g .len)
-
+    -- its cursor goes on
     module _ (new : List ℕ) where
-      pub ordered-new : length (r .seg) ≡ 256 → Ordered bytes (set cursors s new) (r .seg) (r .len)
-      ordered-new q = ordered-cursors bytes cursors s new (r .seg) (r .len) (omega (arith, len-new)) gone (o .inHeapOrder)
+      pub sinking-new : {cursors′ : List (List ℕ)} → cursors′ ≡ set cursors s new → Sinking bytes cursors′ (h .seg) 0 (h .len)
+      sinking-new {cursors′} ce =
+          let c : count (getD (h .seg) 0 0) (held h) ≡ 1 = ap (λ (x : ℕ). count x (held h)) (sym top) ∙ g .holds s ∙ ap one (lt-ltb (P s) (N s) top-left) in
+          subst (λ (z : List (List ℕ)). Sinking bytes z (h .seg) 0 (h .len)) (sym (ce ∙ ap (λ (x : ℕ). set cursors x new) top))
+          (sinking-cursors bytes cursors new (h .seg) (h .len) (omega (arith, g .len, g .full)) c (g .inHeapOrder))
 
-      -- and goes on, to where its new cursor says
-      pub holding-new : (P′ : ℕ → ℕ) → ((x : ℕ) → (x ≡ s → ⊥) → P′ x ≡ P x)
-          → (cell (set cursors s new) s 3 < cell (set cursors s new) s 4 → P′ s < N s) → (cell (set cursors s new) s 4 ≤ cell (set cursors s new) s 3 → N s ≤ P′ s)
-          → {h′ : Heap} → length (r .seg) ≡ 256 → Back bytes (set cursors s new) r s h′ → Holding bytes (set cursors s new) P′ N h′
-      holding-new P′ there some none {h′} q b = go (le-lt (cell (set cursors s new) s 3) (cell (set cursors s new) s 4))
-        where
-          elsewhere : (x : ℕ) → (x ≡ s → ⊥) → count x (held r) ≡ one (ltb (P′ x) (N x))
-          elsewhere x d =
-              let a : one (eqb x s) ≡ 0 = ap one (ne-eqb x s d) in
-              let c : one (ltb (P′ x) (N x)) ≡ one (ltb (P x) (N x)) = ap (λ (n : ℕ). one (ltb n (N x))) (there x d) in
-              omega (arith, o .holds x, g .holds x)
+      module _ (P′ : ℕ → ℕ) (there : (x : ℕ) → (x ≡ s → ⊥) → P′ x ≡ P x)
+          (more : cell (set cursors s new) s 3 < cell (set cursors s new) s 4 → P′ s < N s) (none : cell (set cursors s new) s 4 ≤ cell (set cursors s new) s 3 → N s ≤ P′ s) where
+        elsewhere : (x : ℕ) → (x ≡ s → ⊥) → count x (held h) ≡ one (ltb (P′ x) (N x))
+        elsewhere x d = g .holds x ∙ ap (λ (n : ℕ). one (ltb n (N x))) (sym (there x d))
 
-          here : (x : ℕ) → x ≡ s → (count x (held r) ≡ 0) × (one (ltb (P′ x) (N x)) ≡ one (ltb (P′ s) (N s)))
-          here x e = (ap (λ (n : ℕ). count n (held r)) e ∙ gone, ap (λ (n : ℕ). one (ltb (P′ n) (N n))) e)
+        -- the heap is settled
+        pub holding-new : {seg : List ℕ} {n : ℕ} → Settled bytes (set cursors s new) (h .seg) (h .len) seg n → Holding bytes (set cursors s new) P′ N (record { seg = seg; len = n })
+        holding-new {seg} {n} (inl t) =
+            record { len = omega (arith, t .size, g .len); full = t .long; inHeapOrder = t .inHeapOrder; holds = λ x. t .holds x ∙ at x (same? x s) }
+          where
+            left : P′ s < N s
+            left = more (subst (λ (x : ℕ). cell (set cursors s new) x 3 < cell (set cursors s new) x 4) (sym top) (t .left))
 
-          more : Pushed bytes (set cursors s new) r s h′ → P′ s < N s → Holding bytes (set cursors s new) P′ N h′
-          more p l = record { len = omega (arith, p .len, len-new); inHeapOrder = p .inHeapOrder; holds = λ x. at x (same? x s) }
-            where
-              at : (x : ℕ) → (x ≡ s) ⊎ (x ≡ s → ⊥) → count x (held h′) ≡ one (ltb (P′ x) (N x))
-              at x (inl e) =
-                  let a : one (eqb x s) ≡ 1 = ap one (eq-eqb x s e) in
-                  let c : one (ltb (P′ s) (N s)) ≡ 1 = ap one (lt-ltb (P′ s) (N s) l) in
-                  omega (arith, p .holds x, here x e .0, here x e .1)
-              at x (inr d) = let a : one (eqb x s) ≡ 0 = ap one (ne-eqb x s d) in omega (arith, p .holds x, elsewhere x d)
+            at : (x : ℕ) → (x ≡ s) ⊎ (x ≡ s → ⊥) → count x (held h) ≡ one (ltb (P′ x) (N x))
+            at x (inl e) =
+                subst (λ (y : ℕ). count y (held h) ≡ one (ltb (P′ y) (N y))) (sym e)
+                (g .holds s ∙ ap one (lt-ltb (P s) (N s) top-left) ∙ sym (ap one (lt-ltb (P′ s) (N s) left)))
+            at x (inr d) = elsewhere x d
+        holding-new {seg} {n} (inr t) =
+            record { len = omega (arith, t .size, g .len); full = t .long; inHeapOrder = t .inHeapOrder; holds = λ x. at x (same? x s) }
+          where
+            gone : N s ≤ P′ s
+            gone = none (subst (λ (x : ℕ). cell (set cursors s new) x 4 ≤ cell (set cursors s new) x 3) (sym top) (t .left))
 
-          same : h′ ≡ r → N s ≤ P′ s → Holding bytes (set cursors s new) P′ N h′
-          same e l =
-              subst (Holding bytes (set cursors s new) P′ N) (sym e)
-              (record { len = omega (arith, len-new); inHeapOrder = ordered-new q; holds = λ x. at x (same? x s) })
-            where
-              at : (x : ℕ) → (x ≡ s) ⊎ (x ≡ s → ⊥) → count x (held r) ≡ one (ltb (P′ x) (N x))
-              at x (inl f) = here x f .0 ∙ sym (here x f .1 ∙ ap one (le-ltb (P′ s) (N s) l))
-              at x (inr d) = elsewhere x d
-
-          go : (cell (set cursors s new) s 3 < cell (set cursors s new) s 4) ⊎ (cell (set cursors s new) s 4 ≤ cell (set cursors s new) s 3) → Holding bytes (set cursors s new) P′ N h′
-          go (inl l) = more (b .live l) (some l)
-          go (inr l) = same (b .done l) (none l)
+            at : (x : ℕ) → (x ≡ s) ⊎ (x ≡ s → ⊥) → count x (held (record { seg = seg; len = n })) ≡ one (ltb (P′ x) (N x))
+            at x (inl e) =
+                let a : one (eqb x (getD (h .seg) 0 0)) ≡ 1 = ap one (eq-eqb x (getD (h .seg) 0 0) (e ∙ top)) in
+                let b : one (ltb (P x) (N x)) ≡ 1 = ap (λ (y : ℕ). one (ltb (P y) (N y))) e ∙ ap one (lt-ltb (P s) (N s) top-left) in
+                let c : one (ltb (P′ x) (N x)) ≡ 0 = ap (λ (y : ℕ). one (ltb (P′ y) (N y))) e ∙ ap one (le-ltb (P′ s) (N s) gone) in
+                omega (arith, t .holds x, g .holds x)
+            at x (inr d) =
+                let a : one (eqb x (getD (h .seg) 0 0)) ≡ 0 = ap one (ne-eqb x (getD (h .seg) 0 0) (λ e. d (e ∙ sym top))) in
+                omega (arith, t .holds x, elsewhere x d)

@@ -4,7 +4,7 @@ use mathlib.Core.Bool.{Bool, true, false}
 use mathlib.Core.List.{List, [], _∷_}
 use mathlib.Core.Path.{_≡_}
 use lib.Dec.{eqb}
-use lib.ListN.{take, getD, replicate}
+use lib.ListN.{length, take, getD, replicate}
 use Rattle.term_merger.specs.declared.Heap.{Heap}
 use Rattle.term_merger.specs.Order.{comesBefore}
 
@@ -38,18 +38,11 @@ pub record PushedIfRoom (bytes : List ℕ) (cursors : List (List ℕ)) (h : Heap
   pub room : h .len < 256 → Pushed bytes cursors h s r
   pub full : 256 ≤ h .len → r ≡ h
 
--- the top is out, it was the least, and the rest is a heap
-pub record Out (bytes : List ℕ) (cursors : List (List ℕ)) (h : Heap) (r : Heap) (top : ℕ) : Type 0 where
-  pub len : r .len + 1 ≡ h .len
-  pub inHeapOrder : Ordered bytes cursors (r .seg) (r .len)
-  pub holds : (x : ℕ) → count x (held r) + one (eqb x top) ≡ count x (held h)
-  pub least : (j : ℕ) → j < h .len → comesBefore bytes cursors (getD (h .seg) j 0) top ≡ false
-
 -- the first n are in order, and are the same numbers as before, each as often
-pub record Risen (bytes : List ℕ) (cursors : List (List ℕ)) (h : Heap) (n : ℕ) (r : Heap) : Type 0 where
-  pub len : r .len ≡ h .len
-  pub inHeapOrder : Ordered bytes cursors (r .seg) n
-  pub holds : (x : ℕ) → count x (take n (r .seg)) ≡ count x (take n (h .seg))
+pub record Risen (bytes : List ℕ) (cursors : List (List ℕ)) (seg : List ℕ) (n : ℕ) (seg′ : List ℕ) : Type 0 where
+  pub long : length seg′ ≡ 256
+  pub inHeapOrder : Ordered bytes cursors seg′ n
+  pub holds : (x : ℕ) → count x (take n seg′) ≡ count x (take n seg)
 
 -- c is l or the place after it, and neither of the two comes before the one at c
 pub record FirstChild (bytes : List ℕ) (cursors : List (List ℕ)) (seg : List ℕ) (l n c : ℕ) : Type 0 where

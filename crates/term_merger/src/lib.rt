@@ -1,26 +1,33 @@
 // The heap of segments by their current terms (columnar/merge/term_merger.rs, `Ord for TermsWithSegmentOrd`, and the heap of `TermMerger`).
 ghost use mathlib.Core.Path.{_≡_};
-ghost use mathlib.Core.List.{[]};
 ghost use Prim.Native.Nat.{_+_, _-_, _*_, _<_, _≤_};
-ghost use lib.ListN.{length, getD};
+ghost use lib.ListN.{length};
 ghost use lib.Dec.{leb};
-ghost use Rattle.term_merger.specs.Order.{comesBefore, TermsInside};
-ghost use Rattle.term_merger.specs.Heap.{emptyHeap, held, Ordered, PushedIfRoom, Out, Risen, FirstChild, Sinking};
-ghost use Rattle.term_merger.specs.Live.{Back, Started};
+ghost use Rattle.term_merger.specs.Order.{keyIn, comesBefore, TermsInside};
+ghost use Rattle.term_merger.specs.Heap.{emptyHeap, Ordered, PushedIfRoom, Risen, FirstChild, Sinking};
+ghost use Rattle.term_merger.specs.Live.{keptLen, keptNumbers, Settled, Started};
+use term_order::Key;
 use term_order::TermOrder;
 
-// A segment's place in the walk, in six numbers (specs/Order).
-pub type Cursor = [usize; 6];
+// A segment's place in the walk, in eight numbers (specs/Order).
+pub type Cursor = [usize; 8];
+
+// The current term's key.
+pub fn key_of(cursor: Cursor) -> Key
+    ensures { λ k. ⌜ k ≡ keyIn cursor ⌝ }
+{
+    Key {
+        from: cursor[0],
+        till: cursor[1],
+        first: cursor[6],
+        second: cursor[7],
+    }
+}
 
 // Segment numbers in an array, each not before the one above it.
 pub struct Heap {
     pub seg: [u8; Heap::CAP],
     pub len: usize,
-}
-
-pub struct Popped {
-    pub heap: Heap,
-    pub top: u8,
 }
 
 impl Heap {
@@ -43,7 +50,7 @@ impl Heap {
     }
 }
 
-// Whether segment a leaves the heap before segment b: by term, then marked terms first, then by number.
+// Whether segment a comes before segment b: by their keys, then marked terms first, then by number.
 pub fn comes_before(bytes: &[u8], cursors: &[Cursor], a: u8, b: u8) -> bool
     requires { ⌜ (256 ≤ length (now cursors)) × TermsInside (now bytes) (now cursors) ⌝ }
     ensures { λ r. ⌜ r ≡ comesBefore (now (bytes .entry)) (now (cursors .entry)) a b ⌝ }
@@ -52,11 +59,7 @@ pub fn comes_before(bytes: &[u8], cursors: &[Cursor], a: u8, b: u8) -> bool
     let q = runs::byte(b);
     let x = cursors[p];
     let y = cursors[q];
-    let xs = x[0];
-    let xe = x[1];
-    let ys = y[0];
-    let ye = y[1];
-    let o = term_order::compare_terms(&bytes[xs..xe], &bytes[ys..ye]);
+    let o = term_order::compare_keys(bytes, key_of(x), key_of(y));
     match o {
         TermOrder::Before => true,
         TermOrder::Same => {
@@ -70,25 +73,23 @@ pub fn comes_before(bytes: &[u8], cursors: &[Cursor], a: u8, b: u8) -> bool
 }
 
 // The number at the last place goes up to its place.
-fn sift_up(heap: Heap, bytes: &[u8], cursors: &[Cursor], from: usize) -> Heap
+fn sift_up(seg: &mut [u8; Heap::CAP], bytes: &[u8], cursors: &[Cursor], from: usize)
     requires { ⌜ (256 ≤ length (now cursors)) × TermsInside (now bytes) (now cursors) ⌝ }
-    requires { ⌜ (from < 256) × Ordered (now bytes) (now cursors) (heap .seg) from ⌝ }
-    ensures { λ h. ⌜ Risen (now (bytes .entry)) (now (cursors .entry)) heap (from + 1) h ⌝ }
+    requires { ⌜ (length (now seg) ≡ 256) × (from < 256) × Ordered (now bytes) (now cursors) (now seg) from ⌝ }
+    ensures { λ _. ⌜ Risen (now (bytes .entry)) (now (cursors .entry)) (now (seg .entry)) (from + 1) (now (seg .exit)) ⌝ }
 {
-    let mut h = heap;
     let mut i = from;
     while 0 < i {
         let p = (i - 1) / 2;
-        let a = h.seg[i];
-        let b = h.seg[p];
+        let a = seg[i];
+        let b = seg[p];
         if !comes_before(bytes, cursors, a, b) {
-            return h;
+            return;
         }
-        h.seg[i] = b;
-        h.seg[p] = a;
+        seg[i] = b;
+        seg[p] = a;
         i = p;
     }
-    h
 }
 
 // One segment more; a full heap stays as it is.
@@ -104,7 +105,8 @@ pub fn push(heap: Heap, bytes: &[u8], cursors: &[Cursor], s: u8) -> Heap
     let mut h = heap;
     h.seg[n] = s;
     h.len = n + 1;
-    sift_up(h, bytes, cursors, n)
+    sift_up(&mut h.seg, bytes, cursors, n);
+    h
 }
 
 // The child of a place that comes first: l is the first child, and n is the number of places.
@@ -126,57 +128,51 @@ fn first_child(seg: &[u8; Heap::CAP], bytes: &[u8], cursors: &[Cursor], l: usize
 }
 
 // The number at the first place goes down to its place among the first n.
-fn sift_down(heap: Heap, bytes: &[u8], cursors: &[Cursor], n: usize) -> Heap
+fn sift_down(seg: &mut [u8; Heap::CAP], bytes: &[u8], cursors: &[Cursor], n: usize)
     requires { ⌜ (256 ≤ length (now cursors)) × TermsInside (now bytes) (now cursors) ⌝ }
-    requires { ⌜ (n ≤ 256) × Sinking (now bytes) (now cursors) (heap .seg) 0 n ⌝ }
-    ensures { λ h. ⌜ Risen (now (bytes .entry)) (now (cursors .entry)) heap n h ⌝ }
+    requires { ⌜ (length (now seg) ≡ 256) × (n ≤ 256) × Sinking (now bytes) (now cursors) (now seg) 0 n ⌝ }
+    ensures { λ _. ⌜ Risen (now (bytes .entry)) (now (cursors .entry)) (now (seg .entry)) n (now (seg .exit)) ⌝ }
 {
-    let mut h = heap;
     let mut i: usize = 0;
     while 2 * i + 1 < n {
-        let c = first_child(&h.seg, bytes, cursors, 2 * i + 1, n);
-        let a = h.seg[c];
-        let b = h.seg[i];
+        let c = first_child(seg, bytes, cursors, 2 * i + 1, n);
+        let a = seg[c];
+        let b = seg[i];
         if !comes_before(bytes, cursors, a, b) {
-            return h;
+            return;
         }
-        h.seg[c] = b;
-        h.seg[i] = a;
+        seg[c] = b;
+        seg[i] = a;
         i = c;
     }
-    h
 }
 
-pub fn pop(heap: Heap, bytes: &[u8], cursors: &[Cursor]) -> Popped
-    requires { ⌜ (256 ≤ length (now cursors)) × TermsInside (now bytes) (now cursors) ⌝ }
-    requires { ⌜ (0 < heap .len) × (heap .len ≤ 256) × Ordered (now bytes) (now cursors) (heap .seg) (heap .len) ⌝ }
-    ensures { λ p. ⌜ Out (now (bytes .entry)) (now (cursors .entry)) heap (p .heap) (p .top) ⌝ }
+// The top stays where it has something left; else the last number takes its place. Returns how many numbers are left.
+fn keep_top(seg: &mut [u8; Heap::CAP], len: usize, cursors: &[Cursor]) -> usize
+    requires { ⌜ 256 ≤ length (now cursors) ⌝ }
+    requires { ⌜ (0 < len) × (len ≤ 256) ⌝ }
+    ensures { λ n. ⌜ n ≡ keptLen (now (cursors .entry)) (now (seg .entry)) len ⌝ }
+    ensures { λ _. ⌜ now (seg .exit) ≡ keptNumbers (now (cursors .entry)) (now (seg .entry)) len ⌝ }
 {
-    let n = heap.len - 1;
-    let top = heap.seg[0];
-    let end = heap.seg[n];
-    let mut h = heap;
-    h.seg[0] = end;
-    h.len = n;
-    let down = sift_down(h, bytes, cursors, n);
-    Popped {
-        heap: down,
-        top: top,
+    let s = runs::byte(seg[0]);
+    let top = cursors[s];
+    if top[3] < top[4] {
+        return len;
     }
+    let n = len - 1;
+    seg[0] = seg[n];
+    n
 }
 
-// A segment goes back into the heap if its cursor has something left.
-pub fn push_live(heap: Heap, bytes: &[u8], cursors: &[Cursor], s: u8) -> Heap
+// The cursor of the heap's top has gone on: the top sinks to its place, or leaves where nothing of it is left. Returns how many segments the heap then has.
+pub fn settle_top(seg: &mut [u8; Heap::CAP], len: usize, bytes: &[u8], cursors: &[Cursor]) -> usize
     requires { ⌜ (256 ≤ length (now cursors)) × TermsInside (now bytes) (now cursors) ⌝ }
-    requires { ⌜ (heap .len < 256) × Ordered (now bytes) (now cursors) (heap .seg) (heap .len) ⌝ }
-    ensures { λ h. ⌜ Back (now (bytes .entry)) (now (cursors .entry)) heap s h ⌝ }
+    requires { ⌜ (length (now seg) ≡ 256) × (0 < len) × (len ≤ 256) × Sinking (now bytes) (now cursors) (now seg) 0 len ⌝ }
+    ensures { λ n. ⌜ Settled (now (bytes .entry)) (now (cursors .entry)) (now (seg .entry)) len (now (seg .exit)) n ⌝ }
 {
-    let i = runs::byte(s);
-    let cursor = cursors[i];
-    if cursor[3] < cursor[4] {
-        return push(heap, bytes, cursors, s);
-    }
-    heap
+    let n = keep_top(seg, len, cursors);
+    sift_down(seg, bytes, cursors, n);
+    n
 }
 
 // A heap of all segments whose cursors have something left.
@@ -187,7 +183,10 @@ pub fn start_heap(bytes: &[u8], cursors: &[Cursor]) -> Heap
     let mut h = Heap::empty();
     let mut s: usize = 0;
     while s < Heap::CAP {
-        h = push_live(h, bytes, cursors, s as u8);
+        let cursor = cursors[s];
+        if cursor[3] < cursor[4] {
+            h = push(h, bytes, cursors, s as u8);
+        }
         s += 1;
     }
     h

@@ -28,7 +28,7 @@ use Rattle.lists.proofs.Numbers.{same?}
 use Rattle.term_merger.proofs.Walk.{all-over}
 use Rattle.term_merger.specs.Live.{leftOf}
 use Rattle.lists.proofs.Sums.{sum-suc}
-use Rattle.definitions.proofs.Lists.{getD-in, up-at, up-length}
+use Rattle.definitions.proofs.Lists.{getD-in, up-at, up-length, length-concat}
 
 -- ---- members
 
@@ -117,9 +117,9 @@ cursors-up f l h =
     (λ s k. h s k ∙ ap f (sym (zero-add s)) ∙ sym (up-at f [] 0 (length l) s k))
 
 -- equal dictionaries and maps are written alike
-pub merged-same : {d e : List (List ℕ)} {p q lens outs ords : List ℕ} {n m : ℕ} {lens′ outs′ ords′ : List ℕ} → d ≡ e → p ≡ q → Merged d p lens outs ords n m lens′ outs′ ords′ → Merged e q lens outs ords n m lens′ outs′ ords′
-merged-same {d} {e} {p} {q} {lens} {outs} {ords} {n} {m} {lens′} {outs′} {ords′} f g w =
-    subst (λ (z : List ℕ). Merged e z lens outs ords n m lens′ outs′ ords′) g (subst (λ (z : List (List ℕ)). Merged z p lens outs ords n m lens′ outs′ ords′) f w)
+pub merged-same : {d e : List (List ℕ)} {p q lens outs ords : List ℕ} {n m k : ℕ} {lens′ outs′ ords′ : List ℕ} → d ≡ e → p ≡ q → Merged d p lens outs ords n m k lens′ outs′ ords′ → Merged e q lens outs ords n m k lens′ outs′ ords′
+merged-same {d} {e} {p} {q} {lens} {outs} {ords} {n} {m} {k} {lens′} {outs′} {ords′} f g w =
+    subst (λ (z : List ℕ). Merged e z lens outs ords n m k lens′ outs′ ords′) g (subst (λ (z : List (List ℕ)). Merged z p lens outs ords n m k lens′ outs′ ords′) f w)
 
 -- ---- the heap is empty
 
@@ -190,17 +190,17 @@ module _ {lengths bytes marks : List ℕ} {all : Bool} {cursors₀ : List (List 
 
   -- ---- the whole
 
-  pub walked : (n m : ℕ) → n ≡ l .terms → m ≡ l .bytes → Merged (walkedTerms lengths bytes marks all cursors₀) (walkedMap lengths bytes marks all cursors₀) lens₀ outs₀ ords₀ n m lens outs ords
+  pub walked : (n m k : ℕ) → n ≡ l .terms → m ≡ l .bytes → k ≡ l .copied → Merged (walkedTerms lengths bytes marks all cursors₀) (walkedMap lengths bytes marks all cursors₀) lens₀ outs₀ ords₀ n m k lens outs ords
   unfolding walkedMap
-  walked n m e f =
+  walked n m k e f c =
       merged-same terms-are (ap (λ (o : List (List ℕ)). mapTo o dict (length cursors₀)) terms-are)
-      (record { terms = e ∙ g .last .size; used = f ∙ g .used; lengths-out = g .lens-is; texts-out = g .outs-is; map-out = map-is })
+      (record { terms = e ∙ g .last .size; used = f ∙ g .used; copied = c ∙ g .counted ∙ length-concat out; lengths-out = g .lens-is; texts-out = g .outs-is; map-out = map-is })
 
-  pub cursors-passed : cursors ≡ walkedCursors lengths marks all cursors₀
+  pub cursors-passed : cursors ≡ walkedCursors lengths bytes marks all cursors₀
   unfolding walkedCursors
   cursors-passed =
-      cursors-up past cursors (λ s k. g .cursor s (omega (arith, g .size)) ∙ ap (cursorOf lengths marks all cursors₀ s) (let q : P s ≡ leftOf cursors₀ s = omega (arith, over s, g .most s) in q))
+      cursors-up past cursors (λ s k. g .cursor s (omega (arith, g .size)) ∙ ap (cursorOf lengths bytes marks all cursors₀ s) (let q : P s ≡ leftOf cursors₀ s = omega (arith, over s, g .most s) in q))
       ∙ ap (λ (n : ℕ). map past (upTo n)) (g .size ∙ sym (y .size))
     where
       past : ℕ → List ℕ
-      past s = cursorOf lengths marks all cursors₀ s (leftOf cursors₀ s)
+      past s = cursorOf lengths bytes marks all cursors₀ s (leftOf cursors₀ s)

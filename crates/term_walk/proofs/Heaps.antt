@@ -1,4 +1,4 @@
--- What the heap's contracts say of the segments' current terms. Assumes nothing.
+-- Laws of ties, of ascending lists of terms, and of lists with one more. Assumes nothing.
 use mathlib.Core.Path.{_≡_, sym, ap, _∙_, subst}
 use mathlib.Core.Logic.{_⊎_, inl, inr}
 use mathlib.Core.List.{List, [], _∷_, _++_, append-nil}
@@ -11,27 +11,14 @@ use lib.Ieee.Fits.{and-l, and-r}
 use lib.ListN.{length, getD, length-append}
 use Rattle.definitions.specs.Lists.{compareBytes, isBelow, termsAscending, termsAscendingFrom, concat}
 use Rattle.definitions.proofs.Terms.{Before, lower, behind, below-before, before-some}
-use Rattle.term_merger.specs.declared.Heap.{Heap}
-use Rattle.term_merger.specs.Order.{cell, keyOf, tieOf}
-use Rattle.term_merger.specs.Heap.{count, held, Out}
-use Rattle.term_merger.proofs.Laws.{LE}
-use Rattle.term_merger.proofs.Heaps.{out-le}
 use Rattle.definitions.proofs.Lists.{concat-append}
 
--- ---- the least
+-- ---- ties
 
-tie-rank : (a b x y : ℕ) → Before (a ∷ x ∷ []) (b ∷ y ∷ []) ⊎ (_≡_ {A = List ℕ} (a ∷ x ∷ []) (b ∷ y ∷ [])) → a ≤ b
+pub tie-rank : (a b x y : ℕ) → Before (a ∷ x ∷ []) (b ∷ y ∷ []) ⊎ (_≡_ {A = List ℕ} (a ∷ x ∷ []) (b ∷ y ∷ [])) → a ≤ b
 tie-rank a b x y (inl (lower h)) = omega arith
 tie-rank a b x y (inl (behind h)) = omega arith
 tie-rank a b x y (inr e) = let f : a ≡ b = ap (λ (l : List ℕ). getD l 0 0) e in omega arith
-
-pub out-least : (bytes : List ℕ) (cursors : List (List ℕ)) (h r : Heap) (top y : ℕ) → Out bytes cursors h r top → 0 < count y (held h)
-    → Before (keyOf bytes cursors top) (keyOf bytes cursors y) ⊎ ((keyOf bytes cursors top ≡ keyOf bytes cursors y) × (cell cursors top 2 ≤ cell cursors y 2))
-out-least bytes cursors h r top y o c = go (out-le bytes cursors h r top y o c)
-  where
-    go : LE (keyOf bytes cursors top) (tieOf cursors top) (keyOf bytes cursors y) (tieOf cursors y) → Before (keyOf bytes cursors top) (keyOf bytes cursors y) ⊎ ((keyOf bytes cursors top ≡ keyOf bytes cursors y) × (cell cursors top 2 ≤ cell cursors y 2))
-    go (inl b) = inl b
-    go (inr (e, f)) = inr (e, tie-rank (cell cursors top 2) (cell cursors y 2) top y f)
 
 -- ---- ascending lists
 

@@ -5,10 +5,11 @@ use mathlib.Core.List.{List, [], _∷_, map}
 use mathlib.Core.Logic.{_⊎_}
 use mathlib.Core.Path.{_≡_}
 use lib.Dec.{eqb, T}
-use lib.ListN.{length, take, drop, getD, set}
+use lib.ListN.{length, take, getD, set}
 use Rattle.term_walk.specs.declared.Last.{Last}
 use Rattle.term_walk.specs.declared.Taken.{Taken}
-use Rattle.term_merger.specs.Order.{cell}
+use Rattle.term_order.specs.Key.{termIn, keyed}
+use Rattle.term_merger.specs.Order.{cell, keyIn}
 use Rattle.runs.specs.Put.{put}
 use Rattle.term_cursors.specs.Cursors.{unmarkedAt, lensOf, dictOf, cursorOf, termsIn, bytesIn, sumOver}
 use Rattle.term_cursors.specs.Runs.{joinTo}
@@ -17,19 +18,17 @@ use Rattle.definitions.specs.Join.{ordinalOf}
 use Rattle.definitions.specs.Outcome.{written}
 use Rattle.term_merger.specs.Live.{leftOf}
 
-abbrev pub partOf : List ℕ → ℕ → ℕ → List ℕ
-partOf bytes from till = take (till - from) (drop from bytes)
-
+-- the term at a cursor, and the last one written
 abbrev pub termOf : List ℕ → List ℕ → List ℕ
-termOf bytes cursor = partOf bytes (getD cursor 0 0) (getD cursor 1 0)
+termOf bytes cursor = termIn bytes (getD cursor 0 0) (getD cursor 1 0)
 
 abbrev pub lastOf : List ℕ → Last → List ℕ
-lastOf bytes l = partOf bytes (l .from) (l .till)
+lastOf bytes l = termIn bytes (l .key .from) (l .key .till)
 
 -- the term is the last one written
 pub record Again (bytes cursor : List ℕ) (l : Last) (lens outs : List ℕ) (t : Taken) (lens′ outs′ : List ℕ) : Type 0 where
   pub some : 0 < l .terms
-  pub same : termOf bytes cursor ≡ lastOf bytes l
+  pub same : keyed bytes (keyIn cursor) ≡ keyed bytes (l .key)
   pub ordinal : t .ordinal + 1 ≡ l .terms
   pub last : t .last ≡ l
   pub lengths : lens′ ≡ lens
@@ -37,7 +36,7 @@ pub record Again (bytes cursor : List ℕ) (l : Last) (lens outs : List ℕ) (t 
 
 -- it is another, and not marked
 pub record Skipped (bytes cursor : List ℕ) (l : Last) (lens outs : List ℕ) (t : Taken) (lens′ outs′ : List ℕ) : Type 0 where
-  pub other : 0 < l .terms → termOf bytes cursor ≡ lastOf bytes l → ⊥
+  pub other : 0 < l .terms → keyed bytes (keyIn cursor) ≡ keyed bytes (l .key) → ⊥
   pub unmarked : getD cursor 2 0 ≡ 0 → ⊥
   pub ordinal : t .ordinal ≡ 0
   pub last : t .last ≡ l
@@ -46,13 +45,13 @@ pub record Skipped (bytes cursor : List ℕ) (l : Last) (lens outs : List ℕ) (
 
 -- it is another, and marked: it is written
 pub record Added (bytes cursor given : List ℕ) (l : Last) (lens outs : List ℕ) (t : Taken) (lens′ outs′ : List ℕ) : Type 0 where
-  pub other : 0 < l .terms → termOf bytes cursor ≡ lastOf bytes l → ⊥
+  pub other : 0 < l .terms → keyed bytes (keyIn cursor) ≡ keyed bytes (l .key) → ⊥
   pub marked : getD cursor 2 0 ≡ 0
   pub ordinal : t .ordinal ≡ l .terms
   pub terms : t .last .terms ≡ l .terms + 1
   pub used : t .last .bytes ≡ l .bytes + (getD cursor 1 0 - getD cursor 0 0)
-  pub from : t .last .from ≡ getD cursor 0 0
-  pub till : t .last .till ≡ getD cursor 1 0
+  pub copied : t .last .copied ≡ l .copied + length (termOf bytes cursor)
+  pub key : t .last .key ≡ keyIn cursor
   pub lengths : lens′ ≡ set lens (l .terms) (getD given (getD cursor 3 0) 0)
   pub texts : outs′ ≡ put (l .bytes) (termOf bytes cursor) outs
 
@@ -65,7 +64,7 @@ Took bytes cursor given l lens outs t lens′ outs′ =
 -- the first cursors of up to 256 segments: their terms lie in the runs, ascend, follow one another in the map, and have room in the outputs
 pub record Ready (lengths bytes marks : List ℕ) (all : Bool) (cursors : List (List ℕ)) (lens outs ords : List ℕ) : Type 0 where
   pub size : length cursors ≡ 256
-  pub cursor : (s : ℕ) → s < 256 → getD cursors s [] ≡ cursorOf lengths marks all cursors s 0
+  pub cursor : (s : ℕ) → s < 256 → getD cursors s [] ≡ cursorOf lengths bytes marks all cursors s 0
   pub low : (s : ℕ) → cell cursors s 3 ≤ cell cursors s 4
   pub inside : (s : ℕ) → cell cursors s 4 ≤ length lengths
   pub marked : (s : ℕ) → all ≡ false → cell cursors s 4 ≤ length marks
@@ -101,13 +100,14 @@ unfoldable pub walkedMap : List ℕ → List ℕ → List ℕ → Bool → List 
 walkedMap lengths bytes marks all cursors = mapTo (walkedTerms lengths bytes marks all cursors) (dictOf lengths bytes cursors) (length cursors)
 
 -- each cursor past its segment's last term
-unfoldable pub walkedCursors : List ℕ → List ℕ → Bool → List (List ℕ) → List (List ℕ)
-walkedCursors lengths marks all cursors = map (λ s. cursorOf lengths marks all cursors s (leftOf cursors s)) (upTo (length cursors))
+unfoldable pub walkedCursors : List ℕ → List ℕ → List ℕ → Bool → List (List ℕ) → List (List ℕ)
+walkedCursors lengths bytes marks all cursors = map (λ s. cursorOf lengths bytes marks all cursors s (leftOf cursors s)) (upTo (length cursors))
 
--- the dictionary dict and the map new are written; n and m count the terms and their bytes
-pub record Merged (dict : List (List ℕ)) (new lens outs ords : List ℕ) (n m : ℕ) (lens′ outs′ ords′ : List ℕ) : Type 0 where
+-- the dictionary dict and the map new are written; n and m count the terms and their bytes, k the bytes copied: each term's once
+pub record Merged (dict : List (List ℕ)) (new lens outs ords : List ℕ) (n m k : ℕ) (lens′ outs′ ords′ : List ℕ) : Type 0 where
   pub terms : n ≡ length dict
   pub used : m ≡ length (concat dict)
+  pub copied : k ≡ sum (map length dict)
   pub lengths-out : lens′ ≡ written (map length dict) lens
   pub texts-out : outs′ ≡ written (concat dict) outs
   pub map-out : ords′ ≡ written new ords

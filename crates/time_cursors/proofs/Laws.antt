@@ -145,13 +145,13 @@ module _ (kind : ℕ) (offsets : List ℕ) (row k : ℕ) where
 
 -- ---- the cursor
 
-pub key-none : (values : List ℕ) (n row rows k : ℕ) → n ≡ 0 → 0 ∷ 0 ∷ 0 ∷ row ∷ rows ∷ k ∷ [] ≡ keyCursor (lastKey values n) row rows k
+pub key-none : (values : List ℕ) (n row rows k : ℕ) → n ≡ 0 → 0 ∷ 0 ∷ 0 ∷ row ∷ rows ∷ k ∷ 0 ∷ 0 ∷ [] ≡ keyCursor (lastKey values n) row rows k
 unfolding keyCursor
 key-none values n row rows k e = rw e
 
-pub key-time : (values : List ℕ) (n row rows k t : ℕ) → (n ≡ 0 → ⊥) → t ≡ timeOf (getD values (n - 1) 0) → 0 ∷ 1 ∷ t ∷ row ∷ rows ∷ k ∷ [] ≡ keyCursor (lastKey values n) row rows k
+pub key-time : (values : List ℕ) (n row rows k t : ℕ) → (n ≡ 0 → ⊥) → t ≡ timeOf (getD values (n - 1) 0) → 0 ∷ 0 ∷ 0 ∷ row ∷ rows ∷ k ∷ 1 ∷ t ∷ [] ≡ keyCursor (lastKey values n) row rows k
 unfolding keyCursor
 key-time values zero row rows k t d e = absurd (d refl)
 key-time values (suc n) row rows k t d e =
     let f : suc n - 1 ≡ n = omega arith in
-    ap (λ (x : ℕ). 0 ∷ 1 ∷ x ∷ row ∷ rows ∷ k ∷ []) (e ∙ ap (λ (x : ℕ). timeOf (getD values x 0)) f)
+    ap (λ (x : ℕ). 0 ∷ 0 ∷ 0 ∷ row ∷ rows ∷ k ∷ 1 ∷ x ∷ []) (e ∙ ap (λ (x : ℕ). timeOf (getD values x 0)) f)

@@ -36,7 +36,7 @@ module _ {place set ids offsets values alive : List ℕ} (t : Timed place set id
     from-before : from ≤ n
     from-before = rw e (next-low (getD set 0 0) (wordsAt set alive) (rowsAt place) from)
 
-    pub cursor-none : rowsAt place ≤ n → 0 ∷ 0 ∷ 0 ∷ rowsAt place ∷ rowsAt place ∷ 0 ∷ [] ≡ firstFrom (segmentIn place set ids offsets values alive) from
+    pub cursor-none : rowsAt place ≤ n → 0 ∷ 0 ∷ 0 ∷ rowsAt place ∷ rowsAt place ∷ 0 ∷ 0 ∷ 0 ∷ [] ≡ firstFrom (segmentIn place set ids offsets values alive) from
     unfolding firstFrom cursorAt keyCursor segmentIn
     cursor-none h = rw (sym e, le-ltb n (rowsAt place) h)
 

@@ -39,13 +39,13 @@ abbrev pub lastKey : List ℕ → ℕ → ℕ
 lastKey values zero = 0
 lastKey values (suc n) = suc (timeOf (getD values n 0))
 
--- ---- the cursor: six numbers
--- 0 and 1: an empty term before all times, else a term of one byte; 2: the time in the order of two's complement
--- 3 and 4: the row, and the number of rows; 5: how many ids are at most the row
+-- ---- the cursor: eight numbers
+-- 0 to 2: an empty term, and no tie before the segment's number; 3 and 4: the row, and the number of rows; 5: how many ids are at most the row
+-- 6 and 7, the key: 0 before all times, else 1; the time in the order of two's complement
 
 unfoldable pub keyCursor : ℕ → ℕ → ℕ → ℕ → List ℕ
-keyCursor zero row rows k = 0 ∷ 0 ∷ 0 ∷ row ∷ rows ∷ k ∷ []
-keyCursor (suc t) row rows k = 0 ∷ 1 ∷ t ∷ row ∷ rows ∷ k ∷ []
+keyCursor zero row rows k = 0 ∷ 0 ∷ 0 ∷ row ∷ rows ∷ k ∷ 0 ∷ 0 ∷ []
+keyCursor (suc t) row rows k = 0 ∷ 0 ∷ 0 ∷ row ∷ rows ∷ k ∷ 1 ∷ t ∷ []
 
 -- of a row of the segment; no row is left at the number of rows
 unfoldable pub cursorAt : Segment → ℕ → List ℕ

@@ -68,10 +68,10 @@ fn key_cursor(values: &[u64], n: usize, row: usize, rows: usize, k: usize) -> Cu
     ensures { λ r. ⌜ r ≡ keyCursor (lastKey (now (values .entry)) n) row rows k ⌝ }
 {
     if n == 0 {
-        return [0, 0, 0, row, rows, k];
+        return [0, 0, 0, row, rows, k, 0, 0];
     }
     let t = time_checks::time_of(values[n - 1]);
-    [0, 1, t as usize, row, rows, k]
+    [0, 0, 0, row, rows, k, 1, t as usize]
 }
 
 // The cursor at the first alive row from the given one on; k ids are below it.
@@ -94,7 +94,7 @@ pub fn first_from(
     let b = set[2];
     let n = next_alive(set[0], &alive[a..b], rows, from);
     if rows <= n {
-        return [0, 0, 0, rows, rows, 0];
+        return [0, 0, 0, rows, rows, 0, 0, 0];
     }
     let c = place[2];
     let d = place[3];

@@ -20,19 +20,19 @@ use lib.Arith.{lt-of-le-ne}
 pub record Filled (places alives : List (List ℕ)) (ids offsets values alive : List ℕ) (cursors : List (List ℕ)) (s : ℕ) : Type 0 where
   pub size : length cursors ≡ 256
   pub cursor : (x : ℕ) → x < s → getD cursors x [] ≡ firstFrom (placed places alives ids offsets values alive x) 0
-  pub blank : (x : ℕ) → s ≤ x → x < 256 → getD cursors x [] ≡ replicate 6 0
+  pub blank : (x : ℕ) → s ≤ x → x < 256 → getD cursors x [] ≡ replicate 8 0
 
-absent-cursor : replicate 6 0 ≡ firstFrom absent 0
+absent-cursor : replicate 8 0 ≡ firstFrom absent 0
 unfolding firstFrom cursorAt keyCursor nextRow
 absent-cursor = refl
 
 module _ {places alives : List (List ℕ)} {ids offsets values alive : List ℕ} (y : Ready places alives ids offsets values alive) where
-  pub filled-start : (cursors : List (List ℕ)) → cursors ≡ replicate 256 (replicate 6 0) → Filled places alives ids offsets values alive cursors 0
+  pub filled-start : (cursors : List (List ℕ)) → cursors ≡ replicate 256 (replicate 8 0) → Filled places alives ids offsets values alive cursors 0
   filled-start cursors e =
       record {
         size = ap length e;
         cursor = λ x h. absurd (omega arith);
-        blank = λ x h l. ap (λ (r : List (List ℕ)). getD r x []) e ∙ getD-replicate 256 x (replicate 6 0) [] l;
+        blank = λ x h l. ap (λ (r : List (List ℕ)). getD r x []) e ∙ getD-replicate 256 x (replicate 8 0) [] l;
       }
 
   pub all-left : (x : ℕ) → Left (getD places x []) ids 0 0

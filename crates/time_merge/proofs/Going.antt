@@ -16,17 +16,17 @@ use Rattle.definitions.specs.Outcome.{written}
 use Rattle.column_index.specs.Lookup.{rankIn}
 use Rattle.places.specs.Place.{rowsAt, idsAt}
 use Rattle.term_merger.specs.declared.Heap.{Heap}
-use Rattle.term_merger.specs.Order.{cell, TermsInside}
-use Rattle.term_merger.specs.Heap.{one, Out}
-use Rattle.term_merger.specs.Live.{leftOf, Back, Started}
-use Rattle.term_merger.proofs.Heaps.{out-le}
+use Rattle.term_order.specs.Key.{Inside}
+use Rattle.term_merger.specs.Order.{cell, keyIn, TermsInside}
+use Rattle.term_merger.specs.Heap.{one}
+use Rattle.term_merger.specs.Live.{leftOf, Settled, Started}
 use Rattle.time_cursors.specs.Cursors.{cursorAt, firstFrom, segmentIn, Left}
 use Rattle.time_merge.specs.Order.{pairOf, placed, placedSegments, timeWritten, Ready, Rising, Begins, Ends}
 use Rattle.time_merge.proofs.Standing.{bump, bump-here, bump-there, seg, next, Standing, standing-start, standing-end, standing-next, one-left}
-use Rattle.time_merge.proofs.Keyed.{keyAt, cursor-left, cursor-3, cursor-4, cursor-5, cursor-readable, cursors-order, segment-there, segment-none, rows-there, there, key-is, keys-grow}
+use Rattle.time_merge.proofs.Keyed.{keyAt, cursor-left, cursor-3, cursor-4, cursor-5, cursor-inside, cursors-order, segment-there, segment-none, rows-there, there, key-is, keys-grow}
 use Rattle.runs.proofs.Written.{written-one}
 use Rattle.lists.proofs.Numbers.{same?, le-lt}
-use Rattle.term_merger.proofs.Walk.{Holding, some-held, all-over, top-left, holding-new}
+use Rattle.term_merger.proofs.Walk.{Holding, all-over, top-left, top-least, holding-new}
 
 left-live : (p n : ℕ) → p ≤ n → ltb 0 (n - p) ≡ ltb p n
 left-live p n h = go (le-lt p n)
@@ -37,10 +37,10 @@ left-live p n h = go (le-lt p n)
 
 -- ---- the state: P x is the row at which segment x stands
 
-pub record Going (ss : List Segment) (first : List ℕ) (out₀ cursors out : List (List ℕ)) (h : Heap) (k : ℕ) (P : ℕ → ℕ) (done : List Address) : Type 0 where
+pub record Going (ss : List Segment) (bytes : List ℕ) (out₀ cursors out : List (List ℕ)) (h : Heap) (k : ℕ) (P : ℕ → ℕ) (done : List Address) : Type 0 where
   pub size : length cursors ≡ 256
   pub cursor : (x : ℕ) → x < 256 → getD cursors x [] ≡ cursorAt (getD ss x absent) (P x)
-  pub heap : Holding first cursors P (λ x. getD ss x absent .rows) h
+  pub heap : Holding bytes cursors P (λ x. getD ss x absent .rows) h
   pub standing : Standing ss P done
   pub number : k ≡ length done
   pub out-is : out ≡ written (map pairOf done) out₀
@@ -56,13 +56,13 @@ module _ {places alives : List (List ℕ)} {ids offsets values alive : List ℕ}
   near : (x : ℕ) → 0 < getD ss x absent .rows → x < 256
   near x h = omega (arith, there y x h, y .few)
 
-  pub going-start : {first : List ℕ} {cursors : List (List ℕ)} {h : Heap} (out₀ : List (List ℕ)) → Begins ss cursors → Started first cursors h → Going ss first out₀ cursors out₀ h 0 (λ x. next ss x 0) []
+  pub going-start : {bytes : List ℕ} {cursors : List (List ℕ)} {h : Heap} (out₀ : List (List ℕ)) → Begins ss cursors → Started bytes cursors h → length (h .seg) ≡ 256 → Going ss bytes out₀ cursors out₀ h 0 (λ x. next ss x 0) []
   unfolding firstFrom
-  going-start {cursors = cursors} out₀ b st =
+  going-start {cursors = cursors} out₀ b st full =
       record {
         size = b .size;
         cursor = b .cursor;
-        heap = record { len = st .len; inHeapOrder = st .inHeapOrder; holds = λ x. st .holds x ∙ ap one (live x (le-lt x 256)) };
+        heap = record { len = st .len; full = full; inHeapOrder = st .inHeapOrder; holds = λ x. st .holds x ∙ ap one (live x (le-lt x 256)) };
         standing = standing-start ss;
         number = refl;
         out-is = refl;
@@ -80,10 +80,10 @@ module _ {places alives : List (List ℕ)} {ids offsets values alive : List ℕ}
           let e : getD cursors x [] ≡ [] = List·getD-eq-default cursors [] (omega (arith, b .size)) in
           ap (λ (r : List ℕ). ltb 0 (getD r 4 0 - getD r 3 0)) e ∙ sym (le-ltb (next ss x 0) (getD ss x absent .rows) (omega (arith, far x l)))
 
-  module _ {out₀ : List (List ℕ)} (z : Rising places alives ids offsets values alive out₀) {cursors out : List (List ℕ)} {h : Heap} {k : ℕ} {P : ℕ → ℕ} {done : List Address} (g : Going ss (0 ∷ []) out₀ cursors out h k P done) where
-    pub going-readable : TermsInside (0 ∷ []) cursors
+  module _ {out₀ : List (List ℕ)} (z : Rising places alives ids offsets values alive out₀) {bytes : List ℕ} {cursors out : List (List ℕ)} {h : Heap} {k : ℕ} {P : ℕ → ℕ} {done : List Address} (g : Going ss bytes out₀ cursors out h k P done) where
+    pub going-readable : TermsInside bytes cursors
     unfolding TermsInside
-    going-readable x l = subst (λ (r : List ℕ). (getD r 0 0 ≤ getD r 1 0) × (getD r 1 0 ≤ 1)) (sym (g .cursor x l)) (cursor-readable (getD ss x absent) (P x))
+    going-readable x l = subst (λ (r : List ℕ). Inside bytes (keyIn r)) (sym (g .cursor x l)) (cursor-inside (getD ss x absent) (P x) bytes)
 
     pub going-end : h .len ≤ 0 → (k ≡ length (timeOrder ss)) × ((out ≡ timeWritten ss out₀) × Ends ss cursors)
     unfolding timeWritten
@@ -102,10 +102,10 @@ module _ {places alives : List (List ℕ)} {ids offsets values alive : List ℕ}
         over : (x : ℕ) → getD ss x absent .rows ≤ P x
         over x = all-over (g .heap) e x
 
-    -- the segment that is popped
-    module _ {r : Heap} {s : ℕ} (o : Out (0 ∷ []) cursors h r s) where
+    -- the segment at the top
+    module _ (some : 0 < h .len) {s : ℕ} (top : s ≡ getD (h .seg) 0 0) where
       pub live : P s < getD ss s absent .rows
-      live = top-left (g .heap) o
+      live = top-left (g .heap) some top
 
       pub s-there : s < length places
       s-there = there y s (omega (arith, live))
@@ -145,9 +145,9 @@ module _ {places alives : List (List ℕ)} {ids offsets values alive : List ℕ}
           let b = getD ss x absent in
           subst (λ (n : ℕ). (n < keyOf ss (at x (P x))) ⊎ ((n ≡ keyOf ss (at x (P x))) × (s ≤ x))) (key-is y z s (P s) live)
           (subst (λ (n : ℕ). (keyAt a (P s) < n) ⊎ ((keyAt a (P s) ≡ n) × (s ≤ x))) (key-is y z x (P x) l)
-          (cursors-order cursors s x (keyAt a (P s)) (keyAt b (P x)) (P s) (P x) (a .rows) (b .rows) (rankIn (suc (P s)) (a .ids)) (rankIn (suc (P x)) (b .ids))
+          (cursors-order bytes cursors s x (keyAt a (P s)) (keyAt b (P x)) (P s) (P x) (a .rows) (b .rows) (rankIn (suc (P s)) (a .ids)) (rankIn (suc (P x)) (b .ids))
           (cursor-s ∙ cursor-left a (P s) live) (g .cursor x (near x (omega arith)) ∙ cursor-left b (P x) l)
-          (out-le (0 ∷ []) cursors h r s x o (some-held (g .heap) x l))))
+          (top-least (g .heap) some top x l)))
 
       pub room : k < length out
       room = omega (arith, one-left ss P done s (g .standing) live (keys-grow y z) least, z .room, g .number, g .out-size)
@@ -171,9 +171,9 @@ module _ {places alives : List (List ℕ)} {ids offsets values alive : List ℕ}
                 ∙ ap₂ (λ (n m : ℕ). cursorAt (getD ss n absent) m) (sym q) (sym (bump-here P s (next ss s (P s + 1)) x q))
             go (inr d) = getD-set-other cursors s x new [] d ∙ g .cursor x l ∙ ap (cursorAt (getD ss x absent)) (sym (bump-there P s (next ss s (P s + 1)) x d))
 
-        pub readable-new : TermsInside (0 ∷ []) (set cursors s new)
+        pub readable-new : TermsInside bytes (set cursors s new)
         unfolding TermsInside
-        readable-new x l = subst (λ (r : List ℕ). (getD r 0 0 ≤ getD r 1 0) × (getD r 1 0 ≤ 1)) (sym (cursors-new x l)) (cursor-readable (getD ss x absent) (P′ x))
+        readable-new x l = subst (λ (r : List ℕ). Inside bytes (keyIn r)) (sym (cursors-new x l)) (cursor-inside (getD ss x absent) (P′ x) bytes)
 
         standing-new : Standing ss P′ (done ++ (at s (P s) ∷ []))
         standing-new = standing-next ss P done s (g .standing) live (keys-grow y z) least
@@ -187,14 +187,14 @@ module _ {places alives : List (List ℕ)} {ids offsets values alive : List ℕ}
         new-4 : cell (set cursors s new) s 4 ≡ getD ss s absent .rows
         new-4 = ap (λ (l : List ℕ). getD l 4 0) (cursors-new s s-near) ∙ cursor-4 (getD ss s absent) (P′ s)
 
-        pub going-more : {h′ : Heap} → length (r .seg) ≡ 256 → Back (0 ∷ []) (set cursors s new) r s h′
-            → Going ss (0 ∷ []) out₀ (set cursors s new) (set out k (s ∷ cell cursors s 3 ∷ [])) h′ (k + 1) P′ (done ++ (at s (P s) ∷ []))
-        going-more q b =
+        pub going-more : {seg : List ℕ} {n : ℕ} → Settled bytes (set cursors s new) (h .seg) (h .len) seg n
+            → Going ss bytes out₀ (set cursors s new) (set out k (s ∷ cell cursors s 3 ∷ [])) (record { seg = seg; len = n }) (k + 1) P′ (done ++ (at s (P s) ∷ []))
+        going-more st =
             let here = bump-here P s (next ss s (P s + 1)) s refl in
             record {
               size = length-set cursors s new ∙ g .size;
               cursor = cursors-new;
-              heap = holding-new (g .heap) o new P′ (bump-there P s (next ss s (P s + 1))) (λ l. omega (arith, new-3, new-4, here)) (λ l. omega (arith, new-3, new-4, here)) q b;
+              heap = holding-new (g .heap) some top new P′ (bump-there P s (next ss s (P s + 1))) (λ l. omega (arith, new-3, new-4, here)) (λ l. omega (arith, new-3, new-4, here)) st;
               standing = standing-new;
               number = ap (λ (n : ℕ). n + 1) (g .number) ∙ sym (length-append done (at s (P s) ∷ []));
               out-is =

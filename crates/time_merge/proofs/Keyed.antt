@@ -1,11 +1,11 @@
 -- The placed segments: their cursors, their keys, and what the heap's order says of these. Assumes nothing.
 use Prim.Native.Nat.{ℕ, zero, suc, _-_, _≤_, _<_, zero-le, suc-le-suc}
-use native.Mathlib.Nat.{le-refl, not-suc-le-zero}
+use native.Mathlib.Nat.{not-suc-le-zero}
 use native.Mathlib.Omega.{arith}
 use mathlib.Core.Path.{_≡_, refl, sym, ap, _∙_, subst}
 use mathlib.Core.Logic.{_⊎_, inl, inr}
 use mathlib.Core.List.{List, [], _∷_, map}
-use lib.ListN.{length, getD, take, drop, List·getD-eq-default}
+use lib.ListN.{length, getD, List·getD-eq-default}
 use lib.Dec.{T}
 use borrow.Author.Tests.{lt-ltb, le-ltb}
 use Rattle.definitions.specs.Lists.{notFalling}
@@ -18,6 +18,7 @@ use Rattle.column_index.specs.Lookup.{rankIn, Sound}
 use Rattle.places.specs.Place.{kindAt, rowsAt, idsAt, offsetsAt, valuesAt}
 use Rattle.places.specs.Places.{table}
 use Rattle.places.proofs.Fill.{table-length, table-at}
+use Rattle.term_order.specs.Key.{restOf, keyed, Inside}
 use Rattle.term_merger.specs.Order.{tieOf}
 use Rattle.term_merger.specs.Order as heap
 use Rattle.term_merger.proofs.Laws.{LE}
@@ -45,10 +46,10 @@ unfolding keyCursor
 key-5 zero n rows k = refl
 key-5 (suc t) n rows k = refl
 
-key-readable : (key n rows k : ℕ) → (getD (keyCursor key n rows k) 0 0 ≤ getD (keyCursor key n rows k) 1 0) × (getD (keyCursor key n rows k) 1 0 ≤ 1)
+key-inside : (bytes : List ℕ) (key n rows k : ℕ) → Inside bytes (heap.keyIn (keyCursor key n rows k))
 unfolding keyCursor
-key-readable zero n rows k = (zero-le, zero-le)
-key-readable (suc t) n rows k = (zero-le, le-refl 1)
+key-inside bytes zero n rows k = record { low = zero-le; high = zero-le }
+key-inside bytes (suc t) n rows k = record { low = zero-le; high = zero-le }
 
 -- the key that a cursor has, where a row is left
 abbrev pub keyAt : Segment → ℕ → ℕ
@@ -80,15 +81,12 @@ module _ (s : Segment) (n : ℕ) where
   pub cursor-5 : n < s .rows → getD (cursorAt s n) 5 0 ≡ rankIn (suc n) (s .ids)
   cursor-5 h = ap (λ (r : List ℕ). getD r 5 0) (cursor-left h) ∙ key-5 (keyAt s n) n (s .rows) (rankIn (suc n) (s .ids))
 
-  pub cursor-readable : (getD (cursorAt s n) 0 0 ≤ getD (cursorAt s n) 1 0) × (getD (cursorAt s n) 1 0 ≤ 1)
-  cursor-readable = go (le-lt n (s .rows))
+  pub cursor-inside : (bytes : List ℕ) → Inside bytes (heap.keyIn (cursorAt s n))
+  cursor-inside bytes = go (le-lt n (s .rows))
     where
-      Fits : List ℕ → Type 0
-      Fits r = (getD r 0 0 ≤ getD r 1 0) × (getD r 1 0 ≤ 1)
-
-      go : (n < s .rows) ⊎ (s .rows ≤ n) → Fits (cursorAt s n)
-      go (inl h) = subst Fits (sym (cursor-left h)) (key-readable (keyAt s n) n (s .rows) (rankIn (suc n) (s .ids)))
-      go (inr h) = subst Fits (sym (cursor-over h)) (key-readable 0 (s .rows) (s .rows) 0)
+      go : (n < s .rows) ⊎ (s .rows ≤ n) → Inside bytes (heap.keyIn (cursorAt s n))
+      go (inl h) = subst (λ (r : List ℕ). Inside bytes (heap.keyIn r)) (sym (cursor-left h)) (key-inside bytes (keyAt s n) n (s .rows) (rankIn (suc n) (s .ids)))
+      go (inr h) = subst (λ (r : List ℕ). Inside bytes (heap.keyIn r)) (sym (cursor-over h)) (key-inside bytes 0 (s .rows) (s .rows) 0)
 
 -- ---- the heap's order is that of the keys, then of the segments' numbers
 
@@ -99,54 +97,73 @@ before-head : (x y : ℕ) (xs ys : List ℕ) → Before (x ∷ xs) (y ∷ ys) �
 before-head x y xs ys (lower h) = inl h
 before-head x y xs ys (behind h) = inr (refl, h)
 
-tie-number : (t u x y : ℕ) → Before (t ∷ x ∷ []) (u ∷ y ∷ []) ⊎ (_≡_ {A = List ℕ} (t ∷ x ∷ []) (u ∷ y ∷ [])) → (t < u) ⊎ ((t ≡ u) × (x ≤ y))
-tie-number t u x y (inl b) = go (before-head t u (x ∷ []) (y ∷ []) b)
+-- a list comes not before itself
+before-self : (x : ℕ) → Before (x ∷ []) (x ∷ []) → ⊥
+before-self x b = go (before-head x x [] [] b)
+  where
+    go : (x < x) ⊎ ((x ≡ x) × Before [] []) → ⊥
+    go (inl h) = omega arith
+    go (inr (e, b)) = before-nil [] b
+
+-- segments' numbers decide where nothing else does
+tie-number : (x y : ℕ) → Before (0 ∷ x ∷ []) (0 ∷ y ∷ []) ⊎ (_≡_ {A = List ℕ} (0 ∷ x ∷ []) (0 ∷ y ∷ [])) → x ≤ y
+tie-number x y (inl b) = go (before-head 0 0 (x ∷ []) (y ∷ []) b)
   where
     last : (x < y) ⊎ ((x ≡ y) × Before [] []) → x ≤ y
     last (inl h) = omega arith
     last (inr (e, b)) = absurd (before-nil [] b)
 
-    go : (t < u) ⊎ ((t ≡ u) × Before (x ∷ []) (y ∷ [])) → (t < u) ⊎ ((t ≡ u) × (x ≤ y))
-    go (inl h) = inl h
-    go (inr (e, b)) = inr (e, last (before-head x y [] [] b))
-tie-number t u x y (inr e) =
-    let f : t ≡ u = ap (λ (l : List ℕ). getD l 0 0) e in
-    let g : x ≡ y = ap (λ (l : List ℕ). getD l 1 0) e in
-    inr (f, omega arith)
+    go : (0 < 0) ⊎ ((_≡_ {A = ℕ} 0 0) × Before (x ∷ []) (y ∷ [])) → x ≤ y
+    go (inl h) = absurd (omega arith)
+    go (inr (e, b)) = last (before-head x y [] [] b)
+tie-number x y (inr e) = let g : x ≡ y = ap (λ (l : List ℕ). getD l 1 0) e in omega arith
 
--- the term of a cursor, in the one byte that is lent
-abbrev termOf : List ℕ → List ℕ
-termOf r = take (getD r 1 0 - getD r 0 0) (drop (getD r 0 0) (0 ∷ []))
+-- two words and the empty term
+words-order : (a b t u : ℕ) → Before (a ∷ t ∷ 0 ∷ []) (b ∷ u ∷ 0 ∷ []) → (a < b) ⊎ ((a ≡ b) × (t < u))
+words-order a b t u h = go (before-head a b (t ∷ 0 ∷ []) (u ∷ 0 ∷ []) h)
+  where
+    second : (t < u) ⊎ ((t ≡ u) × Before (0 ∷ []) (0 ∷ [])) → t < u
+    second (inl k) = k
+    second (inr (e, b)) = absurd (before-self 0 b)
 
-key-order : (k l x y n m : ℕ) (p q i j : ℕ)
-    → LE (termOf (keyCursor k n p i)) (getD (keyCursor k n p i) 2 0 ∷ x ∷ []) (termOf (keyCursor l m q j)) (getD (keyCursor l m q j) 2 0 ∷ y ∷ []) → (k < l) ⊎ ((k ≡ l) × (x ≤ y))
-unfolding keyCursor
-key-order zero zero x y n m p q i j (inl b) = absurd (before-nil [] b)
-key-order zero zero x y n m p q i j (inr (e, t)) = go (tie-number 0 0 x y t)
+    go : (a < b) ⊎ ((a ≡ b) × Before (t ∷ 0 ∷ []) (u ∷ 0 ∷ [])) → (a < b) ⊎ ((a ≡ b) × (t < u))
+    go (inl k) = inl k
+    go (inr (e, b)) = inr (e, second (before-head t u (0 ∷ []) (0 ∷ []) b))
+
+-- what a cursor is compared by
+abbrev compared : List ℕ → List ℕ → List ℕ
+compared bytes r = keyed bytes (heap.keyIn r)
+
+key-order : (bytes : List ℕ) (k l x y n m : ℕ) (p q i j : ℕ)
+    → LE (compared bytes (keyCursor k n p i)) (getD (keyCursor k n p i) 2 0 ∷ x ∷ []) (compared bytes (keyCursor l m q j)) (getD (keyCursor l m q j) 2 0 ∷ y ∷ []) → (k < l) ⊎ ((k ≡ l) × (x ≤ y))
+unfolding keyCursor keyed restOf
+key-order bytes zero zero x y n m p q i j (inl b) = absurd (go (words-order 0 0 0 0 b))
   where
-    go : (0 < 0) ⊎ ((_≡_ {A = ℕ} 0 0) × (x ≤ y)) → (0 < 0) ⊎ ((_≡_ {A = ℕ} 0 0) × (x ≤ y))
-    go o = o
-key-order zero (suc u) x y n m p q i j h = inl (suc-le-suc zero-le)
-key-order (suc t) zero x y n m p q i j (inl b) = absurd (before-nil (0 ∷ []) b)
-key-order (suc t) zero x y n m p q i j (inr (e, b)) = absurd (let z : _≡_ {A = ℕ} 1 0 = ap length e in omega arith)
-key-order (suc t) (suc u) x y n m p q i j (inl b) = absurd (go (before-head 0 0 [] [] b))
-  where
-    go : (0 < 0) ⊎ ((_≡_ {A = ℕ} 0 0) × Before [] []) → ⊥
+    go : (0 < 0) ⊎ ((_≡_ {A = ℕ} 0 0) × (0 < 0)) → ⊥
     go (inl h) = omega arith
-    go (inr (e, b)) = before-nil [] b
-key-order (suc t) (suc u) x y n m p q i j (inr (e, b)) = go (tie-number t u x y b)
+    go (inr (e, h)) = omega arith
+key-order bytes zero zero x y n m p q i j (inr (e, t)) = inr (refl, tie-number x y t)
+key-order bytes zero (suc u) x y n m p q i j h = inl (suc-le-suc zero-le)
+key-order bytes (suc t) zero x y n m p q i j (inl b) = absurd (go (words-order 1 0 t 0 b))
   where
-    go : (t < u) ⊎ ((t ≡ u) × (x ≤ y)) → (suc t < suc u) ⊎ ((suc t ≡ suc u) × (x ≤ y))
-    go (inl h) = inl (suc-le-suc h)
-    go (inr (e, h)) = inr (ap suc e, h)
+    go : (1 < 0) ⊎ ((_≡_ {A = ℕ} 1 0) × (t < 0)) → ⊥
+    go (inl h) = omega arith
+    go (inr (e, h)) = omega arith
+key-order bytes (suc t) zero x y n m p q i j (inr (e, b)) = absurd (let z : _≡_ {A = ℕ} 1 0 = ap (λ (r : List ℕ). getD r 0 0) e in omega arith)
+key-order bytes (suc t) (suc u) x y n m p q i j (inl b) = inl (go (words-order 1 1 t u b))
+  where
+    go : (1 < 1) ⊎ ((_≡_ {A = ℕ} 1 1) × (t < u)) → suc t < suc u
+    go (inl h) = absurd (omega arith)
+    go (inr (e, h)) = suc-le-suc h
+key-order bytes (suc t) (suc u) x y n m p q i j (inr (e, b)) = inr (ap suc (ap (λ (r : List ℕ). getD r 1 0) e), tie-number x y b)
 
-pub cursors-order : (cursors : List (List ℕ)) (s y : ℕ) (k l n m p q i j : ℕ) → getD cursors s [] ≡ keyCursor k n p i → getD cursors y [] ≡ keyCursor l m q j
-    → LE (heap.keyOf (0 ∷ []) cursors s) (tieOf cursors s) (heap.keyOf (0 ∷ []) cursors y) (tieOf cursors y) → (k < l) ⊎ ((k ≡ l) × (s ≤ y))
+pub cursors-order : (bytes : List ℕ) (cursors : List (List ℕ)) (s y : ℕ) (k l n m p q i j : ℕ) → getD cursors s [] ≡ keyCursor k n p i → getD cursors y [] ≡ keyCursor l m q j
+    → LE (heap.keyOf bytes cursors s) (tieOf cursors s) (heap.keyOf bytes cursors y) (tieOf cursors y) → (k < l) ⊎ ((k ≡ l) × (s ≤ y))
 unfolding heap.keyOf
-cursors-order cursors s y k l n m p q i j e f h =
-    key-order k l s y n m p q i j
-    (subst (λ (r : List ℕ). LE (termOf (keyCursor k n p i)) (getD (keyCursor k n p i) 2 0 ∷ s ∷ []) (termOf r) (getD r 2 0 ∷ y ∷ [])) f
-    (subst (λ (r : List ℕ). LE (termOf r) (getD r 2 0 ∷ s ∷ []) (termOf (getD cursors y [])) (getD (getD cursors y []) 2 0 ∷ y ∷ [])) e h))
+cursors-order bytes cursors s y k l n m p q i j e f h =
+    key-order bytes k l s y n m p q i j
+    (subst (λ (r : List ℕ). LE (compared bytes (keyCursor k n p i)) (getD (keyCursor k n p i) 2 0 ∷ s ∷ []) (compared bytes r) (getD r 2 0 ∷ y ∷ [])) f
+    (subst (λ (r : List ℕ). LE (compared bytes r) (getD r 2 0 ∷ s ∷ []) (compared bytes (getD cursors y [])) (getD (getD cursors y []) 2 0 ∷ y ∷ [])) e h))
 
 -- ---- the segments and their keys
 
@@ -190,8 +207,8 @@ module _ {places alives : List (List ℕ)} {ids offsets values alive : List ℕ}
           rising = z .rising x h;
         }
 
-    keyed : (x : ℕ) → x < length places → Keyed (getD (placedSegments places alives ids offsets values alive) x absent)
-    keyed x h = subst Keyed (sym (segment-there x h)) (keyed-place x h)
+    keyed-at : (x : ℕ) → x < length places → Keyed (getD (placedSegments places alives ids offsets values alive) x absent)
+    keyed-at x h = subst Keyed (sym (segment-there x h)) (keyed-place x h)
 
     -- the key in the cursor is the definitions'
     pub key-is : (x n : ℕ) → n < getD (placedSegments places alives ids offsets values alive) x absent .rows
@@ -199,7 +216,7 @@ module _ {places alives : List (List ℕ)} {ids offsets values alive : List ℕ}
     unfolding keyOf
     key-is x n h =
         let s = getD (placedSegments places alives ids offsets values alive) x absent in
-        let k = keyed x (there x (omega arith)) in
+        let k = keyed-at x (there x (omega arith)) in
         ap (lastKey (s .values)) (until-earlier (s .kind) (s .ids) (s .offsets) n) ∙ sym (key-earlier s (k .sound) (k .single) (suc n) h)
 
     pub keys-grow : (x n m : ℕ) → n ≤ m → m < getD (placedSegments places alives ids offsets values alive) x absent .rows
@@ -207,5 +224,5 @@ module _ {places alives : List (List ℕ)} {ids offsets values alive : List ℕ}
     unfolding keyOf
     keys-grow x n m h l =
         let s = getD (placedSegments places alives ids offsets values alive) x absent in
-        let k = keyed x (there x (omega arith)) in
+        let k = keyed-at x (there x (omega arith)) in
         key-grows s (k .sound) (k .single) (k .rising) (suc n) (suc m) (suc-le-suc h) l

@@ -120,7 +120,7 @@ module _ (ss : List Segment) where
       go (inl k) = k
       go (inr k) = absurd (let e : seg x .rows ≡ 0 = ap (λ (s : Segment). s .rows) (List·getD-eq-default ss absent k) in omega arith)
 
-  -- s is the segment that is popped; keys don't fall with the rows
+  -- s is the segment at the top; keys don't fall with the rows
   module _ (P : ℕ → ℕ) (done : List Address) (s : ℕ) (g : Standing P done) (live : P s < seg s .rows)
       (grows : (x n m : ℕ) → n ≤ m → m < seg x .rows → keyOf ss (at x n) ≤ keyOf ss (at x m))
       (least : (y : ℕ) → P y < seg y .rows → (keyOf ss (at s (P s)) < keyOf ss (at y (P y))) ⊎ ((keyOf ss (at s (P s)) ≡ keyOf ss (at y (P y))) × (s ≤ y))) where

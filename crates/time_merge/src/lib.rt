@@ -1,8 +1,7 @@
 // The merge of segments by time (added by document 01, "Time order"; no Rust file has it). Times don't fall within a segment, so the segments go
-// through the heap of the term merger: a row's term is empty before all times and one byte long after that, and where the terms are the same the
-// time decides, then the segment's number.
+// through the heap of the term merger. A row's key stands in its cursor's two words, 0 before all times, else 1, and the time; its term is empty. Where
+// the keys are the same the segment's number decides.
 ghost use mathlib.Core.Path.{_≡_};
-ghost use mathlib.Core.List.{[], _∷_};
 ghost use lib.ListN.{length, replicate};
 ghost use Rattle.definitions.specs.TimeOrder.{timeOrder};
 ghost use Rattle.term_merger.specs.Live.{Started};
@@ -21,7 +20,7 @@ pub fn fill_cursors(
     cursors: &mut [Cursor],
 )
     requires { ⌜ Ready (now places) (now alives) (now ids) (now offsets) (now values) (now alive) ⌝ }
-    requires { ⌜ now cursors ≡ replicate 256 (replicate 6 0) ⌝ }
+    requires { ⌜ now cursors ≡ replicate 256 (replicate 8 0) ⌝ }
     ensures { λ _. ⌜ Begins (placedSegments (now (places .entry)) (now (alives .entry)) (now (ids .entry)) (now (offsets .entry)) (now (values .entry)) (now (alive .entry))) (now (cursors .exit)) ⌝ }
 {
     let mut s: usize = 0;
@@ -40,11 +39,11 @@ pub fn fill_cursors(
     }
 }
 
-// The row of the first of the segments' cursors is written again and again, and its segment goes on to its next alive row. The one byte of `first` is what
-// terms are made of.
+// The row of the first of the segments' cursors, the heap's top, is written again and again, and its segment goes on to its next alive row. Nothing is
+// read of the term bytes, since all terms are empty.
 pub fn merge(
     heap: Heap,
-    first: &[u8],
+    bytes: &[u8],
     places: &[[usize; 8]],
     alives: &[[usize; 3]],
     ids: &[u32],
@@ -56,9 +55,8 @@ pub fn merge(
 ) -> usize
     requires { ⌜ Ready (now places) (now alives) (now ids) (now offsets) (now values) (now alive) ⌝ }
     requires { ⌜ Rising (now places) (now alives) (now ids) (now offsets) (now values) (now alive) (now out) ⌝ }
-    requires { ⌜ now first ≡ 0 ∷ [] ⌝ }
     requires { ⌜ Begins (placedSegments (now places) (now alives) (now ids) (now offsets) (now values) (now alive)) (now cursors) ⌝ }
-    requires { ⌜ Started (now first) (now cursors) heap ⌝ }
+    requires { ⌜ Started (now bytes) (now cursors) heap ⌝ }
     ensures { λ r. ⌜ r ≡ length (timeOrder (placedSegments (now (places .entry)) (now (alives .entry)) (now (ids .entry)) (now (offsets .entry)) (now (values .entry)) (now (alive .entry)))) ⌝ }
     ensures { λ r. ⌜ now (out .exit) ≡ timeWritten (placedSegments (now (places .entry)) (now (alives .entry)) (now (ids .entry)) (now (offsets .entry)) (now (values .entry)) (now (alive .entry))) (now (out .entry)) ⌝ }
     ensures { λ r. ⌜ Ends (placedSegments (now (places .entry)) (now (alives .entry)) (now (ids .entry)) (now (offsets .entry)) (now (values .entry)) (now (alive .entry))) (now (cursors .exit)) ⌝ }
@@ -66,9 +64,7 @@ pub fn merge(
     let mut h = heap;
     let mut k: usize = 0;
     while 0 < h.len {
-        let p = term_merger::pop(h, first, cursors);
-        let top = p.top;
-        let s = runs::byte(top);
+        let s = runs::byte(h.seg[0]);
         let cursor = cursors[s];
         out[k] = [s as u32, cursor[3] as u32];
         let next = time_cursors::first_from(
@@ -82,8 +78,8 @@ pub fn merge(
             cursor[5],
         );
         cursors[s] = next;
-        let rest = p.heap;
-        h = term_merger::push_live(rest, first, cursors, top);
+        let n = h.len;
+        h.len = term_merger::settle_top(&mut h.seg, n, bytes, cursors);
         k += 1;
     }
     k

@@ -32,7 +32,7 @@ fn order_rows(
     places::fill_places(records, &mut places);
     let mut alives = [[0usize; 3]; 256];
     places::fill_alives(records, &mut alives);
-    let mut cursors = [[0usize; 6]; term_merger::Heap::CAP];
+    let mut cursors = [[0usize; 8]; term_merger::Heap::CAP];
     time_merge::fill_cursors(
         &places[..n],
         &alives[..n],
@@ -42,11 +42,12 @@ fn order_rows(
         alive,
         &mut cursors,
     );
-    let first = [0u8; 1];
-    let heap = term_merger::start_heap(&first, &cursors);
+    // all terms are empty: nothing is read of the term bytes
+    let bytes = [0u8; 1];
+    let heap = term_merger::start_heap(&bytes, &cursors);
     time_merge::merge(
         heap,
-        &first,
+        &bytes,
         &places[..n],
         &alives[..n],
         ids,

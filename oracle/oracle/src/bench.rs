@@ -22,7 +22,11 @@
 //! more, each list by one copy_from_slice from where the joiner left it to a list of the same
 //! length already touched. Terms and map are not copied.
 //!
-//! The converter, for which the crate has no counterpart, is measured by itself, in the same rounds:
+//! The time order, which the crate has not, is measured beside a sort of the same rows, in the same
+//! rounds: the whole call, with all checks, into a list already touched; and `sort_unstable` of a list
+//! of time, segment and row that is made before the clock starts.
+//!
+//! The converter, for which the crate has no counterpart either, is measured by itself, in the same rounds:
 //! the whole call, with all checks, into lists already touched that have place for an id and an offset
 //! of every row; and beside it a plain copy of the stored offsets.
 mod inputs;
@@ -39,10 +43,10 @@ use crate::ours::{Joiner, Lists, NewLists};
 use crate::run::{merge_order, segment_file};
 use crate::table::Lent;
 use crate::wire::{Input, Sections};
-use inputs::Line;
+use inputs::{Line, Times};
 
 pub use plot::plot;
-pub use report::{growth, table};
+pub use report::{growth, segments, table};
 
 const ROUNDS: usize = 7;
 
@@ -132,6 +136,52 @@ fn measure_conversion(rows: u32) -> MeasuredConversion {
         ours: per_row(0),
         copy: per_row(1),
         sums: [checksum(&new.ids, &new.offsets, &[]), ours],
+    }
+}
+
+/// What was measured of the time order: the number of rows, ns per row, checksums of the sorted
+/// addresses and of ours.
+pub struct MeasuredOrder {
+    pub rows: usize,
+    pub ours: f64,
+    pub sort: f64,
+    pub sums: [u64; 2],
+}
+
+fn measure_order(times: Times, segs: usize, rows: u32) -> MeasuredOrder {
+    let segs = times.segments(segs, rows);
+    let list =
+        |s: usize| segs[s].values.iter().zip(0..).map(move |(&time, row)| (time as i64, s as u32, row));
+    let given: Vec<(i64, u32, u32)> = (0..segs.len()).flat_map(list).collect();
+    let rows = given.len();
+    let mut sorted = given.clone();
+    let sections = Input { mode: 0, required: 255, segs: segs.clone(), addresses: vec![] }.sections();
+    let (mut addresses, mut count) = (vec![[1; 2]; rows], 0);
+    let repeats = (1_000_000 / rows.max(1)).clamp(1, 100) as u32;
+    let mut look = Duration::MAX;
+    let mut least = [Duration::MAX; 2];
+    for _ in 0..ROUNDS {
+        look = look.min(Clock::new().look);
+        let t = hook::now();
+        for _ in 0..repeats {
+            assert_eq!(time_order(&sections, &mut addresses, &mut count), 0);
+        }
+        let ours = (hook::now() - t) / repeats;
+        sorted.copy_from_slice(&given);
+        let t = hook::now();
+        sorted.sort_unstable();
+        let times = [ours, hook::now() - t];
+        least = std::array::from_fn(|i| least[i].min(times[i]));
+    }
+    let looks = [look / repeats, look];
+    let per_row = |i: usize| least[i].saturating_sub(looks[i]).as_nanos() as f64 / rows as f64;
+    let words = |list: &[[u32; 2]]| checksum(list.as_flattened(), &[], &[]);
+    let expected: Vec<[u32; 2]> = sorted.iter().map(|&(_, segment, row)| [segment, row]).collect();
+    MeasuredOrder {
+        rows,
+        ours: per_row(0),
+        sort: per_row(1),
+        sums: [words(&expected), words(&addresses[..count as usize])],
     }
 }
 
@@ -317,6 +367,14 @@ impl Ours {
         let n: [usize; 3] = std::array::from_fn(|i| numbers.lent()[3 + i] as usize);
         (&ids.lent()[..n[0]], &offsets.lent()[..n[1]], &values.lent()[..n[2]])
     }
+}
+
+#[cfg(library)]
+use crate::library::time_order;
+
+#[cfg(not(library))]
+fn time_order(_: &Sections, _: &mut [[u32; 2]], _: &mut u64) -> u32 {
+    panic!("built without the library")
 }
 
 #[cfg(library)]

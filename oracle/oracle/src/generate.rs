@@ -67,6 +67,9 @@ const DOUBLES: &[u64] = &[
 const TERMS: &[&[u8]] = &[
     b"", b"a", b"aa", b"ab", b"b", b"ba", b"bb", b"c", b"ca", b"\x00", b"\x00\x00", b"a\x00",
     b"\xff", b"\xff\x00", b"z", b"zzzzzzzz", b"zzzzzzzzz", b"\x80", b"\x7f", b"aaaaaaaaaaaaaaaab",
+    // equal in their first 8, 16 or 24 bytes, or but for zero bytes at the end
+    b"a\x00\x00", b"zzzzzzz", b"zzzzzzzz\x00", b"zzzzzzzzzzzzzzzz", b"zzzzzzzzzzzzzzzz\x00", b"zzzzzzzzzzzzzzzzz",
+    b"zzzzzzzz\x00zzzzzzzz", b"aaaaaaaaaaaaaaaa", b"aaaaaaaaaaaaaaaaaaaaaaaa", b"aaaaaaaaaaaaaaaaaaaaaaaab",
 ];
 
 /// An integer halfway between two doubles, or next to such a one.
@@ -112,7 +115,7 @@ fn vocabulary(rng: &mut Rng, shape: Shape) -> Vec<Vec<u8>> {
         _ => 200,
     };
     let letters: &[u8] = if rng.one_in(2) { b"\x00a\xff" } else { b"abcdefgh" };
-    let prefix = vec![rng.pick(letters); rng.index(12)];
+    let prefix: Vec<u8> = (0..rng.index(40)).map(|_| rng.pick(letters)).collect();
     let mut terms: Vec<Vec<u8>> = (0..count)
         .map(|_| {
             let mut term = if rng.one_in(2) { prefix.clone() } else { vec![] };

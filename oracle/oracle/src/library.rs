@@ -37,8 +37,29 @@ unsafe extern "C" {
         out_term_bytes_len: usize,
         out_map: *mut u32,
         out_map_len: usize,
-        // nine
+        // ten
         out_numbers: *mut u64,
+    ) -> u32;
+
+    fn jadmirus_time_order(
+        records: *const [u32; 8],
+        records_len: usize,
+        ids: *const u32,
+        ids_len: usize,
+        offsets: *const u32,
+        offsets_len: usize,
+        values: *const u64,
+        values_len: usize,
+        term_lengths: *const u32,
+        term_lengths_len: usize,
+        term_bytes: *const u8,
+        term_bytes_len: usize,
+        alive: *const u64,
+        alive_len: usize,
+        out_addresses: *mut [u32; 2],
+        out_addresses_len: usize,
+        // one
+        out_count: *mut u64,
     ) -> u32;
 
     fn jadmirus_convert(
@@ -149,5 +170,31 @@ impl Joiner for Library {
                 record.0,
             )
         }
+    }
+}
+
+/// The time order's answer; 0: the addresses are written, as many as `count` then says.
+pub fn time_order(s: &Sections, addresses: &mut [[u32; 2]], count: &mut u64) -> u32 {
+    // The same holds here.
+    unsafe {
+        jadmirus_time_order(
+            s.records.as_ptr(),
+            s.records.len(),
+            s.ids.as_ptr(),
+            s.ids.len(),
+            s.offsets.as_ptr(),
+            s.offsets.len(),
+            s.values.as_ptr(),
+            s.values.len(),
+            s.term_lengths.as_ptr(),
+            s.term_lengths.len(),
+            s.term_bytes.as_ptr(),
+            s.term_bytes.len(),
+            s.alive.as_ptr(),
+            s.alive.len(),
+            addresses.as_mut_ptr(),
+            addresses.len(),
+            count,
+        )
     }
 }

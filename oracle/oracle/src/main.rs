@@ -37,7 +37,9 @@ oracle bench SEGMENTS ROWS [WORD]
                              times of the crate's merge and of the joiner, a table (see bench/run)
 oracle growth SEGMENTS ROWS [WORD]
                              the same at growing sizes, from 1,000 rows a segment to ROWS
-oracle plot                  what growth printed, on stdin; a picture of it, SVG";
+oracle segments SEGMENTS ROWS [WORD]
+                             the same with growing numbers of segments, from 1 to SEGMENTS, of ROWS / 100
+oracle plot                  what growth or segments printed, on stdin; a picture of it, SVG";
 
 fn main() -> ExitCode {
     let args: Vec<String> = std::env::args().skip(1).collect();
@@ -74,8 +76,12 @@ fn run(args: &[String]) -> Result<bool, String> {
             std::fs::write(inputs, input_file).map_err(|e| format!("{inputs}: {e}"))?;
             std::fs::write(listings, listing_file).map_err(|e| format!("{listings}: {e}"))?;
         }
-        [what @ ("bench" | "growth"), segs, rows, ref word @ ..] => {
-            let report = if what == "bench" { bench::table } else { bench::growth };
+        [what @ ("bench" | "growth" | "segments"), segs, rows, ref word @ ..] => {
+            let report = match what {
+                "bench" => bench::table,
+                "growth" => bench::growth,
+                _ => bench::segments,
+            };
             let (segs, rows) = (segs.parse().map_err(|_| USAGE)?, rows.parse().map_err(|_| USAGE)?);
             return report(segs, rows, word.first().copied().unwrap_or(""));
         }

@@ -84,7 +84,7 @@ pub struct Lists {
     pub term_bytes: Run<u8>,
     pub map: Run<u32>,
     /// Type, class, rows, then how many row ids, offsets, values, terms, term bytes and map
-    /// entries.
+    /// entries, and how many term bytes were copied.
     pub numbers: Run<u64>,
 }
 
@@ -98,7 +98,7 @@ impl Lists {
             term_lengths: Run::new(lent.term_lengths, salt + 4),
             term_bytes: Run::new(lent.term_bytes, salt + 5),
             map: Run::new(lent.map, salt + 6),
-            numbers: Run::new(9, salt + 7),
+            numbers: Run::new(10, salt + 7),
         }
     }
 
@@ -149,7 +149,12 @@ impl Lists {
     }
 }
 
-pub fn numbers(l: &Listing) -> [u64; 9] {
+/// The place of the count of term bytes copied among the numbers.
+pub const COPIED: usize = 9;
+
+/// "A count of the term bytes copied, proved equal to the joined terms' bytes" (02, (d)) comes last.
+pub fn numbers(l: &Listing) -> [u64; 10] {
+    let term_bytes = l.terms.iter().map(|t| t.len() as u64).sum();
     [
         l.ty as u64,
         l.class as u64,
@@ -158,8 +163,9 @@ pub fn numbers(l: &Listing) -> [u64; 9] {
         l.offsets.len() as u64,
         l.values.len() as u64,
         l.terms.len() as u64,
-        l.terms.iter().map(|t| t.len() as u64).sum(),
+        term_bytes,
         l.map.len() as u64,
+        term_bytes,
     ]
 }
 

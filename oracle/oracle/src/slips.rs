@@ -3,8 +3,10 @@
 //! tests of the comparison and of its inputs, of nothing else.
 mod converter;
 
+use std::collections::BTreeSet;
+
 use crate::model;
-use crate::ours::{Joiner, Lists, NewLists};
+use crate::ours::{COPIED, Joiner, Lists, NewLists};
 use crate::run;
 use crate::table::{self, CHECKS, Call, Check};
 use crate::wire::{Input, Listing, Outcome, Sections, Seg};
@@ -21,6 +23,8 @@ pub enum How {
     Read(fn(&mut Input)),
     /// Another column.
     Column(fn(&Input, &mut Listing)),
+    /// Another count of the term bytes copied.
+    Count(fn(&Input, &Listing) -> usize),
     /// Something else is left in memory.
     Leave(fn(&Outcome, &mut Lists)),
     /// The first accepted call's column for every later one.
@@ -359,6 +363,62 @@ const SLIPS: &[Slip] = &[
         }),
     ),
     slip(
+        "a term and itself with zero bytes after it not told apart by their length",
+        How::Column(|input, l| {
+            let mut terms = l.terms.clone();
+            terms.reverse();
+            terms.sort_by_key(|t| (first_words(t), t.get(16..).map(<[u8]>::to_vec)));
+            with_terms(input, l, terms);
+        }),
+    ),
+    slip(
+        "nothing compared after the first words",
+        How::Column(|input, l| {
+            let mut terms = l.terms.clone();
+            terms.reverse();
+            terms.sort_by_key(|t| (first_words(t), t.len().min(17)));
+            with_terms(input, l, terms);
+        }),
+    ),
+    slip(
+        "a term copied from each segment that has it",
+        How::Count(|input, l| {
+            let held = input.segs.iter().filter(|s| model::held(s)).flat_map(|s| &s.terms);
+            held.filter(|t| l.terms.contains(t)).map(|t| t.len()).sum()
+        }),
+    ),
+    slip(
+        "counted where its first segment keeps a term",
+        How::Count(|input, l| {
+            let first = |t: &Vec<u8>| input.segs.iter().find(|s| model::held(s) && s.terms.contains(t));
+            let keeps = |s: &Seg, t: &Vec<u8>| {
+                let used = |v: &u64| s.terms[*v as usize] == *t;
+                let alive = |(row, range): &(u32, std::ops::Range<usize>)| {
+                    s.is_alive(*row) && s.values[range.clone()].iter().any(used)
+                };
+                s.alive.is_none() || model::filled(s).iter().any(alive)
+            };
+            let counted = |t: &&Vec<u8>| first(t).is_some_and(|s| keeps(s, t));
+            l.terms.iter().filter(counted).map(|t| t.len()).sum()
+        }),
+    ),
+    slip(
+        "the first segment's terms alone counted",
+        How::Count(|input, l| {
+            let first = input.segs.iter().find(|s| model::held(s));
+            let has = |t: &&Vec<u8>| first.is_some_and(|s| s.terms.contains(t));
+            l.terms.iter().filter(has).map(|t| t.len()).sum()
+        }),
+    ),
+    slip(
+        "unkept terms counted",
+        How::Count(|input, _| {
+            let held = input.segs.iter().filter(|s| model::held(s)).flat_map(|s| &s.terms);
+            held.collect::<BTreeSet<_>>().iter().map(|t| t.len()).sum()
+        }),
+    ),
+    slip("terms counted for their bytes", How::Count(|_, l| l.terms.len())),
+    slip(
         "unkept terms kept",
         How::Column(|input, l| {
             if l.ty == 3 || l.ty == 4 {
@@ -575,6 +635,14 @@ fn round(input: &mut Input, f: fn(u64, u32) -> u64) {
     }
 }
 
+/// The first 16 bytes, zeros after the last.
+fn first_words(term: &[u8]) -> [u8; 16] {
+    let mut words = [0; 16];
+    let n = term.len().min(16);
+    words[..n].copy_from_slice(&term[..n]);
+    words
+}
+
 /// The same column over another list of terms that has all of its terms.
 fn with_terms(input: &Input, l: &mut Listing, terms: Vec<Vec<u8>>) {
     let place = |t: &Vec<u8>| terms.iter().position(|u| u == t).unwrap_or(0) as u32;
@@ -659,6 +727,10 @@ impl Joiner for Standin {
             lists.working.lent().fill(0);
             if let Outcome::Accepted(l) = &outcome {
                 lists.write(l);
+                if let Some(How::Count(f)) = self.how {
+                    let call = Call::new(sections, lists.lengths());
+                    lists.numbers.lent()[COPIED] = f(call.input(), l) as u64;
+                }
             }
             if let Some(How::Leave(f)) = self.how {
                 f(&outcome, lists);

@@ -56,7 +56,7 @@ returns : tie.Need-returns
 returns c =
     let the-mark = c .before .before .before .before .before .before .before .before .before .before .before .before .before .before .before .before .before .mark in
     let the-zero = c .before .before .zero in
-    left (c .before .before .before .before .before .before .before .before .before .before .before .before .before .before .before .before .before .before .before .before .before .before .before .before .before .before .before .before .before .before .before .pre) (c .before .before .before .before .before .before .before .before .before .before .before .before .before .before .before .before .before .before .before .unless .ensures) (the-mark .last .1 .1 .1 .1 .1 .1 .1 .0) (the-mark .kept .1 .1 .1 .1 .1 .1 .1 .0) (the-mark .ensures) _ _ _ _ _ (the-zero .last .0) (c .before .before .before .before .before .before .before .before .before .before .merge-dict .ensures) (the-zero .ensures)
+    left (c .before .before .before .before .before .before .before .before .before .before .before .before .before .before .before .before .before .before .before .before .before .before .before .before .before .before .before .before .before .before .before .pre) (c .before .before .before .before .before .before .before .before .before .before .before .before .before .before .before .before .before .before .before .unless .ensures) (the-mark .last .1 .1 .1 .1 .1 .1 .1 .0) (the-mark .kept .1 .1 .1 .1 .1 .1 .1 .0) (the-mark .ensures) _ _ _ _ _ _ (the-zero .last .0) (c .before .before .before .before .before .before .before .before .before .before .merge-dict .ensures) (the-zero .ensures)
 
 pub fill-dictionary-spec : {M : Type 1} → statement M
 fill-dictionary-spec =

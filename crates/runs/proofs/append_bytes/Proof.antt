@@ -1,5 +1,6 @@
 use mathlib.Core.Path.{_≡_, refl, _∙_}
-use Prim.Native.Nat.{ℕ, ℕ, _-_, _≤_}
+use Prim.Native.Nat.{ℕ, _-_, _≤_}
+use native.Mathlib.Omega.{arith}
 use lib.ListN.{length, length-set}
 use borrow.Author.Needs.{needs}
 use Rattle.runs.proofs.Laws.{putting, putting-none, putting-more, putting-all}
@@ -52,7 +53,7 @@ same-length c = search needs
 returns : tie.Need-returns Inv-loop μ-loop
 returns c =
     let l = c .before in
-    l .loop .inv .1 ∙ putting-all _ _ _ _ _ refl (l .loop .inv .0) (c .loop-test .left)
+    (omega (arith, l .loop .inv .0, c .loop-test .left), l .loop .inv .1 ∙ putting-all _ _ _ _ _ refl (l .loop .inv .0) (c .loop-test .left))
 
 pub append-bytes-spec : {M : Type 1} → statement M
 append-bytes-spec =

@@ -1,160 +1,131 @@
-use mathlib.Core.Path.{_≡_, sym, subst}
-use mathlib.Core.List.{List, [], _∷_}
-use Prim.Native.Nat.{ℕ, _-_, _≤_, _<_}
-use native.Mathlib.Omega.{arith}
-use lib.ListN.{length, set, length-set}
 use borrow.Author.Needs.{needs}
-use Rattle.term_merger.specs.Heap.{Out, Ordered}
-use Rattle.term_merger.specs.Order.{TermsInside}
-use Rattle.term_merger.specs.Live.{Back, Started}
+use mathlib.Core.Path.{refl}
+use mathlib.Core.List.{List}
+use Prim.Native.Nat.{ℕ, _-_}
+use native.Mathlib.Omega.{arith}
+use lib.ListN.{length, length-set}
 use Rattle.definitions.specs.Segment.{Address}
 use Rattle.time_merge.specs.Order.{placedSegments}
-use Rattle.time_merge.proofs.Going.{Going, going-start, going-readable, going-end, s-there, row-fits, rest-left, room, readable-new, going-more}
+use Rattle.time_merge.proofs.Going.{Going, going-start, going-end, s-there, row-fits, rest-left, room, readable-new, going-more}
+use Rattle.term_merger.proofs.Walk.{sinking-new}
 use Rattle.time_merge.proofs.merge.Statement.{statement}
 use Rattle.time_merge.proofs.merge.Tie as tie
-use Rattle.term_merger.proofs.Walk.{len-new, ordered-new}
 
 abbrev Inv-loop : tie.InvT-loop
-Inv-loop first places alives ids offsets values alive cursors₀ out₀ h₀ k₀ cursors out h k = (P : ℕ → ℕ) × (done : List Address) × Going (placedSegments places alives ids offsets values alive) (0 ∷ []) out₀ cursors out h k P done
+Inv-loop bytes places alives ids offsets values alive cursors₀ out₀ h₀ k₀ cursors out h k = (P : ℕ → ℕ) × (done : List Address) × Going (placedSegments places alives ids offsets values alive) bytes out₀ cursors out h k P done
 
 abbrev μ-loop : tie.MeasureT-loop
-μ-loop first places alives ids offsets values alive cursors₀ out₀ h₀ k₀ cursors out h k = length out - k
+μ-loop bytes places alives ids offsets values alive cursors₀ out₀ h₀ k₀ cursors out h k = length out - k
 
--- the array of what is left in the heap
-seg-at : (c : tie.After-byte Inv-loop μ-loop) → length (c .before .pop .result .heap .seg) ≡ 256
-seg-at c = search needs
-
+-- src/lib.rt:66:5
 loop-holds : tie.Need-loop-holds Inv-loop μ-loop
-loop-holds c =
-    let the-pre = c .before .before .before .before .before .pre in
-    let the-args = c .before .before .before .before .before .args in
-    (_, _, going-start (the-pre .0) _ (the-pre .1 .1 .1 .0) (subst (λ (f : List ℕ). Started f (the-args .cursors .now) (the-args .heap)) (the-pre .1 .1 .0) (the-pre .1 .1 .1 .1)))
+loop-holds c = (_, _, going-start (c .before .before .before .before .before .pre .0) _ (c .before .before .before .before .before .pre .1 .1 .0) (c .before .before .before .before .before .pre .1 .1 .1) (search needs))
 
-pop-requires : tie.Need-pop-requires Inv-loop μ-loop
-pop-requires c κs = subst (λ (f : List ℕ). ((256 ≤ length (c .before .before .before .loop .cursors)) × TermsInside f (c .before .before .before .loop .cursors)) × ((0 < c .before .before .before .loop .h .len) × (c .before .before .before .loop .h .len ≤ 256) × Ordered f (c .before .before .before .loop .cursors) (c .before .before .before .loop .h .seg) (c .before .before .before .loop .h .len))) (sym (c .before .before .before .before .before .before .before .before .before .pre .1 .1 .0)) ((omega (arith, c .before .before .before .loop .inv .2 .size), going-readable (c .before .before .before .before .before .before .before .before .before .pre .0) (c .before .before .before .before .before .before .before .before .before .pre .1 .0) (c .before .before .before .loop .inv .2)), (c .before .if1 .taken, c .before .before .before .loop .inv .2 .heap .len, c .before .before .before .loop .inv .2 .heap .inHeapOrder))
+-- src/lib.rt:67:28
+element-copy-out-byte : tie.Need-element-copy-out-byte Inv-loop μ-loop
+element-copy-out-byte c = omega (arith, c .before .loop .inv .2 .heap .full)
 
+-- src/lib.rt:67:13
 byte-requires : tie.Need-byte-requires Inv-loop μ-loop
 byte-requires c κs = search needs
 
+-- src/lib.rt:68:22
 mul-cursor : tie.Need-mul-cursor Inv-loop μ-loop
 mul-cursor c = omega (arith, c .byte .ensures .1)
 
+-- src/lib.rt:68:22
 slice-copy-out-cursor : tie.Need-slice-copy-out-cursor Inv-loop μ-loop
-slice-copy-out-cursor c = omega (arith, c .byte .ensures .1, c .before .before .before .before .before .loop .inv .2 .size)
+slice-copy-out-cursor c = omega (arith, c .byte .ensures .1, c .before .before .before .loop .inv .2 .size)
 
-cast-t25 : tie.Need-cast-t25 Inv-loop μ-loop
-cast-t25 c = omega (arith, c .before .byte .ensures .1)
+-- src/lib.rt:69:19
+cast-t24 : tie.Need-cast-t24 Inv-loop μ-loop
+cast-t24 c = omega (arith, c .before .byte .ensures .1)
 
-array-read-t22 : tie.Need-array-read-t22 Inv-loop μ-loop
-array-read-t22 c = search needs
+-- src/lib.rt:69:29
+array-read-t17 : tie.Need-array-read-t17 Inv-loop μ-loop
+array-read-t17 c = search needs
 
-cast-t28 : tie.Need-cast-t28 Inv-loop μ-loop
-cast-t28 c =
-    let o = (subst (λ (f : List ℕ). Out f (c .before .before .before .before .before .before .loop .cursors) (c .before .before .before .before .before .before .loop .h) (c .before .before .pop .result .heap) (c .before .byte .result)) (c .before .before .before .before .before .before .before .before .before .before .before .before .pre .1 .1 .0) (subst (λ (n : ℕ). Out (c .before .before .before .before .before .before .before .before .before .before .before .before .args .first .now) (c .before .before .before .before .before .before .loop .cursors) (c .before .before .before .before .before .before .loop .h) (c .before .before .pop .result .heap) n) (sym (c .before .byte .ensures .0)) (c .before .before .pop .ensures))) in
-    let e = row-fits (c .before .before .before .before .before .before .before .before .before .before .before .before .pre .0) (c .before .before .before .before .before .before .before .before .before .before .before .before .pre .1 .0) (c .before .before .before .before .before .before .loop .inv .2) o in
-    omega (arith, e)
+-- src/lib.rt:69:29
+cast-t27 : tie.Need-cast-t27 Inv-loop μ-loop
+cast-t27 c = omega (arith, row-fits (c .before .before .before .before .before .before .before .before .before .before .pre .0) (c .before .before .before .before .before .before .before .before .before .before .pre .1 .0) (c .before .before .before .before .loop .inv .2) (c .before .before .before .loop-test .taken) (c .before .byte .ensures .0))
 
-mul-t30 : tie.Need-mul-t30 Inv-loop μ-loop
-mul-t30 c =
-    let o = (subst (λ (f : List ℕ). Out f (c .before .before .before .before .before .before .loop .cursors) (c .before .before .before .before .before .before .loop .h) (c .before .before .pop .result .heap) (c .before .byte .result)) (c .before .before .before .before .before .before .before .before .before .before .before .before .pre .1 .1 .0) (subst (λ (n : ℕ). Out (c .before .before .before .before .before .before .before .before .before .before .before .before .args .first .now) (c .before .before .before .before .before .before .loop .cursors) (c .before .before .before .before .before .before .loop .h) (c .before .before .pop .result .heap) n) (sym (c .before .byte .ensures .0)) (c .before .before .pop .ensures))) in
-    let e = room (c .before .before .before .before .before .before .before .before .before .before .before .before .pre .0) (c .before .before .before .before .before .before .before .before .before .before .before .before .pre .1 .0) (c .before .before .before .before .before .before .loop .inv .2) o in
-    omega (arith, e, c .before .before .before .before .before .before .loop .inv .2 .out-size, c .before .before .before .before .before .before .before .before .before .before .before .before .good)
+-- src/lib.rt:69:9
+mul-t29 : tie.Need-mul-t29 Inv-loop μ-loop
+mul-t29 c = omega (arith, room (c .before .before .before .before .before .before .before .before .before .before .pre .0) (c .before .before .before .before .before .before .before .before .before .before .pre .1 .0) (c .before .before .before .before .loop .inv .2) (c .before .before .before .loop-test .taken) (c .before .byte .ensures .0), c .before .before .before .before .loop .inv .2 .out-size, c .before .before .before .before .before .before .before .before .before .before .good)
 
+-- src/lib.rt:69:9
 slice-set-from-out : tie.Need-slice-set-from-out Inv-loop μ-loop
-slice-set-from-out c =
-    let the-loop = c .before .before .before .before .before .before .loop in
-    let the-pop = c .before .before .pop in
-    let the-pre = c .before .before .before .before .before .before .before .before .before .before .before .before .pre in
-    let o = (subst (λ (f : List ℕ). Out f (the-loop .cursors) (the-loop .h) (the-pop .result .heap) (c .before .byte .result)) (the-pre .1 .1 .0) (subst (λ (n : ℕ). Out (c .before .before .before .before .before .before .before .before .before .before .before .before .args .first .now) (the-loop .cursors) (the-loop .h) (the-pop .result .heap) n) (sym (c .before .byte .ensures .0)) (the-pop .ensures))) in
-    room (the-pre .0) (the-pre .1 .0) (the-loop .inv .2) o
+slice-set-from-out c = room (c .before .before .before .before .before .before .before .before .before .before .pre .0) (c .before .before .before .before .before .before .before .before .before .before .pre .1 .0) (c .before .before .before .before .loop .inv .2) (c .before .before .before .loop-test .taken) (c .before .byte .ensures .0)
 
+-- src/lib.rt:71:13
 mul-first-from : tie.Need-mul-first-from Inv-loop μ-loop
 mul-first-from c = omega (arith, c .before .byte .ensures .1)
 
+-- src/lib.rt:71:13
 shared-slice-copy-out-first-from : tie.Need-shared-slice-copy-out-first-from Inv-loop μ-loop
-shared-slice-copy-out-first-from c =
-    let the-loop = c .before .before .before .before .before .before .loop in
-    let the-pop = c .before .before .pop in
-    let the-pre = c .before .before .before .before .before .before .before .before .before .before .before .before .pre in
-    let o = (subst (λ (f : List ℕ). Out f (the-loop .cursors) (the-loop .h) (the-pop .result .heap) (c .before .byte .result)) (the-pre .1 .1 .0) (subst (λ (n : ℕ). Out (c .before .before .before .before .before .before .before .before .before .before .before .before .args .first .now) (the-loop .cursors) (the-loop .h) (the-pop .result .heap) n) (sym (c .before .byte .ensures .0)) (the-pop .ensures))) in
-    s-there (the-pre .0) (the-pre .1 .0) (the-loop .inv .2) o
+shared-slice-copy-out-first-from c = s-there (c .before .before .before .before .before .before .before .before .before .before .pre .0) (c .before .before .before .before .before .before .before .before .before .before .pre .1 .0) (c .before .before .before .before .loop .inv .2) (c .before .before .before .loop-test .taken) (c .before .byte .ensures .0)
 
+-- src/lib.rt:72:13
 mul-first-from-2 : tie.Need-mul-first-from-2 Inv-loop μ-loop
 mul-first-from-2 c = omega (arith, c .before .before .byte .ensures .1)
 
+-- src/lib.rt:72:13
 shared-slice-copy-out-first-from-2 : tie.Need-shared-slice-copy-out-first-from-2 Inv-loop μ-loop
-shared-slice-copy-out-first-from-2 c =
-    let o = (subst (λ (f : List ℕ). Out f (c .before .before .before .before .before .before .before .loop .cursors) (c .before .before .before .before .before .before .before .loop .h) (c .before .before .before .pop .result .heap) (c .before .before .byte .result)) (c .before .before .before .before .before .before .before .before .before .before .before .before .before .pre .1 .1 .0) (subst (λ (n : ℕ). Out (c .before .before .before .before .before .before .before .before .before .before .before .before .before .args .first .now) (c .before .before .before .before .before .before .before .loop .cursors) (c .before .before .before .before .before .before .before .loop .h) (c .before .before .before .pop .result .heap) n) (sym (c .before .before .byte .ensures .0)) (c .before .before .before .pop .ensures))) in
-    let e = s-there (c .before .before .before .before .before .before .before .before .before .before .before .before .before .pre .0) (c .before .before .before .before .before .before .before .before .before .before .before .before .before .pre .1 .0) (c .before .before .before .before .before .before .before .loop .inv .2) o in
-    omega (arith, e, c .before .before .before .before .before .before .before .before .before .before .before .before .before .pre .0 .both)
+shared-slice-copy-out-first-from-2 c = omega (arith, s-there (c .before .before .before .before .before .before .before .before .before .before .before .pre .0) (c .before .before .before .before .before .before .before .before .before .before .before .pre .1 .0) (c .before .before .before .before .before .loop .inv .2) (c .before .before .before .before .loop-test .taken) (c .before .before .byte .ensures .0), c .before .before .before .before .before .before .before .before .before .before .before .pre .0 .both)
 
+-- src/lib.rt:77:13
 array-read-first-from : tie.Need-array-read-first-from Inv-loop μ-loop
 array-read-first-from c = search needs
 
+-- src/lib.rt:77:13
 add-first-from : tie.Need-add-first-from Inv-loop μ-loop
-add-first-from c =
-    let o = (subst (λ (f : List ℕ). Out f (c .before .before .before .before .before .before .before .before .loop .cursors) (c .before .before .before .before .before .before .before .before .loop .h) (c .before .before .before .before .pop .result .heap) (c .before .before .before .byte .result)) (c .before .before .before .before .before .before .before .before .before .before .before .before .before .before .pre .1 .1 .0) (subst (λ (n : ℕ). Out (c .before .before .before .before .before .before .before .before .before .before .before .before .before .before .args .first .now) (c .before .before .before .before .before .before .before .before .loop .cursors) (c .before .before .before .before .before .before .before .before .loop .h) (c .before .before .before .before .pop .result .heap) n) (sym (c .before .before .before .byte .ensures .0)) (c .before .before .before .before .pop .ensures))) in
-    let e = row-fits (c .before .before .before .before .before .before .before .before .before .before .before .before .before .before .pre .0) (c .before .before .before .before .before .before .before .before .before .before .before .before .before .before .pre .1 .0) (c .before .before .before .before .before .before .before .before .loop .inv .2) o in
-    omega (arith, e)
+add-first-from c = omega (arith, row-fits (c .before .before .before .before .before .before .before .before .before .before .before .before .pre .0) (c .before .before .before .before .before .before .before .before .before .before .before .before .pre .1 .0) (c .before .before .before .before .before .before .loop .inv .2) (c .before .before .before .before .before .loop-test .taken) (c .before .before .before .byte .ensures .0))
 
+-- src/lib.rt:78:13
 array-read-first-from-2 : tie.Need-array-read-first-from-2 Inv-loop μ-loop
 array-read-first-from-2 c = search needs
 
+-- src/lib.rt:70:13
 first-from-requires : tie.Need-first-from-requires Inv-loop μ-loop
-first-from-requires c κs =
-    let the-loop = c .before .before .before .before .before .before .before .before .loop in
-    let the-pop = c .before .before .before .before .pop in
-    let the-byte = c .before .before .before .byte in
-    let the-pre = c .before .before .before .before .before .before .before .before .before .before .before .before .before .before .pre in
-    let o = (subst (λ (f : List ℕ). Out f (the-loop .cursors) (the-loop .h) (the-pop .result .heap) (the-byte .result)) (the-pre .1 .1 .0) (subst (λ (n : ℕ). Out (c .before .before .before .before .before .before .before .before .before .before .before .before .before .before .args .first .now) (the-loop .cursors) (the-loop .h) (the-pop .result .heap) n) (sym (the-byte .ensures .0)) (the-pop .ensures))) in
-    (the-pre .0 .timed _ (s-there (the-pre .0) (the-pre .1 .0) (the-loop .inv .2) o), rest-left (the-pre .0) (the-pre .1 .0) (the-loop .inv .2) o)
+first-from-requires c κs = (c .before .before .before .before .before .before .before .before .before .before .before .before .pre .0 .timed _ (s-there (c .before .before .before .before .before .before .before .before .before .before .before .before .pre .0) (c .before .before .before .before .before .before .before .before .before .before .before .before .pre .1 .0) (c .before .before .before .before .before .before .loop .inv .2) (c .before .before .before .before .before .loop-test .taken) (c .before .before .before .byte .ensures .0)), rest-left (c .before .before .before .before .before .before .before .before .before .before .before .before .pre .0) (c .before .before .before .before .before .before .before .before .before .before .before .before .pre .1 .0) (c .before .before .before .before .before .before .loop .inv .2) (c .before .before .before .before .before .loop-test .taken) (c .before .before .before .byte .ensures .0))
 
+-- src/lib.rt:80:9
 mul-next : tie.Need-mul-next Inv-loop μ-loop
 mul-next c = omega (arith, c .before .before .before .before .byte .ensures .1)
 
+-- src/lib.rt:80:9
 slice-set-from-next : tie.Need-slice-set-from-next Inv-loop μ-loop
-slice-set-from-next c = omega (arith, c .before .before .before .before .byte .ensures .1, c .before .before .before .before .before .before .before .before .before .loop .inv .2 .size)
+slice-set-from-next c = omega (arith, c .before .before .before .before .byte .ensures .1, c .before .before .before .before .before .before .before .loop .inv .2 .size)
 
-push-live-requires : tie.Need-push-live-requires Inv-loop μ-loop
-push-live-requires c κs =
-    let o = (subst (λ (f : List ℕ). Out f (c .before .before .before .before .before .before .before .before .before .before .before .loop .cursors) (c .before .before .before .before .before .before .before .before .before .before .before .loop .h) (c .before .before .before .before .before .before .before .pop .result .heap) (c .before .before .before .before .before .before .byte .result)) (c .before .before .before .before .before .before .before .before .before .before .before .before .before .before .before .before .before .pre .1 .1 .0) (subst (λ (n : ℕ). Out (c .before .before .before .before .before .before .before .before .before .before .before .before .before .before .before .before .before .args .first .now) (c .before .before .before .before .before .before .before .before .before .before .before .loop .cursors) (c .before .before .before .before .before .before .before .before .before .before .before .loop .h) (c .before .before .before .before .before .before .before .pop .result .heap) n) (sym (c .before .before .before .before .before .before .byte .ensures .0)) (c .before .before .before .before .before .before .before .pop .ensures))) in
-    let e = c .before .before .first-from .ensures in
-    subst (λ (f : List ℕ). ((256 ≤ length (set (c .before .before .before .before .before .before .before .before .before .before .before .loop .cursors) (c .before .before .before .before .before .before .byte .result) (c .before .before .first-from .result))) × TermsInside f (set (c .before .before .before .before .before .before .before .before .before .before .before .loop .cursors) (c .before .before .before .before .before .before .byte .result) (c .before .before .first-from .result))) × ((c .before .before .before .before .before .before .before .pop .result .heap .len < 256) × Ordered f (set (c .before .before .before .before .before .before .before .before .before .before .before .loop .cursors) (c .before .before .before .before .before .before .byte .result) (c .before .before .first-from .result)) (c .before .before .before .before .before .before .before .pop .result .heap .seg) (c .before .before .before .before .before .before .before .pop .result .heap .len))) (sym (c .before .before .before .before .before .before .before .before .before .before .before .before .before .before .before .before .before .pre .1 .1 .0)) ((simp length-set (omega (arith, c .before .before .before .before .before .before .before .before .before .before .before .loop .inv .2 .size)), readable-new (c .before .before .before .before .before .before .before .before .before .before .before .before .before .before .before .before .before .pre .0) (c .before .before .before .before .before .before .before .before .before .before .before .before .before .before .before .before .before .pre .1 .0) (c .before .before .before .before .before .before .before .before .before .before .before .loop .inv .2) o e), (len-new (c .before .before .before .before .before .before .before .before .before .before .before .loop .inv .2 .heap) o, ordered-new (c .before .before .before .before .before .before .before .before .before .before .before .loop .inv .2 .heap) o _ (let l : length (c .before .before .before .before .before .before .before .pop .result .heap .seg) ≡ 256 = search needs in l)))
+-- src/lib.rt:82:17
+settle-top-requires : tie.Need-settle-top-requires Inv-loop μ-loop
+settle-top-requires c κs =
+    let g = c .before .before .before .before .before .before .before .before .before .loop .inv .2 in
+    ((simp length-set (omega (arith, g .size)), readable-new (c .before .before .before .before .before .before .before .before .before .before .before .before .before .before .before .pre .0) (c .before .before .before .before .before .before .before .before .before .before .before .before .before .before .before .pre .1 .0) g (c .before .before .before .before .before .before .before .before .loop-test .taken) (c .before .before .before .before .before .before .byte .ensures .0) (c .before .before .first-from .ensures)), (g .heap .full, c .before .before .before .before .before .before .before .before .loop-test .taken, g .heap .len, sinking-new (g .heap) (c .before .before .before .before .before .before .before .before .loop-test .taken) (c .before .before .before .before .before .before .byte .ensures .0) _ refl))
 
+-- src/lib.rt:83:9
 add-k : tie.Need-add-k Inv-loop μ-loop
-add-k c =
-    let o = (subst (λ (f : List ℕ). Out f (c .before .before .before .before .before .before .before .before .before .before .before .before .loop .cursors) (c .before .before .before .before .before .before .before .before .before .before .before .before .loop .h) (c .before .before .before .before .before .before .before .before .pop .result .heap) (c .before .before .before .before .before .before .before .byte .result)) (c .before .before .before .before .before .before .before .before .before .before .before .before .before .before .before .before .before .before .pre .1 .1 .0) (subst (λ (n : ℕ). Out (c .before .before .before .before .before .before .before .before .before .before .before .before .before .before .before .before .before .before .args .first .now) (c .before .before .before .before .before .before .before .before .before .before .before .before .loop .cursors) (c .before .before .before .before .before .before .before .before .before .before .before .before .loop .h) (c .before .before .before .before .before .before .before .before .pop .result .heap) n) (sym (c .before .before .before .before .before .before .before .byte .ensures .0)) (c .before .before .before .before .before .before .before .before .pop .ensures))) in
-    let e = room (c .before .before .before .before .before .before .before .before .before .before .before .before .before .before .before .before .before .before .pre .0) (c .before .before .before .before .before .before .before .before .before .before .before .before .before .before .before .before .before .before .pre .1 .0) (c .before .before .before .before .before .before .before .before .before .before .before .before .loop .inv .2) o in
-    omega (arith, e, c .before .before .before .before .before .before .before .before .before .before .before .before .loop .inv .2 .out-size, c .before .before .before .before .before .before .before .before .before .before .before .before .before .before .before .before .before .before .good)
+add-k c = omega (arith, room (c .before .before .before .before .before .before .before .before .before .before .before .before .before .before .before .before .pre .0) (c .before .before .before .before .before .before .before .before .before .before .before .before .before .before .before .before .pre .1 .0) (c .before .before .before .before .before .before .before .before .before .before .loop .inv .2) (c .before .before .before .before .before .before .before .before .before .loop-test .taken) (c .before .before .before .before .before .before .before .byte .ensures .0), c .before .before .before .before .before .before .before .before .before .before .loop .inv .2 .out-size, c .before .before .before .before .before .before .before .before .before .before .before .before .before .before .before .before .good)
 
+-- src/lib.rt:66:5
 loop-less : tie.Need-loop-less Inv-loop μ-loop
-loop-less c =
-    let o = (subst (λ (f : List ℕ). Out f (c .before .before .before .before .before .before .before .before .before .before .before .before .loop .cursors) (c .before .before .before .before .before .before .before .before .before .before .before .before .loop .h) (c .before .before .before .before .before .before .before .before .pop .result .heap) (c .before .before .before .before .before .before .before .byte .result)) (c .before .before .before .before .before .before .before .before .before .before .before .before .before .before .before .before .before .before .pre .1 .1 .0) (subst (λ (n : ℕ). Out (c .before .before .before .before .before .before .before .before .before .before .before .before .before .before .before .before .before .before .args .first .now) (c .before .before .before .before .before .before .before .before .before .before .before .before .loop .cursors) (c .before .before .before .before .before .before .before .before .before .before .before .before .loop .h) (c .before .before .before .before .before .before .before .before .pop .result .heap) n) (sym (c .before .before .before .before .before .before .before .byte .ensures .0)) (c .before .before .before .before .before .before .before .before .pop .ensures))) in
-    let e = room (c .before .before .before .before .before .before .before .before .before .before .before .before .before .before .before .before .before .before .pre .0) (c .before .before .before .before .before .before .before .before .before .before .before .before .before .before .before .before .before .before .pre .1 .0) (c .before .before .before .before .before .before .before .before .before .before .before .before .loop .inv .2) o in
-    simp length-set (omega (arith, e))
+loop-less c = simp length-set (omega (arith, room (c .before .before .before .before .before .before .before .before .before .before .before .before .before .before .before .before .pre .0) (c .before .before .before .before .before .before .before .before .before .before .before .before .before .before .before .before .pre .1 .0) (c .before .before .before .before .before .before .before .before .before .before .loop .inv .2) (c .before .before .before .before .before .before .before .before .before .loop-test .taken) (c .before .before .before .before .before .before .before .byte .ensures .0)))
 
+-- src/lib.rt:66:5
 loop-again : tie.Need-loop-again Inv-loop μ-loop
-loop-again c =
-    let the-loop = c .before .before .before .before .before .before .before .before .before .before .before .before .loop in
-    let the-pop = c .before .before .before .before .before .before .before .before .pop in
-    let the-byte = c .before .before .before .before .before .before .before .byte in
-    let the-pre = c .before .before .before .before .before .before .before .before .before .before .before .before .before .before .before .before .before .before .pre in
-    let the-args = c .before .before .before .before .before .before .before .before .before .before .before .before .before .before .before .before .before .before .args in
-    let the-first-from = c .before .before .before .first-from in
-    let o = (subst (λ (f : List ℕ). Out f (the-loop .cursors) (the-loop .h) (the-pop .result .heap) (the-byte .result)) (the-pre .1 .1 .0) (subst (λ (n : ℕ). Out (the-args .first .now) (the-loop .cursors) (the-loop .h) (the-pop .result .heap) n) (sym (the-byte .ensures .0)) (the-pop .ensures))) in
-    let e = the-first-from .ensures in
-    (_, _, going-more (the-pre .0) (the-pre .1 .0) (the-loop .inv .2) o e (seg-at (c .before .before .before .before .before .before .before)) (subst (λ (f : List ℕ). Back f (set (the-loop .cursors) (the-byte .result) (the-first-from .result)) (the-pop .result .heap) (the-byte .result) (c .push-live .result)) (the-pre .1 .1 .0) (subst (λ (n : ℕ). Back (the-args .first .now) (set (the-loop .cursors) (the-byte .result) (the-first-from .result)) (the-pop .result .heap) n (c .push-live .result)) (sym (the-byte .ensures .0)) (c .push-live .ensures))))
+loop-again c = (_, _, going-more (c .before .before .before .before .before .before .before .before .before .before .before .before .before .before .before .before .pre .0) (c .before .before .before .before .before .before .before .before .before .before .before .before .before .before .before .before .pre .1 .0) (c .before .before .before .before .before .before .before .before .before .before .loop .inv .2) (c .before .before .before .before .before .before .before .before .before .loop-test .taken) (c .before .before .before .before .before .before .before .byte .ensures .0) (c .before .before .before .first-from .ensures) (c .settle-top .ensures))
 
+-- src/lib.rt:44:1
 same-length : tie.Need-same-length Inv-loop μ-loop
-same-length c = omega (arith, c .before .before .loop .inv .2 .size, c .before .before .before .before .before .before .before .before .pre .1 .1 .1 .0 .size)
+same-length c = omega (arith, c .before .loop .inv .2 .size, c .before .before .before .before .before .before .before .pre .1 .1 .0 .size)
 
+-- src/lib.rt:44:1
 same-length-2 : tie.Need-same-length-2 Inv-loop μ-loop
-same-length-2 c = c .before .before .loop .inv .2 .out-size
+same-length-2 c = c .before .loop .inv .2 .out-size
 
+-- src/lib.rt:44:1
 returns : tie.Need-returns Inv-loop μ-loop
-returns c =
-    let the-pre = c .before .before .before .before .before .before .before .before .pre in
-    going-end (the-pre .0) (the-pre .1 .0) (c .before .before .loop .inv .2) (c .if1 .left)
+returns c = going-end (c .before .before .before .before .before .before .before .pre .0) (c .before .before .before .before .before .before .before .pre .1 .0) (c .before .loop .inv .2) (c .loop-test .left)
 
 pub merge-spec : {M : Type 1} → statement M
 merge-spec =
@@ -163,14 +134,14 @@ merge-spec =
     Inv-loop
     μ-loop
     loop-holds
-    pop-requires
+    element-copy-out-byte
     byte-requires
     mul-cursor
     slice-copy-out-cursor
-    cast-t25
-    array-read-t22
-    cast-t28
-    mul-t30
+    cast-t24
+    array-read-t17
+    cast-t27
+    mul-t29
     slice-set-from-out
     mul-first-from
     shared-slice-copy-out-first-from
@@ -182,7 +153,7 @@ merge-spec =
     first-from-requires
     mul-next
     slice-set-from-next
-    push-live-requires
+    settle-top-requires
     add-k
     loop-less
     loop-again

@@ -71,7 +71,7 @@ slice-aggregate-start-heap-2 c = search needs
 start-heap-requires : tie.Need-start-heap-requires
 start-heap-requires c κs =
     let the-fill-cursors = c .before .before .before .fill-cursors in
-    (the-fill-cursors .ensures .size, begins-readable (the-fill-cursors .ensures))
+    (the-fill-cursors .ensures .size, begins-readable _ (the-fill-cursors .ensures))
 
 slice-aggregate-merge : tie.Need-slice-aggregate-merge
 slice-aggregate-merge c = search needs
@@ -109,7 +109,7 @@ merge-requires c κs =
     let the-fill-alives = c .before .before .before .before .before .before .before .before .before .before .before .before .before .before .fill-alives in
     let the-fill-places = c .before .before .before .before .before .before .before .before .before .before .before .before .before .before .before .before .before .fill-places in
     let the-pre = c .before .before .before .before .before .before .before .before .before .before .before .before .before .before .before .before .before .before .before .before .before .before .before .pre in
-    ((subst (λ (p : List (List ℕ)). Ready p (take (length (the-args .records .now)) (the-fill-alives .last .1 .0)) (the-args .ids .now) (the-args .offsets .now) (the-args .values .now) (the-args .alive .now)) (sym (take-table (rawAt (the-args .records .now)) (length (the-args .records .now)) (the-fill-places .last .1 .0) _ (the-fill-places .ensures))) (subst (λ (s : List (List ℕ)). Ready (rawPlaces (the-args .records .now)) s (the-args .ids .now) (the-args .offsets .now) (the-args .values .now) (the-args .alive .now)) (sym (take-table (aliveAt (the-args .records .now)) (length (the-args .records .now)) (the-fill-alives .last .1 .0) _ (the-fill-alives .ensures))) (the-pre .0))), ((subst (λ (p : List (List ℕ)). Rising p (take (length (the-args .records .now)) (the-fill-alives .last .1 .0)) (the-args .ids .now) (the-args .offsets .now) (the-args .values .now) (the-args .alive .now) (the-args .out .now)) (sym (take-table (rawAt (the-args .records .now)) (length (the-args .records .now)) (the-fill-places .last .1 .0) _ (the-fill-places .ensures))) (subst (λ (s : List (List ℕ)). Rising (rawPlaces (the-args .records .now)) s (the-args .ids .now) (the-args .offsets .now) (the-args .values .now) (the-args .alive .now) (the-args .out .now)) (sym (take-table (aliveAt (the-args .records .now)) (length (the-args .records .now)) (the-fill-alives .last .1 .0) _ (the-fill-alives .ensures))) (the-pre .1))), (refl, (c .before .before .before .before .before .before .before .before .before .fill-cursors .ensures, c .before .before .before .before .before .start-heap .ensures))))
+    ((subst (λ (p : List (List ℕ)). Ready p (take (length (the-args .records .now)) (the-fill-alives .last .1 .0)) (the-args .ids .now) (the-args .offsets .now) (the-args .values .now) (the-args .alive .now)) (sym (take-table (rawAt (the-args .records .now)) (length (the-args .records .now)) (the-fill-places .last .1 .0) _ (the-fill-places .ensures))) (subst (λ (s : List (List ℕ)). Ready (rawPlaces (the-args .records .now)) s (the-args .ids .now) (the-args .offsets .now) (the-args .values .now) (the-args .alive .now)) (sym (take-table (aliveAt (the-args .records .now)) (length (the-args .records .now)) (the-fill-alives .last .1 .0) _ (the-fill-alives .ensures))) (the-pre .0))), ((subst (λ (p : List (List ℕ)). Rising p (take (length (the-args .records .now)) (the-fill-alives .last .1 .0)) (the-args .ids .now) (the-args .offsets .now) (the-args .values .now) (the-args .alive .now) (the-args .out .now)) (sym (take-table (rawAt (the-args .records .now)) (length (the-args .records .now)) (the-fill-places .last .1 .0) _ (the-fill-places .ensures))) (subst (λ (s : List (List ℕ)). Rising (rawPlaces (the-args .records .now)) s (the-args .ids .now) (the-args .offsets .now) (the-args .values .now) (the-args .alive .now) (the-args .out .now)) (sym (take-table (aliveAt (the-args .records .now)) (length (the-args .records .now)) (the-fill-alives .last .1 .0) _ (the-fill-alives .ensures))) (the-pre .1))), (c .before .before .before .before .before .before .before .before .before .fill-cursors .ensures, c .before .before .before .before .before .start-heap .ensures)))
 
 same-length : tie.Need-same-length
 same-length c = search needs

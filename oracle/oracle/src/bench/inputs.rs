@@ -9,11 +9,15 @@
 //! mixed-f64  kind 1, I64, U64 and F64 in turn, integers = next(): joined type F64
 //! str        kind 1, Str, one term for ten rows but at most 100,000 ("term" and 8 digits, of twice
 //!            as many), value = next() % terms
+//! terms      the same with one term for each row, and a hundredth of the rows
 //!
 //! stacked            segment after segment
 //! interleaved        row 0 of each segment, row 1 of each segment, ..
 //! shuffled           in random order
 //! interleaved-alive  interleaved, one row in ten withdrawn
+//!
+//! The time order's segments are kind 1, DateTime: in turn, one second later each row, and each
+//! segment after the one before it; overlapping, sorted next() >> 24.
 //!
 //! The converter's segment is that of multi as kind 3, from seed 1.
 use tantivy_columnar::ColumnType;
@@ -21,7 +25,9 @@ use tantivy_columnar::ColumnType;
 use crate::rng::Rng;
 use crate::wire::{Input, Seg};
 
-pub const COLUMNS: &[&str] = &["full", "opt", "optsparse", "multi", "mixed", "mixed-f64", "str"];
+pub const COLUMNS: &[&str] = &["full", "opt", "optsparse", "multi", "mixed", "mixed-f64", "str", TERMS];
+/// The column that is measured with up to 256 segments.
+pub const TERMS: &str = "terms";
 pub const ORDERS: &[&str] = &["stacked", "interleaved", "shuffled", "interleaved-alive"];
 
 /// A line of the table: a column in a row order.
@@ -46,7 +52,7 @@ impl Line {
         match self.column {
             "mixed" => ColumnType::I64,
             "mixed-f64" => ColumnType::F64,
-            "str" => ColumnType::Str,
+            "str" | TERMS => ColumnType::Str,
             _ => ColumnType::U64,
         }
     }
@@ -55,9 +61,14 @@ impl Line {
     /// terms.
     pub fn openings(&self) -> u32 {
         match self.column {
-            "multi" | "str" => 2,
+            "multi" | "str" | TERMS => 2,
             _ => 1,
         }
+    }
+
+    /// The rows of a segment, where `rows` are those of most columns.
+    pub fn rows(&self, rows: u32) -> u32 {
+        if self.column == TERMS { rows.div_ceil(100) } else { rows }
     }
 
     pub fn input(&self, segs: usize, rows: u32) -> Input {
@@ -92,10 +103,39 @@ impl Line {
                 s.ty = i as u32 % 3;
                 s.values = (0..rows).map(|_| number(s.ty, rng.next())).collect();
             }
-            "str" => dictionary(&mut s, &mut rng),
+            "str" => dictionary(&mut s, &mut rng, (rows as usize / 10).clamp(1, 100_000)),
+            TERMS => dictionary(&mut s, &mut rng, rows as usize),
             other => panic!("column {other}?"),
         }
         s
+    }
+}
+
+/// How the times of a time order lie.
+#[derive(Clone, Copy, PartialEq, Eq)]
+pub enum Times {
+    InTurn,
+    Overlapping,
+}
+
+impl Times {
+    pub fn name(self) -> &'static str {
+        match self {
+            Times::InTurn => "in turn",
+            Times::Overlapping => "overlapping",
+        }
+    }
+
+    pub fn segments(self, segs: usize, rows: u32) -> Vec<Seg> {
+        let times = |i: u64| match self {
+            Times::InTurn => (i * rows as u64..(i + 1) * rows as u64).map(|n| 1_000_000_000 * n).collect(),
+            Times::Overlapping => {
+                let mut times = words(&mut Rng::new(1 + i), rows);
+                times.sort_unstable();
+                times
+            }
+        };
+        (0..segs as u64).map(|i| Seg { ty: 7, kind: 1, rows, values: times(i), ..Seg::default() }).collect()
     }
 }
 
@@ -140,9 +180,8 @@ fn multivalued(s: &mut Seg, rng: &mut Rng, kind: u32) {
     s.values = words(rng, total);
 }
 
-fn dictionary(s: &mut Seg, rng: &mut Rng) {
+fn dictionary(s: &mut Seg, rng: &mut Rng, most: usize) {
     s.ty = 4;
-    let most = (s.rows as usize / 10).clamp(1, 100_000);
     let all = 2 * most;
     for t in 0..all {
         // each choice of so many terms is equally likely

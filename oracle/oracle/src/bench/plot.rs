@@ -1,4 +1,4 @@
-//! The growth series as an SVG picture: a panel for each line, both axes logarithmic and the same in
+//! A growth series as an SVG picture: a panel for each line, both axes logarithmic and the same in
 //! all panels.
 use std::fmt::Write;
 
@@ -17,7 +17,7 @@ const MARGIN: f64 = 0.08;
 const CURVES: [(&str, &str, &str); 3] =
     [("crate", "#c2410c", "6 3"), ("ours", "#1d4ed8", "none"), ("plain copy", "#6b7280", "1.5 3")];
 
-/// A line's name, and per size the joined rows and the three times.
+/// A line's name, and per size the joined rows, or the segments, and the three times.
 type Panel = (String, Vec<(f64, [f64; 3])>);
 
 /// Least and greatest, as logarithms.
@@ -26,9 +26,10 @@ struct Axes {
     y: (f64, f64),
 }
 
-/// The picture of what `growth` prints.
+/// The picture of what `growth` or `segments` prints.
 pub fn plot(csv: &str) -> Result<String, String> {
     let panels = read(csv)?;
+    let by = csv.split(',').nth(2).unwrap_or_default().replace('_', " ");
     let axes = axes(&panels);
     let rows = panels.len().div_ceil(ACROSS);
     let across = panels.len().clamp(2, ACROSS);
@@ -39,14 +40,15 @@ pub fn plot(csv: &str) -> Result<String, String> {
          height=\"{height}\" font-family=\"sans-serif\" font-size=\"12\" fill=\"#111827\">\n\
          <rect width=\"{width}\" height=\"{height}\" fill=\"#ffffff\"/>\n"
     );
-    text(&mut svg, (LEFT, 22.0), "start", "font-size=\"15\"", "ns per joined row, by number of joined rows");
+    let title = format!("ns per joined row, by number of {by}");
+    text(&mut svg, (LEFT, 22.0), "start", "font-size=\"15\"", &title);
     legend(&mut svg);
     for (i, panel) in panels.iter().enumerate() {
         let at = (LEFT + (i % ACROSS) as f64 * (WIDTH + GAP_X), TOP + (i / ACROSS) as f64 * (HEIGHT + GAP_Y));
         draw_panel(&mut svg, panel, &axes, at, i % ACROSS == 0);
     }
     let middle = LEFT + (width - LEFT - 24.0) / 2.0;
-    text(&mut svg, (middle, height - 14.0), "middle", "", "joined rows");
+    text(&mut svg, (middle, height - 14.0), "middle", "", &by);
     let turned = format!("transform=\"rotate(-90 16 {0})\"", height / 2.0);
     text(&mut svg, (16.0, height / 2.0), "middle", &turned, "ns per joined row");
     svg.push_str("</svg>\n");

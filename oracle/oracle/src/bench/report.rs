@@ -1,6 +1,7 @@
 //! The table and the growth series as text, and the machine that they were made on.
-use super::inputs::{Line, lines};
-use super::{Measured, MeasuredConversion, ROUNDS, keep_memory, measure, measure_conversion};
+use super::inputs::{Line, TERMS, Times, lines};
+use super::{Measured, MeasuredConversion, MeasuredOrder, ROUNDS};
+use super::{keep_memory, measure, measure_conversion, measure_order};
 use crate::compare::has_library;
 
 /// The lines whose growth is measured if none are named.
@@ -13,15 +14,32 @@ const GROWTH: &[Line] = &[
     Line { column: "str", order: "interleaved-alive" },
 ];
 
+/// The lines whose growth with the number of segments is measured if none are named.
+const BY_SEGMENTS: &[Line] =
+    &[Line { column: TERMS, order: "stacked" }, Line { column: TERMS, order: "interleaved-alive" }];
+
+/// As many as a call takes.
+const MOST_SEGMENTS: usize = 256;
+
 /// Prints the tables of the lines that have `word` in their name. False if checksums differ.
 pub fn table(segs: usize, rows: u32, word: &str) -> Result<bool, String> {
     let lines = lines(word);
-    let converter = CONVERTER.contains(word);
-    begin(lines.len() + converter as usize)?;
+    let (order, converter) = (ORDER.contains(word), CONVERTER.contains(word));
+    if lines.is_empty() && !order && !converter {
+        return Err("no line has that word in its name".into());
+    }
+    begin()?;
     println!("{}", machine());
+    let (terms, plain): (Vec<Line>, Vec<Line>) = lines.into_iter().partition(|line| line.column == TERMS);
     let mut all_equal = true;
-    if !lines.is_empty() {
-        all_equal &= joins(&lines, segs, rows);
+    if !plain.is_empty() {
+        all_equal &= joins(&plain, segs, rows);
+    }
+    if !terms.is_empty() {
+        all_equal &= joins(&terms, MOST_SEGMENTS, rows);
+    }
+    if order {
+        all_equal &= time_orders(segs, rows);
     }
     if converter {
         all_equal &= conversion((segs as u32).saturating_mul(rows));
@@ -30,10 +48,10 @@ pub fn table(segs: usize, rows: u32, word: &str) -> Result<bool, String> {
 }
 
 fn joins(lines: &[Line], segs: usize, rows: u32) -> bool {
-    print_head(segs, rows);
+    print_head(segs, lines[0].rows(rows));
     let (mut met, mut equal) = (0, 0);
     for &line in lines {
-        let m = measure(line, segs, rows);
+        let m = measure(line, segs, line.rows(rows));
         let missed = missed(&m);
         met += missed.is_none() as usize;
         equal += (m.sums[0] == m.sums[1]) as usize;
@@ -42,6 +60,38 @@ fn joins(lines: &[Line], segs: usize, rows: u32) -> bool {
     }
     println!("\nTargets met on {met} of {} lines; checksums equal on {equal}.", lines.len());
     equal == lines.len()
+}
+
+/// The time order's name where lines are named.
+const ORDER: &str = "time order";
+
+fn time_orders(segs: usize, rows: u32) -> bool {
+    println!(
+        "\nThe time order: {segs} segments of {} rows, one after the other in time or overlapping, beside \
+         `sort_unstable` of (time, segment, row). Times in ns per row, processor time, least of {ROUNDS} rounds.\n",
+        grouped(rows as usize)
+    );
+    println!("| Segments | Rows | Ours | Sort | Sort / ours | Checksum of both |");
+    println!("|---|--:|--:|--:|--:|---|");
+    let mut all_equal = true;
+    for times in [Times::InTurn, Times::Overlapping] {
+        let MeasuredOrder { rows, ours, sort, sums } = measure_order(times, segs, rows);
+        println!(
+            "| {} | {} | {} | {} | {} | {} |",
+            times.name(),
+            grouped(rows),
+            digits(ours),
+            digits(sort),
+            digits(sort / ours),
+            sum(sums)
+        );
+        let equal = if sums[0] == sums[1] { "" } else { ", CHECKSUMS DIFFER" };
+        let name = format!("{ORDER} {}", times.name());
+        let (ours, sort) = (digits(ours), digits(sort));
+        eprintln!("{name:<28} {rows:>10} rows: ours {ours:>8}, sort {sort:>8} ns per row{equal}");
+        all_equal &= sums[0] == sums[1];
+    }
+    all_equal
 }
 
 /// The converter's name where lines are named.
@@ -109,11 +159,16 @@ fn sum(sums: [u64; 2]) -> String {
 }
 
 /// The target that a line misses: at least as fast as the crate; at least four times as fast on
-/// stacked Full, Optional and multivalued; stacked Full within three times a plain copy.
+/// stacked Full, Optional and multivalued, three times on Str; stacked Full within three times a
+/// plain copy.
 fn missed(m: &Measured) -> Option<String> {
     let stacked = m.line.order == "stacked";
     let plain = matches!(m.line.column, "full" | "opt" | "optsparse" | "multi");
-    let wanted = if stacked && plain { 4.0 } else { 1.0 };
+    let wanted = match m.line.column {
+        "str" => 3.0,
+        _ if stacked && plain => 4.0,
+        _ => 1.0,
+    };
     if m.theirs < m.ours {
         return Some("slower than the crate".to_string());
     }
@@ -127,34 +182,55 @@ fn missed(m: &Measured) -> Option<String> {
 }
 
 /// Prints, as comma-separated values, the times at sizes that grow by half powers of ten from 1,000
-/// rows a segment to `most`. False if checksums differ.
+/// rows a segment to `most`. Time order and converter have no lines here. False if checksums differ.
 pub fn growth(segs: usize, most: u32, word: &str) -> Result<bool, String> {
     let lines = if word.is_empty() { GROWTH.to_vec() } else { lines(word) };
-    begin(lines.len())?;
-    println!("column,order,joined_rows,crate_ns_per_row,ours_ns_per_row,copy_ns_per_row");
+    begin()?;
+    print_points("joined_rows");
     let mut equal = true;
     for line in lines {
         for rows in sizes(most) {
-            let m = measure(line, segs, rows);
-            let (column, order) = (m.line.column, m.line.order);
-            println!("{column},{order},{},{:.5},{:.5},{:.5}", m.rows, m.theirs, m.ours, m.copy);
-            progress(&m);
-            equal &= m.sums[0] == m.sums[1];
+            let m = measure(line, segs, line.rows(rows));
+            equal &= point(&m, m.rows);
         }
     }
     Ok(equal)
+}
+
+/// The same at numbers of segments that double, up to 256, of a hundredth of the rows.
+pub fn segments(most: usize, rows: u32, word: &str) -> Result<bool, String> {
+    let lines = if word.is_empty() { BY_SEGMENTS.to_vec() } else { lines(word) };
+    begin()?;
+    print_points("segments");
+    let mut equal = true;
+    for line in lines {
+        for segs in (0..).map(|i| 1 << i).take_while(|&segs| segs <= most.min(MOST_SEGMENTS)) {
+            let m = measure(line, segs, rows.div_ceil(100));
+            equal &= point(&m, segs);
+        }
+    }
+    Ok(equal)
+}
+
+fn print_points(by: &str) {
+    println!("column,order,{by},crate_ns_per_row,ours_ns_per_row,copy_ns_per_row");
+}
+
+/// Prints a point of a series. False if checksums differ.
+fn point(m: &Measured, at: usize) -> bool {
+    let Line { column, order } = m.line;
+    println!("{column},{order},{at},{:.5},{:.5},{:.5}", m.theirs, m.ours, m.copy);
+    progress(m);
+    m.sums[0] == m.sums[1]
 }
 
 fn sizes(most: u32) -> impl Iterator<Item = u32> {
     (0..).map(|i| 10f64.powf(3.0 + i as f64 / 2.0).round() as u32).take_while(move |&rows| rows <= most)
 }
 
-fn begin(lines: usize) -> Result<(), String> {
+fn begin() -> Result<(), String> {
     if !has_library() {
         return Err("built without the library: set JADMIRUS_LIB to its path when building".into());
-    }
-    if lines == 0 {
-        return Err("no line has that word in its name".into());
     }
     keep_memory();
     Ok(())

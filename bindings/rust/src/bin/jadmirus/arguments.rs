@@ -42,6 +42,8 @@ pub struct Arguments {
     pub times: bool,
     /// To print a joined column's rows, not its listing.
     pub rows: bool,
+    /// To print its numbers, not its listing.
+    pub numbers: bool,
 }
 
 pub enum Request {
@@ -77,7 +79,7 @@ impl Command {
         match option {
             "--from" => true,
             "--output" => self != Command::Check,
-            "--as" | "--rows" => self == Command::Join,
+            "--as" | "--rows" | "--numbers" => self == Command::Join,
             "--times" => self == Command::Check,
             _ => false,
         }
@@ -117,6 +119,7 @@ fn of_command(
         output_form: None,
         times: false,
         rows: false,
+        numbers: false,
     };
     while let Some(word) = words.next() {
         match word.to_str() {
@@ -150,6 +153,12 @@ fn contradiction(arguments: &Arguments) -> Option<&'static str> {
         Some(Place::Standard) if arguments.rows => {
             Some("'--rows' and '--output -' both write to standard output")
         }
+        Some(Place::Standard) if arguments.numbers => {
+            Some("'--numbers' and '--output -' both write to standard output")
+        }
+        _ if arguments.rows && arguments.numbers => {
+            Some("'--rows' and '--numbers' both stand in the listing's place")
+        }
         _ => None,
     }
 }
@@ -171,7 +180,7 @@ fn take_option(
     if !arguments.command.takes(option) {
         return Err(format!("'{option}' is no option of it"));
     }
-    if behind.is_some() && matches!(option, "--times" | "--rows") {
+    if behind.is_some() && matches!(option, "--times" | "--rows" | "--numbers") {
         return Err(format!("'{option}' takes no value"));
     }
     let value = || {
@@ -181,6 +190,7 @@ fn take_option(
     match option {
         "--times" => arguments.times = true,
         "--rows" => arguments.rows = true,
+        "--numbers" => arguments.numbers = true,
         "--output" => arguments.output = Some(place(value()?)),
         "--from" => arguments.from = Some(form_of(&value()?)?),
         _ => arguments.output_form = Some(form_of(&value()?)?),

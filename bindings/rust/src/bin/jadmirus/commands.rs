@@ -53,9 +53,10 @@ fn join(arguments: &Arguments, input: Input) -> Result<Status, Failure> {
         hand_on(joined.clone(), output, form)?;
     }
     if arguments.output != Some(Place::Standard) {
-        to_stdout(|out| match arguments.rows {
-            true => write_rows(&joined, out),
-            false => joined.write_listing(out),
+        to_stdout(|out| match (arguments.rows, arguments.numbers) {
+            (true, _) => write_rows(&joined, out),
+            (_, true) => joined.write_numbers(out),
+            _ => joined.write_listing(out),
         })?;
     }
     Ok(Status::Accepted)

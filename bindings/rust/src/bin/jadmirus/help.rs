@@ -35,7 +35,7 @@ Numbers are decimal, or hexadecimal after 0x. FORMAT.md has the whole of it.
 ";
 
 const JOIN: &str = "\
-jadmirus join FILE [--rows] [--output FILE] [--as sheet|wire] [--from sheet|wire]
+jadmirus join FILE [--rows|--numbers] [--output FILE] [--as sheet|wire] [--from sheet|wire]
 
 Joins the segments of FILE and lists the column: answer, type, class, rows, then ids,
 offsets, values, terms and maps, each after its number of elements. Values are unsigned
@@ -46,6 +46,8 @@ convert' has made them new ones.
 
   --rows          print the values in words in the listing's place: each row that has any, its
                   number (from 0) and its values
+  --numbers       print the numbers of the result in the listing's place: type, class, rows, how
+                  many elements each list has, and how many term bytes were copied
   --output FILE   write the joined column too, as one segment to be joined again: sheets of
                   results can be put together ('cat week1 week2 | jadmirus join -').
                   '-': to standard output, in the listing's place
