@@ -129,9 +129,9 @@ fn guess_at(work: &[u8], at: usize) -> usize {
     a + b * 256 + c * 65536 + d * 16777216
 }
 
-// A guess at the row's rank in its segment.
+// A guess at the row's rank in its segment; kinds 0 and 1 have no ids, and their rows are not held up.
 fn guess(place: [usize; 8], base: usize, row: u32, work: &[u8]) -> usize {
-    if place[3] <= place[2] {
+    if place[0] <= 1 {
         return 0;
     }
     if work.len() <= base {
