@@ -68,17 +68,11 @@ fn measure(line: Line, segs: usize, rows: u32) -> Measured {
         0 => segs * rows as usize,
         _ => input.addresses.len(),
     };
-    let repeats = (1_000_000 / joined.max(1)).clamp(1, 100) as u32;
+    let repeats = repeats(joined);
     let mut theirs = Theirs::new(&input, line, joined);
     let mut ours = Ours::new(&input, joined);
     let mut copy = PlainCopy::default();
-    let mut clock = Clock { look: Duration::MAX, opening: Duration::MAX };
-    let mut least = [Duration::MAX; 3];
-    for _ in 0..ROUNDS {
-        clock = clock.least(Clock::new());
-        let times = [theirs.time(repeats), ours.time(repeats), copy.time(ours.lists())];
-        least = std::array::from_fn(|i| least[i].min(times[i]));
-    }
+    let (clock, least) = rounds(|| [theirs.time(repeats), ours.time(repeats), copy.time(ours.lists())]);
     let looks = [theirs.looks(&clock), clock.look / repeats, clock.look / copy.copies];
     let per_row = |i: usize| least[i].saturating_sub(looks[i]).as_nanos() as f64 / joined as f64;
     ours.check_type(line);
@@ -92,6 +86,32 @@ fn measure(line: Line, segs: usize, rows: u32) -> Measured {
         copy: per_row(2),
         sums: [theirs.checksum(), checksum(ids, offsets, values)],
     }
+}
+
+/// How often a call is repeated in a round.
+fn repeats(rows: usize) -> u32 {
+    (1_000_000 / rows.max(1)).clamp(1, 100) as u32
+}
+
+/// The mean time of a call.
+fn mean(repeats: u32, mut call: impl FnMut()) -> Duration {
+    let t = hook::now();
+    for _ in 0..repeats {
+        call();
+    }
+    (hook::now() - t) / repeats
+}
+
+/// The least time of each side over all rounds, and what the clock takes.
+fn rounds<const SIDES: usize>(mut round: impl FnMut() -> [Duration; SIDES]) -> (Clock, [Duration; SIDES]) {
+    let mut clock = Clock { look: Duration::MAX, opening: Duration::MAX };
+    let mut least = [Duration::MAX; SIDES];
+    for _ in 0..ROUNDS {
+        clock = clock.least(Clock::new());
+        let times = round();
+        least = std::array::from_fn(|i| least[i].min(times[i]));
+    }
+    (clock, least)
 }
 
 /// What was measured of the converter: numbers of rows, of rows with a value and of values, ns per
@@ -112,19 +132,12 @@ fn measure_conversion(rows: u32) -> MeasuredConversion {
     let rows = rows as usize;
     let mut lists = NewLists::new(Space { ids: rows, offsets: rows + 1 }, 1);
     let mut joiner = library();
-    let repeats = (1_000_000 / rows.max(1)).clamp(1, 100) as u32;
+    let repeats = repeats(rows);
     let mut copy = PlainCopy::default();
-    let mut look = Duration::MAX;
-    let mut least = [Duration::MAX; 2];
-    for _ in 0..ROUNDS {
-        look = look.min(Clock::new().look);
-        let t = hook::now();
-        for _ in 0..repeats {
-            assert_eq!(joiner.convert(&sections, &mut lists), 0);
-        }
-        let times = [(hook::now() - t) / repeats, copy.time((&[], &old.offsets, &[]))];
-        least = std::array::from_fn(|i| least[i].min(times[i]));
-    }
+    let (Clock { look, .. }, least) = rounds(|| {
+        let ours = mean(repeats, || assert_eq!(joiner.convert(&sections, &mut lists), 0));
+        [ours, copy.time((&[], &old.offsets, &[]))]
+    });
     let looks = [look / repeats, look / copy.copies];
     let per_row = |i: usize| least[i].saturating_sub(looks[i]).as_nanos() as f64 / rows as f64;
     let numbers: [usize; 2] = std::array::from_fn(|i| lists.record.lent()[3 + i] as usize);
@@ -157,22 +170,12 @@ fn measure_order(times: Times, segs: usize, rows: u32) -> MeasuredOrder {
     let mut sorted = given.clone();
     let sections = Input { mode: 0, required: 255, segs: segs.clone(), addresses: vec![] }.sections();
     let (mut addresses, mut count) = (vec![[1; 2]; rows], 0);
-    let repeats = (1_000_000 / rows.max(1)).clamp(1, 100) as u32;
-    let mut look = Duration::MAX;
-    let mut least = [Duration::MAX; 2];
-    for _ in 0..ROUNDS {
-        look = look.min(Clock::new().look);
-        let t = hook::now();
-        for _ in 0..repeats {
-            assert_eq!(time_order(&sections, &mut addresses, &mut count), 0);
-        }
-        let ours = (hook::now() - t) / repeats;
+    let repeats = repeats(rows);
+    let (Clock { look, .. }, least) = rounds(|| {
+        let ours = mean(repeats, || assert_eq!(time_order(&sections, &mut addresses, &mut count), 0));
         sorted.copy_from_slice(&given);
-        let t = hook::now();
-        sorted.sort_unstable();
-        let times = [ours, hook::now() - t];
-        least = std::array::from_fn(|i| least[i].min(times[i]));
-    }
+        [ours, mean(1, || sorted.sort_unstable())]
+    });
     let looks = [look / repeats, look];
     let per_row = |i: usize| least[i].saturating_sub(looks[i]).as_nanos() as f64 / rows as f64;
     let words = |list: &[[u32; 2]]| checksum(list.as_flattened(), &[], &[]);
@@ -349,12 +352,7 @@ impl Ours {
 
     /// The mean of the repeats.
     fn time(&mut self, repeats: u32) -> Duration {
-        let t = hook::now();
-        for _ in 0..repeats {
-            let answer = self.joiner.join(&self.sections, &mut self.lent);
-            assert_eq!(answer, 0);
-        }
-        (hook::now() - t) / repeats
+        mean(repeats, || assert_eq!(self.joiner.join(&self.sections, &mut self.lent), 0))
     }
 
     fn check_type(&mut self, line: Line) {
@@ -402,13 +400,11 @@ impl PlainCopy {
         self.to.ids.resize(ids.len(), 1);
         self.to.offsets.resize(offsets.len(), 1);
         self.to.values.resize(values.len(), 1);
-        let t = hook::now();
-        for _ in 0..self.copies {
+        mean(self.copies, || {
             self.to.ids.copy_from_slice(ids);
             self.to.offsets.copy_from_slice(offsets);
             self.to.values.copy_from_slice(values);
             std::hint::black_box(&mut self.to);
-        }
-        (hook::now() - t) / self.copies
+        })
     }
 }
