@@ -1,7 +1,10 @@
 // Cases as text: hexadecimal numbers, parted by anything that is no digit, and lists of them, each after its count. A number too wide for its place
 // is taken as the widest, and a list longer than its place is cut.
-ghost use Prim.Native.Nat.{_≤_};
+ghost use mathlib.Core.Path.{_≡_};
 ghost use Rattle.case_text.specs.Counts.{Counts};
+ghost use Rattle.case_text.specs.Text.{capAt, digitOf, skipFrom, numberIn, cappedIn, rowIn, Listed};
+ghost use lib.ListN.{drop};
+ghost use Prim.Native.Nat.{_≤_};
 
 // A number, and the place behind it.
 pub struct Found {
@@ -27,7 +30,7 @@ struct PairAt {
 
 // The number of a hexadecimal digit, 16 for another byte.
 fn digit(b: u8) -> u64
-    ensures { λ r. ⌜ r ≤ 16 ⌝ }
+    ensures { λ r. ⌜ (r ≡ digitOf b) × (r ≤ 16) ⌝ }
 {
     if b < 48 {
         return 16;
@@ -45,7 +48,9 @@ fn digit(b: u8) -> u64
 }
 
 // The first place from the given one on that has a digit.
-fn skip(text: &[u8], from: usize) -> usize {
+fn skip(text: &[u8], from: usize) -> usize
+    ensures { λ r. ⌜ r ≡ skipFrom from (drop from (now (text .entry))) ⌝ }
+{
     let mut i = from;
     while i < text.len() {
         if digit(text[i]) < 16 {
@@ -57,7 +62,9 @@ fn skip(text: &[u8], from: usize) -> usize {
 }
 
 // The next number; 0 at the end of the text.
-pub fn number(text: &[u8], from: usize) -> Found {
+pub fn number(text: &[u8], from: usize) -> Found
+    ensures { λ r. ⌜ (r .value, r .at) ≡ numberIn (now (text .entry)) from ⌝ }
+{
     let mut i = skip(text, from);
     let mut n: u64 = 0;
     while i < text.len() {
@@ -74,15 +81,20 @@ pub fn number(text: &[u8], from: usize) -> Found {
     Found { value: n, at: i }
 }
 
-pub fn narrow(n: u64) -> u32 {
-    if n < 4294967296 {
+// As 32 bits.
+pub fn narrow(n: u64) -> u32
+    ensures { λ r. ⌜ r ≡ capAt 4294967295 n ⌝ }
+{
+    if n < 4294967295 {
         return n as u32;
     }
     4294967295
 }
 
-fn byte(n: u64) -> u8 {
-    if n < 256 {
+fn byte(n: u64) -> u8
+    ensures { λ r. ⌜ r ≡ capAt 255 n ⌝ }
+{
+    if n < 255 {
         return n as u8;
     }
     255
@@ -90,7 +102,7 @@ fn byte(n: u64) -> u8 {
 
 // A count that a place of so many elements can hold.
 pub fn capped(n: u64, most: usize) -> usize
-    ensures { λ r. ⌜ r ≤ most ⌝ }
+    ensures { λ r. ⌜ (r ≡ capAt most n) × (r ≤ most) ⌝ }
 {
     let k = n as usize;
     if k < most {
@@ -101,6 +113,7 @@ pub fn capped(n: u64, most: usize) -> usize
 
 pub fn read_words(text: &[u8], from: usize, out: &mut [u64]) -> Part
     ensures { λ r. ⌜ Counts (r .count) (now (out .exit)) ⌝ }
+    ensures { λ r. ⌜ Listed (numberIn (now (text .entry))) (now (text .entry)) from (now (out .entry)) (r .count) (r .at) (now (out .exit)) ⌝ }
 {
     let c = number(text, from);
     let n = capped(c.value, out.len());
@@ -117,6 +130,7 @@ pub fn read_words(text: &[u8], from: usize, out: &mut [u64]) -> Part
 
 pub fn read_numbers(text: &[u8], from: usize, out: &mut [u32]) -> Part
     ensures { λ r. ⌜ Counts (r .count) (now (out .exit)) ⌝ }
+    ensures { λ r. ⌜ Listed (cappedIn 4294967295 (now (text .entry))) (now (text .entry)) from (now (out .entry)) (r .count) (r .at) (now (out .exit)) ⌝ }
 {
     let c = number(text, from);
     let n = capped(c.value, out.len());
@@ -133,6 +147,7 @@ pub fn read_numbers(text: &[u8], from: usize, out: &mut [u32]) -> Part
 
 pub fn read_bytes(text: &[u8], from: usize, out: &mut [u8]) -> Part
     ensures { λ r. ⌜ Counts (r .count) (now (out .exit)) ⌝ }
+    ensures { λ r. ⌜ Listed (cappedIn 255 (now (text .entry))) (now (text .entry)) from (now (out .entry)) (r .count) (r .at) (now (out .exit)) ⌝ }
 {
     let c = number(text, from);
     let n = capped(c.value, out.len());
@@ -147,7 +162,9 @@ pub fn read_bytes(text: &[u8], from: usize, out: &mut [u8]) -> Part
     Part { count: n, at: at }
 }
 
-fn read_record(text: &[u8], from: usize) -> RecordAt {
+fn read_record(text: &[u8], from: usize) -> RecordAt
+    ensures { λ r. ⌜ (r .record, r .at) ≡ rowIn 8 (now (text .entry)) from ⌝ }
+{
     let a = number(text, from);
     let b = number(text, a.at);
     let c = number(text, b.at);
@@ -175,6 +192,7 @@ fn read_record(text: &[u8], from: usize) -> RecordAt {
 // Segment records, counted whole.
 pub fn read_records(text: &[u8], from: usize, out: &mut [[u32; 8]]) -> Part
     ensures { λ r. ⌜ Counts (r .count) (now (out .exit)) ⌝ }
+    ensures { λ r. ⌜ Listed (rowIn 8 (now (text .entry))) (now (text .entry)) from (now (out .entry)) (r .count) (r .at) (now (out .exit)) ⌝ }
 {
     let c = number(text, from);
     let n = capped(c.value, out.len());
@@ -190,7 +208,9 @@ pub fn read_records(text: &[u8], from: usize, out: &mut [[u32; 8]]) -> Part
     Part { count: n, at: at }
 }
 
-fn read_pair(text: &[u8], from: usize) -> PairAt {
+fn read_pair(text: &[u8], from: usize) -> PairAt
+    ensures { λ r. ⌜ (r .pair, r .at) ≡ rowIn 2 (now (text .entry)) from ⌝ }
+{
     let a = number(text, from);
     let b = number(text, a.at);
     let p = [narrow(a.value), narrow(b.value)];
@@ -200,6 +220,7 @@ fn read_pair(text: &[u8], from: usize) -> PairAt {
 // Addresses (segment, row), counted in pairs.
 pub fn read_pairs(text: &[u8], from: usize, out: &mut [[u32; 2]]) -> Part
     ensures { λ r. ⌜ Counts (r .count) (now (out .exit)) ⌝ }
+    ensures { λ r. ⌜ Listed (rowIn 2 (now (text .entry))) (now (text .entry)) from (now (out .entry)) (r .count) (r .at) (now (out .exit)) ⌝ }
 {
     let c = number(text, from);
     let n = capped(c.value, out.len());

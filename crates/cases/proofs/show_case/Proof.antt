@@ -58,57 +58,57 @@ read-pairs-requires c κs = search needs
 
 -- antt refused `array-share-prefix-records` as it was built: the module's report says why
 array-share-prefix-records : tie.Need-array-share-prefix-records
-array-share-prefix-records c = c .before .before .before .before .before .before .before .before .before .before .before .before .before .before .before .before .before .before .before .before .before .before .read-records .ensures .0
+array-share-prefix-records c = c .before .before .before .before .before .before .before .before .before .before .before .before .before .before .before .before .before .before .before .before .before .before .read-records .ensures .0 .0
 
 -- antt refused `slice-aggregate-run` as it was built: the module's report says why
 slice-aggregate-run : tie.Need-slice-aggregate-run
-slice-aggregate-run c = c .before .before .before .before .before .before .before .before .before .before .before .before .before .before .before .before .before .before .before .before .before .before .before .read-records .ensures .1
+slice-aggregate-run c = c .before .before .before .before .before .before .before .before .before .before .before .before .before .before .before .before .before .before .before .before .before .before .before .read-records .ensures .0 .1
 
 -- antt refused `array-share-prefix-ids` as it was built: the module's report says why
 array-share-prefix-ids : tie.Need-array-share-prefix-ids
-array-share-prefix-ids c = c .before .before .before .before .before .before .before .before .before .before .before .before .before .before .before .before .before .before .before .before .read-numbers .ensures .0
+array-share-prefix-ids c = c .before .before .before .before .before .before .before .before .before .before .before .before .before .before .before .before .before .before .before .before .read-numbers .ensures .0 .0
 
 -- antt refused `slice-aggregate-run-2` as it was built: the module's report says why
 slice-aggregate-run-2 : tie.Need-slice-aggregate-run-2
-slice-aggregate-run-2 c = c .before .before .before .before .before .before .before .before .before .before .before .before .before .before .before .before .before .before .before .before .before .read-numbers .ensures .1
+slice-aggregate-run-2 c = c .before .before .before .before .before .before .before .before .before .before .before .before .before .before .before .before .before .before .before .before .before .read-numbers .ensures .0 .1
 
 -- antt refused `array-share-prefix-offsets` as it was built: the module's report says why
 array-share-prefix-offsets : tie.Need-array-share-prefix-offsets
-array-share-prefix-offsets c = c .before .before .before .before .before .before .before .before .before .before .before .before .before .before .before .before .before .before .read-numbers2 .ensures .0
+array-share-prefix-offsets c = c .before .before .before .before .before .before .before .before .before .before .before .before .before .before .before .before .before .before .read-numbers2 .ensures .0 .0
 
 -- antt refused `slice-aggregate-run-3` as it was built: the module's report says why
 slice-aggregate-run-3 : tie.Need-slice-aggregate-run-3
-slice-aggregate-run-3 c = c .before .before .before .before .before .before .before .before .before .before .before .before .before .before .before .before .before .before .before .read-numbers2 .ensures .1
+slice-aggregate-run-3 c = c .before .before .before .before .before .before .before .before .before .before .before .before .before .before .before .before .before .before .before .read-numbers2 .ensures .0 .1
 
 array-share-prefix-values : tie.Need-array-share-prefix-values
-array-share-prefix-values c = c .before .before .before .before .before .before .before .before .before .before .before .before .before .before .before .before .read-words .ensures .0
+array-share-prefix-values c = c .before .before .before .before .before .before .before .before .before .before .before .before .before .before .before .before .read-words .ensures .0 .0
 
 slice-aggregate-run-4 : tie.Need-slice-aggregate-run-4
-slice-aggregate-run-4 c = c .before .before .before .before .before .before .before .before .before .before .before .before .before .before .before .before .before .read-words .ensures .1
+slice-aggregate-run-4 c = c .before .before .before .before .before .before .before .before .before .before .before .before .before .before .before .before .before .read-words .ensures .0 .1
 
 array-share-prefix-lengths : tie.Need-array-share-prefix-lengths
-array-share-prefix-lengths c = c .before .before .before .before .before .before .before .before .before .before .before .before .before .before .read-numbers3 .ensures .0
+array-share-prefix-lengths c = c .before .before .before .before .before .before .before .before .before .before .before .before .before .before .read-numbers3 .ensures .0 .0
 
 slice-aggregate-run-5 : tie.Need-slice-aggregate-run-5
-slice-aggregate-run-5 c = c .before .before .before .before .before .before .before .before .before .before .before .before .before .before .before .read-numbers3 .ensures .1
+slice-aggregate-run-5 c = c .before .before .before .before .before .before .before .before .before .before .before .before .before .before .before .read-numbers3 .ensures .0 .1
 
 array-share-prefix-bytes : tie.Need-array-share-prefix-bytes
-array-share-prefix-bytes c = c .before .before .before .before .before .before .before .before .before .before .before .before .read-bytes .ensures .0
+array-share-prefix-bytes c = c .before .before .before .before .before .before .before .before .before .before .before .before .read-bytes .ensures .0 .0
 
 slice-aggregate-run-6 : tie.Need-slice-aggregate-run-6
-slice-aggregate-run-6 c = c .before .before .before .before .before .before .before .before .before .before .before .before .before .read-bytes .ensures .1
+slice-aggregate-run-6 c = c .before .before .before .before .before .before .before .before .before .before .before .before .before .read-bytes .ensures .0 .1
 
 array-share-prefix-alive : tie.Need-array-share-prefix-alive
-array-share-prefix-alive c = c .before .before .before .before .before .before .before .before .before .before .read-words2 .ensures .0
+array-share-prefix-alive c = c .before .before .before .before .before .before .before .before .before .before .read-words2 .ensures .0 .0
 
 slice-aggregate-run-7 : tie.Need-slice-aggregate-run-7
-slice-aggregate-run-7 c = c .before .before .before .before .before .before .before .before .before .before .before .read-words2 .ensures .1
+slice-aggregate-run-7 c = c .before .before .before .before .before .before .before .before .before .before .before .read-words2 .ensures .0 .1
 
 array-share-prefix-addresses : tie.Need-array-share-prefix-addresses
-array-share-prefix-addresses c = c .before .before .before .before .before .before .before .before .read-pairs .ensures .0
+array-share-prefix-addresses c = c .before .before .before .before .before .before .before .before .read-pairs .ensures .0 .0
 
 slice-aggregate-run-8 : tie.Need-slice-aggregate-run-8
-slice-aggregate-run-8 c = c .before .before .before .before .before .before .before .before .before .read-pairs .ensures .1
+slice-aggregate-run-8 c = c .before .before .before .before .before .before .before .before .before .read-pairs .ensures .0 .1
 
 run-requires : tie.Need-run-requires
 run-requires c κs = search needs

@@ -2,8 +2,6 @@ use borrow.Author.Needs.{needs}
 use Rattle.column_index.proofs.Laws.{listed-past, listed-at}
 use Rattle.column_index.proofs.is_listed.Statement.{statement}
 use Rattle.column_index.proofs.is_listed.Tie as tie
-use Rattle.column_index.proofs.is_listed.Reads as reads
-use Rattle.column_index.proofs.is_listed.Lts as lts
 
 -- src/lib.rt:48:9
 returns : tie.Need-returns

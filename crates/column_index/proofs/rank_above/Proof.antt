@@ -5,8 +5,6 @@ use lib.ListN.{length, getD}
 use Rattle.column_index.proofs.Laws.{counted, asc-sorted, below-rank, rank-fits}
 use Rattle.column_index.proofs.rank_above.Statement.{statement}
 use Rattle.column_index.proofs.rank_above.Tie as tie
-use Rattle.column_index.proofs.rank_above.Reads as reads
-use Rattle.column_index.proofs.rank_above.Lts as lts
 
 abbrev Inv-loop : tie.InvT-loop
 Inv-loop ids row lo₀ from₀ hi₀ lo hi = (lo ≤ hi) × (hi ≤ length ids) × ((k : ℕ) → k < lo → getD ids k 0 < row) × ((k : ℕ) → hi ≤ k → k < length ids → row ≤ getD ids k 0)

@@ -5,8 +5,6 @@ use Rattle.term_order.proofs.Laws.{told-lt, told-eq, told-gt}
 use borrow.Author.Needs.{needs}
 use Rattle.term_order.proofs.lower_term.Statement.{statement}
 use Rattle.term_order.proofs.lower_term.Tie as tie
-use Rattle.term_order.proofs.lower_term.Reads as reads
-use Rattle.term_order.proofs.lower_term.Lts as lts
 use Rattle.term_order.proofs.compare_terms.Reads as compare-terms-reads
 
 -- src/lib.rt:100:11

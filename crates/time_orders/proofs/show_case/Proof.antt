@@ -55,46 +55,46 @@ capped-requires : tie.Need-capped-requires
 capped-requires c κs = search needs
 
 array-share-prefix-records : tie.Need-array-share-prefix-records
-array-share-prefix-records c = c .before .before .before .before .before .before .before .before .before .before .before .before .before .before .before .before .before .before .before .before .before .read-records .ensures .0
+array-share-prefix-records c = c .before .before .before .before .before .before .before .before .before .before .before .before .before .before .before .before .before .before .before .before .before .read-records .ensures .0 .0
 
 slice-aggregate-time-order : tie.Need-slice-aggregate-time-order
-slice-aggregate-time-order c = c .before .before .before .before .before .before .before .before .before .before .before .before .before .before .before .before .before .before .before .before .before .before .read-records .ensures .1
+slice-aggregate-time-order c = c .before .before .before .before .before .before .before .before .before .before .before .before .before .before .before .before .before .before .before .before .before .before .read-records .ensures .0 .1
 
 array-share-prefix-ids : tie.Need-array-share-prefix-ids
-array-share-prefix-ids c = c .before .before .before .before .before .before .before .before .before .before .before .before .before .before .before .before .before .before .before .read-numbers .ensures .0
+array-share-prefix-ids c = c .before .before .before .before .before .before .before .before .before .before .before .before .before .before .before .before .before .before .before .read-numbers .ensures .0 .0
 
 slice-aggregate-time-order-2 : tie.Need-slice-aggregate-time-order-2
-slice-aggregate-time-order-2 c = c .before .before .before .before .before .before .before .before .before .before .before .before .before .before .before .before .before .before .before .before .read-numbers .ensures .1
+slice-aggregate-time-order-2 c = c .before .before .before .before .before .before .before .before .before .before .before .before .before .before .before .before .before .before .before .before .read-numbers .ensures .0 .1
 
 array-share-prefix-offsets : tie.Need-array-share-prefix-offsets
-array-share-prefix-offsets c = c .before .before .before .before .before .before .before .before .before .before .before .before .before .before .before .before .before .read-numbers2 .ensures .0
+array-share-prefix-offsets c = c .before .before .before .before .before .before .before .before .before .before .before .before .before .before .before .before .before .read-numbers2 .ensures .0 .0
 
 slice-aggregate-time-order-3 : tie.Need-slice-aggregate-time-order-3
-slice-aggregate-time-order-3 c = c .before .before .before .before .before .before .before .before .before .before .before .before .before .before .before .before .before .before .read-numbers2 .ensures .1
+slice-aggregate-time-order-3 c = c .before .before .before .before .before .before .before .before .before .before .before .before .before .before .before .before .before .before .read-numbers2 .ensures .0 .1
 
 array-share-prefix-values : tie.Need-array-share-prefix-values
-array-share-prefix-values c = c .before .before .before .before .before .before .before .before .before .before .before .before .before .before .before .read-words .ensures .0
+array-share-prefix-values c = c .before .before .before .before .before .before .before .before .before .before .before .before .before .before .before .read-words .ensures .0 .0
 
 slice-aggregate-time-order-4 : tie.Need-slice-aggregate-time-order-4
-slice-aggregate-time-order-4 c = c .before .before .before .before .before .before .before .before .before .before .before .before .before .before .before .before .read-words .ensures .1
+slice-aggregate-time-order-4 c = c .before .before .before .before .before .before .before .before .before .before .before .before .before .before .before .before .read-words .ensures .0 .1
 
 array-share-prefix-lengths : tie.Need-array-share-prefix-lengths
-array-share-prefix-lengths c = c .before .before .before .before .before .before .before .before .before .before .before .before .before .read-numbers3 .ensures .0
+array-share-prefix-lengths c = c .before .before .before .before .before .before .before .before .before .before .before .before .before .read-numbers3 .ensures .0 .0
 
 slice-aggregate-time-order-5 : tie.Need-slice-aggregate-time-order-5
-slice-aggregate-time-order-5 c = c .before .before .before .before .before .before .before .before .before .before .before .before .before .before .read-numbers3 .ensures .1
+slice-aggregate-time-order-5 c = c .before .before .before .before .before .before .before .before .before .before .before .before .before .before .read-numbers3 .ensures .0 .1
 
 array-share-prefix-bytes : tie.Need-array-share-prefix-bytes
-array-share-prefix-bytes c = c .before .before .before .before .before .before .before .before .before .before .before .read-bytes .ensures .0
+array-share-prefix-bytes c = c .before .before .before .before .before .before .before .before .before .before .before .read-bytes .ensures .0 .0
 
 slice-aggregate-time-order-6 : tie.Need-slice-aggregate-time-order-6
-slice-aggregate-time-order-6 c = c .before .before .before .before .before .before .before .before .before .before .before .before .read-bytes .ensures .1
+slice-aggregate-time-order-6 c = c .before .before .before .before .before .before .before .before .before .before .before .before .read-bytes .ensures .0 .1
 
 array-share-prefix-alive : tie.Need-array-share-prefix-alive
-array-share-prefix-alive c = c .before .before .before .before .before .before .before .before .before .read-words2 .ensures .0
+array-share-prefix-alive c = c .before .before .before .before .before .before .before .before .before .read-words2 .ensures .0 .0
 
 slice-aggregate-time-order-7 : tie.Need-slice-aggregate-time-order-7
-slice-aggregate-time-order-7 c = c .before .before .before .before .before .before .before .before .before .before .read-words2 .ensures .1
+slice-aggregate-time-order-7 c = c .before .before .before .before .before .before .before .before .before .before .read-words2 .ensures .0 .1
 
 array-borrow-prefix-out : tie.Need-array-borrow-prefix-out
 array-borrow-prefix-out c = search needs
