@@ -57,8 +57,9 @@ uint32_t jadmirus_join(
     uint32_t *out_map, size_t out_map_count,                     /* new ordinals of the held columns' terms, one segment's after another's, 0 for a term not kept; term_lengths_count suffice */
     uint64_t out_numbers[10]);                                   /* type, class, rows; elements of ids, offsets, values, terms, term bytes, map; term bytes copied, which are the joined terms' */
 
-/* The time order of the segments of a column of times (type 7, or 255 for none): their alive rows sorted by time, segment and row. A row without a time takes the
- * last one before it in its segment; before the first one it comes before all times. Returns the answer:
+/* The time order of the segments of a column of times (type 7, or 255 for none): their alive rows sorted by key, segment and row. A row's key is its time, else
+ * the last time before it in its segment, else the first time after it in its segment; the rows of a segment without any time come before all times, also before
+ * the least one. Times of withdrawn rows count in this. Returns the answer:
  *
  *    0  accepted: the addresses are written, and out_count
  *    1 2 3 19 4 5 6 7  as above and in this order, but for mode and required type in 3, and for stacked joins in 6

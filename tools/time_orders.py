@@ -5,10 +5,13 @@ files. From the repository's root:
     python3 tools/time_orders.py
 
 A case is made as rows: for each segment the list of its rows' times (signed), which rows are alive, and a kind that can hold them. From that the sections
-are laid out, as document 01 says. The expected order is Python's sort of (key, segment, row) over the alive rows, where a key is the row's last time, else
-the last time before it in the segment, else before all: nothing of the merge, of two's complement words or of the heap is used. The expected answer is
-known by how the case was made: 0; 11 where the output is made too short; 12 and 1 to 7 where one fault is put in; 19 where a segment is of kind 3 and
-nothing before it is wrong, whatever stands after it.
+are laid out, as document 01 says. The expected order is Python's sort of (key, segment, row) over the alive rows, where a key is the row's time, else the
+last time before it in the segment, else the first one after it there, else before all: nothing of the merge, of two's complement words or of the heap is
+used. The expected answer is known by how the case was made: 0; 11 where the output is made too short; 12 and 1 to 7 where one fault is put in; 19 where a
+segment is of kind 3 and nothing before it is wrong, whatever stands after it.
+
+First come random segments, then the faults, then cases whose order is written by hand, then segments that begin with untimed rows, and last those whose
+times follow one another: there the merge writes many rows of a segment in one run.
 
 Input: hexadecimal numbers. First how many cases; each has records, ids, offsets, values, term lengths, term bytes and alive words, each after its count
 (records counted whole), and the number of addresses lent. Output: a line for each case, the answer, the number of addresses, and the whole output, segment
@@ -70,16 +73,21 @@ def lay(s):
     return ids, offsets, flat, words
 
 
+def key(cells, r):
+    """the row's time, else the last time before it, else the first one after it, else before all times; withdrawn rows count"""
+    before = [t for c in cells[:r] for t in c]
+    after = [t for c in cells[r + 1:] for t in c]
+    found = cells[r] or before[-1:] or after[:1]
+    return (1, found[0]) if found else (0, 0)
+
+
 def order(segments):
     found = []
     for n, s in enumerate(segments):
-        key = (0, 0)
-        for r, c in enumerate(s["cells"]):
-            if c:
-                key = (1, c[-1])
+        for r in range(len(s["cells"])):
             if s["alive"] is None or s["alive"][r]:
-                found.append((key, n, r))
-    return [(n, r) for key, n, r in sorted(found)]
+                found.append((key(s["cells"], r), n, r))
+    return [(n, r) for _, n, r in sorted(found)]
 
 
 def sections(segments):
@@ -175,15 +183,115 @@ def refused(fault):
     return x, len(order(segments)) + random.randrange(4), answer, []
 
 
+def written(kind, text, typ=7):
+    """a segment in words: a row's time, - for none, either in () if the row is withdrawn"""
+    rows = text.split()
+    cells = [[] if r.strip("()") == "-" else [int(r.strip("()"))] for r in rows]
+    alive = [r[0] != "(" for r in rows] if "(" in text else None
+    return {"type": typ, "kind": kind, "cells": cells, "alive": alive}
+
+
+LEAST = str(-(2**63))
+BY_HAND = [
+    # C13, as document 02, (e), has it
+    ([written(2, "10 - 30"), written(2, "- 20")], [(0, 0), (0, 1), (1, 0), (1, 1), (0, 2)]),
+    # several untimed rows at the start; the one behind the time has the last time before it
+    ([written(2, "- - 7 -"), written(1, "6")], [(1, 0), (0, 0), (0, 1), (0, 2), (0, 3)]),
+    # the first time after them, not a later one
+    ([written(2, "- 3 9"), written(1, "5")], [(0, 0), (0, 1), (1, 0), (0, 2)]),
+    # after the first time an untimed row has the last time before it
+    ([written(2, "- 3 - 9"), written(1, "5")], [(0, 0), (0, 1), (0, 2), (1, 0), (0, 3)]),
+    # a withdrawn row's time counts, be it the only one, or the first of two
+    ([written(2, "- (20)"), written(1, "10")], [(1, 0), (0, 0)]),
+    ([written(2, "- (3) 9"), written(1, "5")], [(0, 0), (1, 0), (0, 2)]),
+    # a withdrawn row's time is the last one before an untimed row
+    ([written(2, "3 (5) -"), written(1, "4")], [(0, 0), (1, 0), (0, 2)]),
+    # a withdrawn row at the start
+    ([written(2, "(-) - 20"), written(1, "10")], [(1, 0), (0, 1), (0, 2)]),
+    # equal keys go by segment, then by row
+    ([written(1, "20"), written(2, "- 20")], [(0, 0), (1, 0), (1, 1)]),
+    ([written(2, "- 20"), written(1, "20")], [(0, 0), (0, 1), (1, 0)]),
+    ([written(2, "- 20"), written(2, "- 20")], [(0, 0), (0, 1), (1, 0), (1, 1)]),
+    # times are signed
+    ([written(1, "0"), written(2, "- -1")], [(1, 0), (1, 1), (0, 0)]),
+    # a segment without any time is before all times: ids but none, no column, Empty, kind 4
+    ([written(1, LEAST), written(2, "- -")], [(1, 0), (1, 1), (0, 0)]),
+    ([written(0, "-", 255), written(1, LEAST), written(0, "-"), written(4, "-")], [(0, 0), (2, 0), (3, 0), (1, 0)]),
+    # an untimed row that takes the least time has a time
+    ([written(2, "- " + LEAST), written(0, "-", 255)], [(1, 0), (0, 0), (0, 1)]),
+    # kind 4
+    ([written(4, "- 5 -"), written(4, "4")], [(1, 0), (0, 0), (0, 1), (0, 2)]),
+    # the untimed row goes with 20; in the first two joined it goes with 10
+    ([written(1, "10"), written(2, "- 20"), written(1, "15")], [(0, 0), (2, 0), (1, 0), (1, 1)]),
+    ([written(2, "10 - 20"), written(1, "15")], [(0, 0), (0, 1), (1, 0), (0, 2)]),
+    # the first time stands behind an alive word, and the word is withdrawn but for one row
+    ([written(2, "(-) " * 63 + "- (-) 7"), written(1, "6 7")], [(1, 0), (0, 63), (0, 65), (1, 1)]),
+    # runs that meet at equal times, in the segments' order and against it
+    ([written(1, "1 2 3"), written(1, "3 4 5"), written(2, "- 5 -")], [(0, 0), (0, 1), (0, 2), (1, 0), (1, 1), (1, 2), (2, 0), (2, 1), (2, 2)]),
+    ([written(2, "- 5 -"), written(1, "3 4 5"), written(1, "1 2 3")], [(2, 0), (2, 1), (1, 0), (2, 2), (1, 1), (0, 0), (0, 1), (0, 2), (1, 2)]),
+]
+
+
+def by_hand(segments, expected):
+    assert order(segments) == expected
+    return sections(segments), len(expected), 0, expected
+
+
+def restarted():
+    """short segments that begin with untimed rows, and times that are close together"""
+    segments = []
+    for _ in range(random.choice([2, 3, 4])):
+        cells = [[]] * random.randrange(4) + [[t] for t in sorted(random.choices([-1, 0, 1, 2], k=random.randrange(4)))]
+        alive = random.choice([None, [random.random() < 0.7 for _ in cells]])
+        segments.append({"type": 7, "kind": random.choice([2, 4]), "cells": cells, "alive": alive})
+    out = order(segments)
+    return sections(segments), len(out), 0, out
+
+
+def following(long):
+    """cells of segments whose times follow one another, each in one run or in several, and the first and last rows of the runs; one run may be long"""
+    count = random.choice([2, 2, 3, 4])
+    numbers = random.choice([list(range(count)), list(range(count))[::-1], random.sample(range(count), count)])
+    has = [random.choice(["all", "all", "inner", "most", "few"]) for _ in range(count)]
+    cells, ends = [[] for _ in range(count)], [set() for _ in range(count)]
+    t = 0
+    for turn, n in enumerate(numbers * random.choice([1, 2, 3])):
+        rows = random.randrange(60, 81) if turn == long else random.randrange(1, 5)
+        ends[n] |= {len(cells[n]), len(cells[n]) + rows - 1}
+        for k in range(rows):
+            # Also where two runs meet: half of the time their times are equal there.
+            t += random.choice([0, 1])
+            chance = {"all": 1, "inner": 1 if 0 < k < rows - 1 else 0.4, "most": 0.7, "few": 0.1}[has[n]]
+            cells[n].append([t] if random.random() < chance else [])
+    return cells, ends
+
+
+def in_runs(long, lost):
+    """lost: how many segments are withdrawn as a whole; -1 stands for all but one"""
+    cells, ends = following(long)
+    while sum(len(c) for c in cells) > 95 or sum(len(t) for c in cells for t in c) > 76:
+        cells, ends = following(long)
+    whole = random.sample(range(len(cells)), lost % len(cells))
+    segments = []
+    for n, rows in enumerate(map(len, cells)):
+        gone = random.choice([None, [r for r in sorted(ends[n]) if random.random() < 0.5], [r for r in range(rows) if random.random() < 0.1]])
+        if n in whole:
+            gone = range(rows)
+        kind = random.choice([1, 1, 2, 4]) if all(cells[n]) else random.choice([2, 4])
+        segments.append({"type": 7, "kind": kind, "cells": cells[n], "alive": None if gone is None else [r not in gone for r in range(rows)]})
+    out = order(segments)
+    return sections(segments), len(out) + random.choice([0, 1]), 0, out
+
+
 def main():
     cases = [accepted() for _ in range(382)]
     faults = ["falling", "falling across zero", "falling, withdrawn", "falling, optional", "several", "several, withdrawn", "type", "lengths", "unknown type", "lists", "bool", "past rows", "rows"]
     faults += ["kind 3", "kind 3, wrong lists", "kind 3 beside ids 1 1", "kind 3 beside an unknown type", "kind 3, no column", "kind 3, unknown flag", "kind 3, lengths"]
     cases += [refused(f) for f in faults for _ in range(3)] + [refused("many")]
-    # C13 of document 01
-    c13 = [{"type": 7, "kind": 2, "cells": [[10], [], [30]], "alive": None}, {"type": 7, "kind": 2, "cells": [[], [20]], "alive": None}]
-    assert order(c13) == [(1, 0), (0, 0), (0, 1), (1, 1), (0, 2)]
-    cases.append((sections(c13), 5, 0, order(c13)))
+    cases += [by_hand(segments, expected) for segments, expected in BY_HAND]
+    cases += [restarted() for _ in range(20)]
+    # The first, the second or the third run is long, or none is.
+    cases += [in_runs(long, lost) for lost in [0] * 7 + [1, -1] for long in [0, 1, 2, None]]
     given, told = ["%x" % len(cases)], []
     for x, space, answer, out in cases:
         # What the program holds of a case.
@@ -195,6 +303,8 @@ def main():
         whole = out + [(KEPT, KEPT)] * (space - len(out))
         told.append(" ".join(["%x" % answer, "%x" % len(out)] + ["%x %x" % p for p in whole]))
     stdin, stdout = "\n".join(given) + "\n", "\n".join(told) + "\n"
+    # The program reads no more.
+    assert len(stdin) <= 65536
     for file, text in [("stdin", stdin), ("stdout", stdout)]:
         with open(FOLDER + file, "w") as f:
             f.write(text)

@@ -30,7 +30,8 @@
 //! let other = Segment::strs([Some("Can"), Some("Moondog"), Some("Air")]).without_rows([1]);
 //! let artists = [Segment::from(week), other];
 //!
-//! // Both have a column of times. Rows without a time follow the play before them.
+//! // Both have a column of times. Rows without a time follow the play before them; at the start
+//! // of a segment they go with the play after them.
 //! let times = [
 //!     Segment::date_times((0..13).map(|row| (row % 2 == 0).then_some(100 * row))),
 //!     Segment::date_times([Some(150), Some(400), Some(1250)]).without_rows([1]),
@@ -97,9 +98,27 @@ pub fn join(
     sections.join()
 }
 
-/// The alive rows of columns of times (or of none) sorted by time, then segment, then row. A row
-/// without a time has the last time before it in its segment, else it stands before all times.
+/// The alive rows of columns of times (or of none) sorted by key, then segment, then row. A row's
+/// key is its time, else the last time before it in its segment, else the first time after it in
+/// its segment. The rows of a segment without any time stand before all times. Times of withdrawn
+/// rows count in this.
+///
 /// [`Refusal::OutputSpace`] means that there is no memory for so many addresses.
+///
+/// ```
+/// use jadmirus::{Refusal, Segment, time_order};
+///
+/// # fn main() -> Result<(), Refusal> {
+/// let times = [
+///     Segment::date_times([Some(10), None, Some(30)]), // a jingle after the first play
+///     Segment::date_times([None, Some(20)]), // a jingle before the clock was set
+///     Segment::no_column(1), // no times at all
+/// ];
+/// let order = time_order(&times)?.into_iter().map(|a| (a.segment, a.row));
+/// assert!(order.eq([(2, 0), (0, 0), (0, 1), (1, 0), (1, 1), (0, 2)]));
+/// # Ok(())
+/// # }
+/// ```
 pub fn time_order(segments: &[Segment]) -> Result<Vec<Address>, Refusal> {
     Sections::of(segments)?.time_order()
 }

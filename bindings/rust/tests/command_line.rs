@@ -408,7 +408,7 @@ fn refused_conversions() {
 
 #[test]
 fn time_order() {
-    let addresses = "addresses 1:0 0:0 0:1 1:1 0:2\n";
+    let addresses = "addresses 0:0 0:1 1:0 1:1 0:2\n";
     assert_eq!(accepted(&["order", "-"], C13.as_bytes()), addresses);
     assert_eq!(
         accepted(&["check", "--times", "-"], C13.as_bytes()),
@@ -425,6 +425,55 @@ fn time_order() {
     let text = "answer 12 (times)\n\
         segment 0, row 1, time 4 (the 2nd): earlier than the one before it, 5\n";
     assert_eq!((&*out, status), (text, 1));
+}
+
+/// Document 02, (e), in sheets: each segment's entries after its type, and the addresses.
+#[test]
+fn time_order_after_a_restart() {
+    let cases: [(&[&str], &str); 6] = [
+        (
+            &[
+                "Optional rows 2 ids 1 values 20 withdrawn 1",
+                "Full values 10",
+            ],
+            "1:0 0:0",
+        ),
+        (
+            &["Full values 20", "Optional rows 2 ids 1 values 20"],
+            "0:0 1:0 1:1",
+        ),
+        (
+            &["Full values -9223372036854775808", "Optional rows 2"],
+            "1:0 1:1 0:0",
+        ),
+        (
+            &["Optional rows 4 ids 2 values 7", "Full values 6"],
+            "1:0 0:0 0:1 0:2 0:3",
+        ),
+        (
+            &[
+                "Full values 10",
+                "Optional rows 2 ids 1 values 20",
+                "Full values 15",
+            ],
+            "0:0 2:0 1:0 1:1",
+        ),
+        (
+            &[
+                "NewMultivalued rows 3 ids 1 offsets 0 1 values 5",
+                "Full values 4",
+            ],
+            "1:0 0:0 0:1 0:2",
+        ),
+    ];
+    for (segments, addresses) in cases {
+        let sheet: String = segments
+            .iter()
+            .map(|entries| format!("segment type DateTime kind {entries}\n"))
+            .collect();
+        let order = accepted(&["order", "-"], sheet.as_bytes());
+        assert_eq!(order, format!("addresses {addresses}\n"), "{segments:?}");
+    }
 }
 
 #[test]

@@ -384,37 +384,93 @@ fn damaged_bytes() {
     }
 }
 
-/// Document 01's words: alive rows sorted by key, segment, row. A row's key is its time, else the
-/// last time before it in its segment, else before all times.
+/// A column of times, for which the order is known by a sort.
+#[derive(Clone, Default)]
+struct Times {
+    rows: Vec<Option<i64>>,
+    withdrawn: BTreeSet<u32>,
+}
+
+impl Times {
+    /// Document 02's words, (e): the row's time, else the last time before it in its segment, else
+    /// the first one after it, else before all times.
+    fn key(&self, row: usize) -> Option<i64> {
+        let before = self.rows[..row].iter().rev().flatten().next();
+        let after = self.rows[row + 1..].iter().flatten().next();
+        self.rows[row].or(before.copied()).or(after.copied())
+    }
+
+    fn segment(&self, chance: &mut Chance) -> Segment {
+        let times = Segment::date_times(self.rows.iter().copied());
+        if self.withdrawn.is_empty() && chance.once_in(2) {
+            times
+        } else {
+            times.without_rows(self.withdrawn.iter().copied())
+        }
+    }
+}
+
+/// Document 01's words: alive rows sorted by key, segment, row.
+fn sorted(columns: &[Times]) -> Vec<Address> {
+    let mut rows = Vec::new();
+    for (segment, column) in (0..).zip(columns) {
+        let alive = (0..column.rows.len() as u32).filter(|row| !column.withdrawn.contains(row));
+        rows.extend(alive.map(|row| (column.key(row as usize), Address { segment, row })));
+    }
+    rows.sort();
+    rows.into_iter().map(|(_, address)| address).collect()
+}
+
 #[test]
 fn the_time_order_is_a_sort() {
     let mut chance = Chance(0x1234_5678_9abc_def1);
     for _ in 0..2_000 {
-        let (mut segments, mut expected) = (Vec::new(), Vec::new());
-        for segment in 0..chance.below(5) as u32 {
-            let (mut rows, mut withdrawn) = (Vec::new(), Vec::new());
-            let (mut last, mut key) = (-3, None);
+        let mut columns = vec![Times::default(); chance.below(5)];
+        for column in &mut columns {
+            let mut last = -3;
             for row in 0..chance.below(70) as u32 {
                 last += chance.below(3) as i64;
-                let time = chance.once_in(2).then_some(last);
-                rows.push(time);
-                key = time.or(key);
+                column.rows.push(chance.once_in(2).then_some(last));
                 if chance.once_in(3) {
-                    withdrawn.push(row);
-                } else {
-                    expected.push((key, Address { segment, row }));
+                    column.withdrawn.insert(row);
                 }
             }
-            let times = Segment::date_times(rows);
-            let all_alive = withdrawn.is_empty() && chance.once_in(2);
-            segments.push(if all_alive {
-                times
-            } else {
-                times.without_rows(withdrawn)
-            });
         }
-        expected.sort();
-        let expected: Vec<Address> = expected.into_iter().map(|(_, address)| address).collect();
-        assert_eq!(time_order(&segments).unwrap(), expected);
+        let segments: Vec<Segment> = columns.iter().map(|c| c.segment(&mut chance)).collect();
+        assert_eq!(time_order(&segments).unwrap(), sorted(&columns));
+    }
+}
+
+/// Times that go on from segment to segment, so that many rows of one stand together. Such runs
+/// may begin and end with equal times, with untimed rows or with withdrawn ones, and whole segments
+/// may be withdrawn.
+#[test]
+fn the_time_order_in_runs() {
+    let mut chance = Chance(0x5eed_10f9_e5ee_d123);
+    for _ in 0..2_000 {
+        let mut columns = vec![Times::default(); 1 + chance.below(4)];
+        let timed = [(); 4].map(|_| chance.one_of(&[1, 1, 2, 20]));
+        let mut time = chance.one_of(&[i64::MIN, -20, i64::MAX - 2_000]);
+        for _ in 0..chance.below(9) {
+            let number = chance.below(columns.len());
+            let column = &mut columns[number];
+            let first = column.rows.len() as u32;
+            for _ in 0..chance.one_of(&[1, 2, 3, 60, 64, 65, 130]) {
+                time += chance.below(2) as i64;
+                let has_time = chance.once_in(timed[number]);
+                column.rows.push(has_time.then_some(time));
+            }
+            let last = column.rows.len() as u32 - 1;
+            let ends = [first, last].into_iter().filter(|_| chance.once_in(3));
+            column.withdrawn.extend(ends);
+        }
+        let left = chance.below(columns.len());
+        for (number, column) in columns.iter_mut().enumerate() {
+            if number != left && chance.once_in(4) {
+                column.withdrawn.extend(0..column.rows.len() as u32);
+            }
+        }
+        let segments: Vec<Segment> = columns.iter().map(|c| c.segment(&mut chance)).collect();
+        assert_eq!(time_order(&segments).unwrap(), sorted(&columns));
     }
 }

@@ -1,4 +1,4 @@
-//! The log sheets C1 to C13 of document 01, by the safe interface.
+//! The log sheets C1 to C13 of document 01, C13 as document 02, (e), has it, by the safe interface.
 use jadmirus::{
     Address, AliveSet, Class, ColumnType, Joined, OldSegment, Order, Refusal, Segment, Value,
     convert, join, time_order,
@@ -202,17 +202,87 @@ fn terms_with_equal_beginnings() {
     }
 }
 
+fn in_order(segments: &[Segment], expected: &[(u32, u32)]) {
+    let order = time_order(segments).unwrap();
+    let order: Vec<(u32, u32)> = order.iter().map(|a| (a.segment, a.row)).collect();
+    assert_eq!(order, expected);
+}
+
 #[test]
 fn c13() {
     let times = [
         Segment::date_times([Some(10), None, Some(30)]),
         Segment::date_times([None, Some(20)]),
     ];
-    let order = time_order(&times).unwrap();
-    let expected = [(1, 0), (0, 0), (0, 1), (1, 1), (0, 2)];
-    assert_eq!(
-        order,
-        expected.map(|(segment, row)| Address { segment, row })
+    in_order(&times, &[(0, 0), (0, 1), (1, 0), (1, 1), (0, 2)]);
+}
+
+/// Document 02, (e): untimed rows at a segment's start take the first time after them.
+#[test]
+fn untimed_rows_at_the_start() {
+    let one = |time| Segment::date_times([[time]]);
+    let untimed_then = |time| Segment::date_times([None, Some(time)]);
+    // All of them, and the row behind the time still has the last time before it.
+    let several = Segment::date_times([None, None, Some(7), None]);
+    in_order(
+        &[several, one(6)],
+        &[(1, 0), (0, 0), (0, 1), (0, 2), (0, 3)],
+    );
+    // It is the first time after them, not a later one.
+    let later = Segment::date_times([None, Some(3), Some(9)]);
+    in_order(&[later.clone(), one(5)], &[(0, 0), (0, 1), (1, 0), (0, 2)]);
+    // A withdrawn row's time counts, be it the only one.
+    in_order(
+        &[later.without_rows([1]), one(5)],
+        &[(0, 0), (1, 0), (0, 2)],
+    );
+    in_order(
+        &[untimed_then(20).without_rows([1]), one(10)],
+        &[(1, 0), (0, 0)],
+    );
+    // So it does as the last time before a row; and a row behind the first time is not at the start.
+    let withdrawn = Segment::date_times([Some(3), Some(5), None]).without_rows([1]);
+    in_order(&[withdrawn, one(4)], &[(0, 0), (1, 0), (0, 2)]);
+    let between = Segment::date_times([None, Some(3), None, Some(9)]);
+    in_order(
+        &[between, one(5)],
+        &[(0, 0), (0, 1), (0, 2), (1, 0), (0, 3)],
+    );
+    // Equal keys go by segment, then by row.
+    in_order(&[one(20), untimed_then(20)], &[(0, 0), (1, 0), (1, 1)]);
+    in_order(&[untimed_then(20), one(20)], &[(0, 0), (0, 1), (1, 0)]);
+    // Kind 4.
+    let (ids, offsets) = (vec![1], vec![0, 1]);
+    let kind_4 = Segment::new_multivalued(ColumnType::DateTime, 3, ids, offsets, vec![5]);
+    in_order(&[kind_4, one(4)], &[(1, 0), (0, 0), (0, 1), (0, 2)]);
+}
+
+/// A segment without any time keeps its place before all times.
+#[test]
+fn segments_without_times() {
+    let least = Segment::date_times([[i64::MIN]]);
+    let untimed = Segment::date_times([None::<i64>, None]);
+    in_order(&[least.clone(), untimed], &[(1, 0), (1, 1), (0, 0)]);
+    let empty = Segment::empty(ColumnType::DateTime, 1);
+    let none = Segment::no_column(1);
+    in_order(&[empty, least, none.clone()], &[(0, 0), (2, 0), (1, 0)]);
+    // A row that takes the least time has a time.
+    let least_later = Segment::date_times([None, Some(i64::MIN)]);
+    in_order(&[least_later, none], &[(1, 0), (0, 0), (0, 1)]);
+}
+
+/// An untimed row's key is found in its own segment. The join of two segments is one segment, in
+/// which the row may have another key.
+#[test]
+fn time_order_of_joined_times() {
+    let one = |time| Segment::date_times([[time]]);
+    let two = [one(10), Segment::date_times([None, Some(20)])];
+    let [first, second] = two.clone();
+    in_order(&[first, second, one(15)], &[(0, 0), (2, 0), (1, 0), (1, 1)]);
+    let joined = join(&two, Order::Ordered(&time_order(&two).unwrap()), None).unwrap();
+    in_order(
+        &[Segment::from(joined), one(15)],
+        &[(0, 0), (0, 1), (1, 0), (0, 2)],
     );
 }
 

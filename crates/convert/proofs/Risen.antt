@@ -1,17 +1,17 @@
 -- The walk over the offsets of an old multivalued segment: what each row adds to the new ids and offsets, and how they are written. Assumes nothing.
 use Prim.Native.Nat.{ℕ, zero, suc, _+_, _-_, _*_, _/_, _≤_, _<_, zero-le}
-use native.Mathlib.Nat.{le-refl, add-zero, zero-add, add-assoc, not-suc-le-zero}
+use native.Mathlib.Nat.{zero-add, add-assoc, not-suc-le-zero}
 use native.Mathlib.Numerals.{add-one}
 use native.Mathlib.Omega.{arith}
 use mathlib.Core.Path.{_≡_, refl, sym, ap, ap₂, _∙_}
 use mathlib.Core.List.{List, [], _∷_, _++_}
 use mathlib.Core.Logic.{_⊎_, inl, inr}
 use mathlib.Core.Bool.{Bool, true, false, cond}
-use lib.ListN.{length, take, drop, set, getD, length-set, length-drop}
-use lib.Seq.{drop-cons, drop-drop, take-all, length-take-le, take-set-le, drop-set-lt}
+use lib.ListN.{length, take, drop, set, getD, length-drop}
+use lib.Seq.{drop-cons, drop-drop, take-all, length-take-le}
 use lib.Dec.{ltb}
 use Rattle.runs.specs.Put.{put}
-use Rattle.runs.proofs.Laws.{put-one, put-put, Filling, fill-as, fill-more}
+use Rattle.runs.proofs.Laws.{put-one, put-put, Filling}
 use Rattle.lists.proofs.Numbers.{le-lt}
 use Rattle.convert.specs.Risen.{oneIf, risenIds, risenEnds, stepsBy, rises, falls, SideBySide}
 
@@ -180,27 +180,6 @@ no-steps [] h = (refl, refl)
 no-steps (o ∷ os) h = absurd (omega arith)
 
 -- ---- written
-
--- what stood at a place that is still to be put does not matter
-put-over : (at : ℕ) (vs old : List ℕ) (x : ℕ) → 0 < length vs → put at vs (set old at x) ≡ put at vs old
-unfolding put
-put-over at vs old x h = ap₂ (λ (a b : List ℕ). a ++ (vs ++ b)) (take-set-le at old at x (le-refl at)) (drop-set-lt (at + length vs) old at x (omega arith))
-
--- a turn: x is written, and left behind where it belongs to the list
-pub fill-if : {start : ℕ} {whole old left out : List ℕ} {at : ℕ} → Filling start whole old left out at → (b : Bool) (x : ℕ) (left′ : List ℕ) → left ≡ cond b (x ∷ left′) left′
-    → at < start + length whole → {at′ : ℕ} → at′ ≡ at + oneIf b → Filling start whole old left′ (set out at x) at′
-fill-if {out = out} {at} g true x left′ e h {at′} p =
-    fill-more g (x ∷ []) left′ e (set out at x) at′ p (put-one at x out (omega (arith, g .room, g .kept)))
-fill-if {out = out} {at} g false x left′ e h {at′} p =
-    let n : 0 < length left′ = omega (arith, g .total, ap length e) in
-    let t : at′ ≡ at = p ∙ add-zero at in
-    let v = fill-as g left′ e in
-    record {
-      total = ap (λ (n : ℕ). n + length left′) t ∙ v .total;
-      list = ap (λ (n : ℕ). put n left′ (set out at x)) t ∙ put-over at left′ out x n ∙ v .list;
-      kept = length-set out at x ∙ v .kept;
-      room = v .room;
-    }
 
 pub none-left : (l : List ℕ) → length l ≡ 0 → l ≡ []
 none-left [] h = refl

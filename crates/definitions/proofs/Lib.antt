@@ -19,5 +19,6 @@ pub mod Convert
 pub mod Double
 pub mod Pattern
 pub mod Rounded
+pub mod Keys
 pub mod TimeOrder
 pub mod Reading

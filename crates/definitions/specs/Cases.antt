@@ -55,11 +55,11 @@ cases-hold : map (λ c. sheetOf (c .lent)) cases ≡ map (λ c. c .expected) cas
 unfolding sheetOf sheetOne cases
 cases-hold = refl
 
--- ---- C13: times 10 none 30, and none 20; one place more than it needs
+-- ---- C13 as 02, (e), has it: times 10 none 30, and none 20; one place more than it needs
 
 thirteen-holds :
     timeSheetOf (plain 7 2 3 (0 ∷ 2 ∷ []) [] (10 ∷ 30 ∷ []) [] ∷ plain 7 2 2 (1 ∷ []) [] (20 ∷ []) [] ∷ []) 6
-    ≡ record { answer = sorted 5; addresses = at 1 0 ∷ at 0 0 ∷ at 0 1 ∷ at 1 1 ∷ at 0 2 ∷ at 9 9 ∷ [] }
+    ≡ record { answer = sorted 5; addresses = at 0 0 ∷ at 0 1 ∷ at 1 0 ∷ at 1 1 ∷ at 0 2 ∷ at 9 9 ∷ [] }
 unfolding timeSheetOf
 thirteen-holds = refl
 

@@ -1,4 +1,4 @@
--- The time order by small cases (document 01, "Time order"), and its answers. Each table is proved by one computation. Assumes nothing.
+-- The time order by small cases (document 01, "Time order", and 02, (e)), and its answers. Each table is proved by one computation. Assumes nothing.
 use Prim.Native.Nat.{ℕ}
 use mathlib.Core.Path.{_≡_, refl}
 use mathlib.Core.List.{List, [], _∷_, map}
@@ -35,17 +35,54 @@ orderCases =
     ∷ sortedAs (full 7 (5 ∷ 5 ∷ []) ∷ []) (at 0 0 ∷ at 0 1 ∷ [])
     -- a row without a time has the last time before it
     ∷ sortedAs (plain 7 2 3 (0 ∷ 1 ∷ []) [] (10 ∷ 20 ∷ []) [] ∷ one 7 15 ∷ []) (at 0 0 ∷ at 1 0 ∷ at 0 1 ∷ at 0 2 ∷ [])
-    -- else it stands before all times, the least one too; so does a row of no column
-    ∷ sortedAs (one 7 0x8000000000000000 ∷ plain 7 2 2 (1 ∷ []) [] (5 ∷ []) [] ∷ none 1 ∷ []) (at 1 0 ∷ at 2 0 ∷ at 0 0 ∷ at 1 1 ∷ [])
-    -- a withdrawn row is not listed and still gives its time
+    -- a withdrawn row is not listed and still gives its time: 0; (5) -, and as the last time before a row: 3 (5) -; 4
     ∷ sortedAs (one 7 0 ∷ withAlive (2 ∷ []) (plain 7 2 2 (0 ∷ []) [] (5 ∷ []) []) ∷ []) (at 0 0 ∷ at 1 1 ∷ [])
+    ∷ sortedAs (withAlive (5 ∷ []) (plain 7 2 3 (0 ∷ 1 ∷ []) [] (3 ∷ 5 ∷ []) []) ∷ one 7 4 ∷ []) (at 0 0 ∷ at 1 0 ∷ at 0 2 ∷ [])
     -- kind 4
-    ∷ sortedAs (plain 7 4 2 (1 ∷ []) (0 ∷ 1 ∷ []) (5 ∷ []) [] ∷ plain 7 4 2 (1 ∷ []) (0 ∷ 1 ∷ []) (4 ∷ []) [] ∷ []) (at 0 0 ∷ at 1 0 ∷ at 1 1 ∷ at 0 1 ∷ [])
+    ∷ sortedAs (plain 7 4 2 (1 ∷ []) (0 ∷ 1 ∷ []) (5 ∷ []) [] ∷ plain 7 4 2 (1 ∷ []) (0 ∷ 1 ∷ []) (4 ∷ []) [] ∷ []) (at 1 0 ∷ at 1 1 ∷ at 0 0 ∷ at 0 1 ∷ [])
     ∷ []
 
 orderCases-hold : map (λ c. timeSheetOf (c .segments) (c .space)) orderCases ≡ map (λ c. c .expected) orderCases
 unfolding timeSheetOf orderCases
 orderCases-hold = refl
+
+-- ---- 02, (e): "untimed rows at a segment's start take the first time after them in that segment"
+
+startCases : List TimeCase
+startCases =
+    -- several of them, and one after the time, which still has the last time before it: - - 7 -; 6
+    sortedAs (plain 7 2 4 (2 ∷ []) [] (7 ∷ []) [] ∷ one 7 6 ∷ []) (at 1 0 ∷ at 0 0 ∷ at 0 1 ∷ at 0 2 ∷ at 0 3 ∷ [])
+    -- the first time after them, not the last one: - 3 9; 5. A later untimed row of such a segment still has the last time before it: - 3 - 9; 5
+    ∷ sortedAs (plain 7 2 3 (1 ∷ 2 ∷ []) [] (3 ∷ 9 ∷ []) [] ∷ one 7 5 ∷ []) (at 0 0 ∷ at 0 1 ∷ at 1 0 ∷ at 0 2 ∷ [])
+    ∷ sortedAs (plain 7 2 4 (1 ∷ 3 ∷ []) [] (3 ∷ 9 ∷ []) [] ∷ one 7 5 ∷ []) (at 0 0 ∷ at 0 1 ∷ at 0 2 ∷ at 1 0 ∷ at 0 3 ∷ [])
+    -- the time of a withdrawn row counts, and be it the segment's only one: - (20); 10
+    ∷ sortedAs (withAlive (1 ∷ []) (plain 7 2 2 (1 ∷ []) [] (20 ∷ []) []) ∷ one 7 10 ∷ []) (at 1 0 ∷ at 0 0 ∷ [])
+    -- it is the first one though a later row is alive: - (3) 9; 5
+    ∷ sortedAs (withAlive (5 ∷ []) (plain 7 2 3 (1 ∷ 2 ∷ []) [] (3 ∷ 9 ∷ []) []) ∷ one 7 5 ∷ []) (at 0 0 ∷ at 1 0 ∷ at 0 2 ∷ [])
+    -- an untimed row at the start that is withdrawn is not listed: (-) - 20; 10
+    ∷ sortedAs (withAlive (6 ∷ []) (plain 7 2 3 (2 ∷ []) [] (20 ∷ []) []) ∷ one 7 10 ∷ []) (at 1 0 ∷ at 0 1 ∷ at 0 2 ∷ [])
+    -- equal keys across segments go by segment, then by row: 20; - 20, then - 20; 20, then - 20; - 20
+    ∷ sortedAs (one 7 20 ∷ plain 7 2 2 (1 ∷ []) [] (20 ∷ []) [] ∷ []) (at 0 0 ∷ at 1 0 ∷ at 1 1 ∷ [])
+    ∷ sortedAs (plain 7 2 2 (1 ∷ []) [] (20 ∷ []) [] ∷ one 7 20 ∷ []) (at 0 0 ∷ at 0 1 ∷ at 1 0 ∷ [])
+    ∷ sortedAs (plain 7 2 2 (1 ∷ []) [] (20 ∷ []) [] ∷ plain 7 2 2 (1 ∷ []) [] (20 ∷ []) [] ∷ []) (at 0 0 ∷ at 0 1 ∷ at 1 0 ∷ at 1 1 ∷ [])
+    -- times are signed: 0; - -1
+    ∷ sortedAs (one 7 0 ∷ plain 7 2 2 (1 ∷ []) [] (0xffffffffffffffff ∷ []) [] ∷ []) (at 1 0 ∷ at 1 1 ∷ at 0 0 ∷ [])
+    -- the least time is a time: - -2^63 is after a segment without any time, and with it goes by segment
+    ∷ sortedAs (plain 7 2 2 (1 ∷ []) [] (0x8000000000000000 ∷ []) [] ∷ one 7 0x8000000000000000 ∷ none 1 ∷ []) (at 2 0 ∷ at 0 0 ∷ at 0 1 ∷ at 1 0 ∷ [])
+    -- "a segment without any time keeps its place before all times": -2^63; - -
+    ∷ sortedAs (one 7 0x8000000000000000 ∷ plain 7 2 2 [] [] [] [] ∷ []) (at 1 0 ∷ at 1 1 ∷ at 0 0 ∷ [])
+    -- no column, Empty, and kind 4 without ids, each among times; among themselves they go by segment
+    ∷ sortedAs (none 1 ∷ one 7 0x8000000000000000 ∷ plain 7 0 1 [] [] [] [] ∷ plain 7 4 1 [] (0 ∷ []) [] [] ∷ []) (at 0 0 ∷ at 2 0 ∷ at 3 0 ∷ at 1 0 ∷ [])
+    -- kind 4: - 5 -; 4
+    ∷ sortedAs (plain 7 4 3 (1 ∷ []) (0 ∷ 1 ∷ []) (5 ∷ []) [] ∷ one 7 4 ∷ []) (at 1 0 ∷ at 0 0 ∷ at 0 1 ∷ at 0 2 ∷ [])
+    -- 10; - 20; 15: the untimed row goes with 20 here, and with 10 once the first two are joined (docs/DECISIONS)
+    ∷ sortedAs (one 7 10 ∷ plain 7 2 2 (1 ∷ []) [] (20 ∷ []) [] ∷ one 7 15 ∷ []) (at 0 0 ∷ at 2 0 ∷ at 1 0 ∷ at 1 1 ∷ [])
+    ∷ sortedAs (plain 7 2 3 (0 ∷ 2 ∷ []) [] (10 ∷ 20 ∷ []) [] ∷ one 7 15 ∷ []) (at 0 0 ∷ at 0 1 ∷ at 1 0 ∷ at 0 2 ∷ [])
+    ∷ []
+
+startCases-hold : map (λ c. timeSheetOf (c .segments) (c .space)) startCases ≡ map (λ c. c .expected) startCases
+unfolding timeSheetOf startCases
+startCases-hold = refl
 
 -- ---- 1 to 7, 19 and 11: an output shorter than the list. "And n after it": that check fails too, and is not the answer
 

@@ -1,4 +1,4 @@
--- The time order of the alive rows, and its answers (document 01, "Time order"). Assumes nothing.
+-- The time order of the alive rows, and its answers (document 01, "Time order", and 02, (e)). Assumes nothing.
 use Prim.Native.Nat.{ℕ, zero, suc, _+_, _%_, _^_}
 use mathlib.Core.List.{List, [], _∷_, _++_, map}
 use mathlib.Core.Path.{_≡_}
@@ -31,12 +31,17 @@ abbrev pub keyOr : List ℕ → ℕ → ℕ
 keyOr [] k = k
 keyOr (w ∷ ws) k = suc (timeOf w)
 
--- the key of the last of the first n rows that has a time; 0, before all times, if none has
+-- the key of the first of these rows that has a time; 0, before all times, if none has
+abbrev pub firstKey : Segment → List ℕ → ℕ
+firstKey s [] = 0
+firstKey s (r ∷ rs) = keyOr (rowValues s r) (firstKey s rs)
+
+-- the key of the last of the first n rows that has a time, else of the first row of the segment that has one
 abbrev pub keyAfter : Segment → ℕ → ℕ
-keyAfter s zero = 0
+keyAfter s zero = firstKey s (upTo (s .rows))
 keyAfter s (suc n) = keyOr (rowValues s n) (keyAfter s n)
 
--- a row's time, else the last time before it in its segment, else before all times; withdrawn rows give their time
+-- a row's time, else the last time before it in its segment, else the first one after it, else before all times; withdrawn rows give their time
 unfoldable pub keyOf : List Segment → Address → ℕ
 keyOf ss a = keyAfter (getD ss (a .segment) absent) (suc (a .row))
 

@@ -81,22 +81,22 @@ sinking-cursors bytes cursors r seg n h c o =
 
 -- ---- the least
 
+-- a segment that is held has a place, and what has a place is held
+pub held-index : (h : Heap) (y : ℕ) → 0 < count y (held h) → (j : ℕ) × (j < h .len) × (getD (h .seg) j 0 ≡ y)
+held-index h y c =
+    let at = count-index y (held h) c in
+    let inside : at .0 < h .len = omega (arith, at .1, length-take (h .len) (h .seg)) in
+    (at .0, inside, sym (getD-take (h .len) (h .seg) (at .0) 0 inside) ∙ at .2)
+
+pub place-held : (h : Heap) (j : ℕ) → j < h .len → h .len ≤ length (h .seg) → 0 < count (getD (h .seg) j 0) (held h)
+place-held h j l k = go (count (getD (h .seg) j 0) (held h)) refl
+  where
+    go : (n : ℕ) → count (getD (h .seg) j 0) (held h) ≡ n → 0 < n
+    go zero e = absurd (count-zero (getD (h .seg) j 0) (held h) e j (rw (length-take (h .len) (h .seg)) (omega arith)) (getD-take (h .len) (h .seg) j 0 l))
+    go (suc n) e = suc-le-suc zero-le
+
 pub top-le : (bytes : List ℕ) (cursors : List (List ℕ)) (h : Heap) (y : ℕ) → Ordered bytes cursors (h .seg) (h .len) → 0 < count y (held h)
     → LE (keyOf bytes cursors (getD (h .seg) 0 0)) (tieOf cursors (getD (h .seg) 0 0)) (keyOf bytes cursors y) (tieOf cursors y)
-top-le bytes cursors h y o c = at-most-le bytes cursors (getD (h .seg) 0 0) y (subst (λ (z : ℕ). AtMost bytes cursors (getD (h .seg) 0 0) z) same (top-least bytes cursors (h .seg) (h .len) (at .0) o inside))
-  where
-    at : (j : ℕ) × (j < length (held h)) × (getD (held h) j 0 ≡ y)
-    at = count-index y (held h) c
-
-    inside : at .0 < h .len
-    inside = omega (arith, at .1, length-take (h .len) (h .seg))
-
-    same : getD (h .seg) (at .0) 0 ≡ y
-    same = sym (getD-take (h .len) (h .seg) (at .0) 0 inside) ∙ at .2
-
-pub top-held : (h : Heap) → 0 < h .len → h .len ≤ length (h .seg) → 0 < count (getD (h .seg) 0 0) (held h)
-top-held h l k = go (count (getD (h .seg) 0 0) (held h)) refl
-  where
-    go : (n : ℕ) → count (getD (h .seg) 0 0) (held h) ≡ n → 0 < n
-    go zero e = absurd (count-zero (getD (h .seg) 0 0) (held h) e 0 (rw (length-take (h .len) (h .seg)) (omega arith)) (getD-take (h .len) (h .seg) 0 0 l))
-    go (suc n) e = suc-le-suc zero-le
+top-le bytes cursors h y o c =
+    let at = held-index h y c in
+    at-most-le bytes cursors (getD (h .seg) 0 0) y (subst (λ (z : ℕ). AtMost bytes cursors (getD (h .seg) 0 0) z) (at .2) (top-least bytes cursors (h .seg) (h .len) (at .0) o (at .1)))

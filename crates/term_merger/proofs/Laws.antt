@@ -23,7 +23,7 @@ use Rattle.term_merger.specs.Order.{cell, keyIn, keyOf, tieOf, orderAt, 
 use Rattle.term_merger.specs.Heap.{one, count, Ordered, Sinking, FirstChild, Risen, Pushed}
 use Rattle.term_merger.specs.Live.{topLives, keptLen, keptNumbers, Settled}
 use Rattle.term_merger.specs.declared.Heap.{Heap}
-use Rattle.lists.proofs.Numbers.{same?}
+use Rattle.lists.proofs.Numbers.{same?, le-lt}
 
 -- ---- the order of segments: by k, then by t
 
@@ -204,6 +204,16 @@ root-least le rf tr g n o (suc m) j h l = go (same? j 0) (λ (k : 0 < j). root-l
     go (inl e) f = subst (λ (x : ℕ). le (g 0) (g x)) (sym e) (rf (g 0))
     go (inr d) f = let p : 0 < j = omega arith in tr _ _ _ (f p) (o j p l)
 
+-- what is at most both places under the first is at most all others
+pub children-least : (le : ℕ → ℕ → Type 0) → ((a b c : ℕ) → le a b → le b c → le a c) → (g : ℕ → ℕ) (n a : ℕ)
+    → ((j : ℕ) → 0 < j → j < n → le (g ((j - 1) / 2)) (g j)) → ((j : ℕ) → 1 ≤ j → j ≤ 2 → j < n → le a (g j)) → (m j : ℕ) → j ≤ m → 0 < j → j < n → le a (g j)
+children-least le tr g n a o f zero j h p l = absurd (omega arith)
+children-least le tr g n a o f (suc m) j h p l = go (le-lt j 3) (λ (k : 3 ≤ j). children-least le tr g n a o f m ((j - 1) / 2) (omega arith) (omega arith) (omega arith))
+  where
+    go : (j < 3) ⊎ (3 ≤ j) → (3 ≤ j → le a (g ((j - 1) / 2))) → le a (g j)
+    go (inl k) t = f j p (omega arith) l
+    go (inr k) t = tr _ _ _ (t k) (o j p l)
+
 -- ---- the same over the heap's array
 
 module _ (bytes : List ℕ) (cursors : List (List ℕ)) where
@@ -262,6 +272,11 @@ module _ (bytes : List ℕ) (cursors : List (List ℕ)) where
   pub top-least : (seg : List ℕ) (n j : ℕ) → Ordered bytes cursors seg n → j < n → AtMost bytes cursors (getD seg 0 0) (getD seg j 0)
   unfolding Ordered
   top-least seg n j o l = root-least (AtMost bytes cursors) (at-most-refl bytes cursors) (at-most-trans bytes cursors) (λ j. getD seg j 0) n o j j (omega arith) l
+
+  -- of all but the top the first of its children is the least
+  pub child-least : (seg : List ℕ) (n c j : ℕ) → Ordered bytes cursors seg n → FirstChild bytes cursors seg 1 n c → 0 < j → j < n → AtMost bytes cursors (getD seg c 0) (getD seg j 0)
+  unfolding Ordered
+  child-least seg n c j o f p l = children-least (AtMost bytes cursors) (at-most-trans bytes cursors) (λ j. getD seg j 0) n (getD seg c 0) o (λ j a b k. f .least j a (omega arith) k) j j (omega arith) p l
 
 -- ---- what the code's comparison says
 

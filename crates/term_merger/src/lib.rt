@@ -110,7 +110,13 @@ pub fn push(heap: Heap, bytes: &[u8], cursors: &[Cursor], s: u8) -> Heap
 }
 
 // The child of a place that comes first: l is the first child, and n is the number of places.
-fn first_child(seg: &[u8; Heap::CAP], bytes: &[u8], cursors: &[Cursor], l: usize, n: usize) -> usize
+pub fn first_child(
+    seg: &[u8; Heap::CAP],
+    bytes: &[u8],
+    cursors: &[Cursor],
+    l: usize,
+    n: usize,
+) -> usize
     requires { ⌜ (256 ≤ length (now cursors)) × TermsInside (now bytes) (now cursors) ⌝ }
     requires { ⌜ (l < n) × (n ≤ 256) ⌝ }
     ensures { λ c. ⌜ FirstChild (now (bytes .entry)) (now (cursors .entry)) (now (seg .entry)) l n c ⌝ }

@@ -55,18 +55,18 @@ singles-not m (o ∷ p ∷ ps) e = go (leb o (m + 1)) refl e (λ f. singles-not 
 
 -- ---- the rank of an id
 
-asc-strict : (ns : List ℕ) → T (ascending ns) → (p q : ℕ) → p < q → q < length ns → getD ns p 0 < getD ns q 0
+pub asc-strict : (ns : List ℕ) → T (ascending ns) → (p q : ℕ) → p < q → q < length ns → getD ns p 0 < getD ns q 0
 asc-strict [] h p q l k = absurd (not-suc-le-zero k)
 asc-strict (n ∷ ns) h p zero l k = absurd (not-suc-le-zero l)
 asc-strict (n ∷ ns) h zero (suc q) l k = asc-at n ns q h (le-of-suc-le-suc k)
 asc-strict (n ∷ ns) h (suc p) (suc q) l k = asc-strict ns (asc-tail n ns h) p q (le-of-suc-le-suc l) (le-of-suc-le-suc k)
 
 module _ (ids : List ℕ) (asc : T (ascending ids)) (k : ℕ) (h : k < length ids) where
-  rank-at : rank (getD ids k 0) ids ≡ k
+  pub rank-at : rank (getD ids k 0) ids ≡ k
   unfolding rankIn
   rank-at = sym (counted (getD ids k 0) ids k (let l : k ≤ length ids = omega arith in l) (λ j l. asc-strict ids asc j k l h) (λ j l m. asc-sorted ids asc k j l m))
 
-  rank-past : rank (suc (getD ids k 0)) ids ≡ suc k
+  pub rank-past : rank (suc (getD ids k 0)) ids ≡ suc k
   unfolding rankIn
   rank-past = sym (counted (suc (getD ids k 0)) ids (suc k) h (λ j l. suc-le-suc (asc-sorted ids asc j k (le-of-suc-le-suc l) h)) (λ j l m. asc-strict ids asc k j l m))
 
@@ -81,7 +81,7 @@ row-width s so r h =
 
 module _ {kind rows n : ℕ} {ids offsets : List ℕ} (so : Sound kind rows n ids offsets) where
   -- small steps: no row has several
-  few : singles offsets ≡ true → (r : ℕ) → r < rows → earlierOf kind ids offsets (suc r) - earlierOf kind ids offsets r ≤ 1
+  pub few : singles offsets ≡ true → (r : ℕ) → r < rows → earlierOf kind ids offsets (suc r) - earlierOf kind ids offsets r ≤ 1
   unfolding earlierOf singles
   few e r h = rw (rank-suc r ids (so .ascends)) (go kind (elem r ids) refl refl)
     where

@@ -7,16 +7,16 @@ use mathlib.Core.Path.{_≡_, refl, sym, ap, ap₂, _∙_}
 use mathlib.Core.List.{List, [], _∷_}
 use mathlib.Core.Bool.{Bool, true, false, cond, true≢false}
 use lib.ListN.{length, getD}
-use lib.Dec.{T, ltb}
+use lib.Dec.{T, eqb, ltb}
 use borrow.Author.Tests.{eq-eqb, ne-eqb, ltb-true, ltb-false}
 use Rattle.definitions.specs.Lists.{ascending}
 use Rattle.segment.specs.Kind.{byIndex}
-use Rattle.segment.proofs.Kind.{index-multi}
 use Rattle.definitions.specs.Row.{rank, bitAt}
 use Rattle.definitions.specs.TimeOrder.{timeOf}
 use Rattle.column_index.specs.Lookup.{rankIn}
 use Rattle.column_index.proofs.Laws.{asc-sorted, counted, below-rank}
-use Rattle.time_cursors.specs.Cursors.{seek, aliveBit, nextRow, valuesUntil, lastKey, keyCursor}
+use Rattle.column_index.proofs.Sound.{earlierOf}
+use Rattle.time_cursors.specs.Cursors.{seek, aliveBit, nextRow, timesBefore, lastKey, keyCursor, timeKind}
 use lib.Arith.{lt-of-le-ne}
 use Rattle.definitions.proofs.Decode.{rank-zero as none-below}
 
@@ -68,16 +68,19 @@ next-plain flag alive rows from d = go (rows - from)
     go zero = refl
     go (suc m) = rw (ne-eqb flag 1 d)
 
-module _ (flag : ℕ) (alive : List ℕ) (rows n : ℕ) (set : flag ≡ 1) where
-  bit : aliveBit flag alive n ≡ bitAt alive n
-  bit = rw (eq-eqb flag 1 set)
+pub all-listed : (flag : ℕ) (alive : List ℕ) (n : ℕ) → (flag ≡ 1 → ⊥) → true ≡ aliveBit flag alive n
+all-listed flag alive n d = rw (ne-eqb flag 1 d)
 
+pub bit : (flag : ℕ) (alive : List ℕ) (n : ℕ) → flag ≡ 1 → aliveBit flag alive n ≡ bitAt alive n
+bit flag alive n set = rw (eq-eqb flag 1 set)
+
+module _ (flag : ℕ) (alive : List ℕ) (rows n : ℕ) (set : flag ≡ 1) where
   one-more : n < rows → nextRow flag alive rows n ≡ cond (bitAt alive n) n (nextRow flag alive rows (n + 1))
   unfolding nextRow
   one-more h =
       let e : rows - n ≡ suc (rows - (n + 1)) = omega arith in
       ap (seek (aliveBit flag alive) n) e
-      ∙ ap₂ (λ (b : Bool) (k : ℕ). cond b n (seek (aliveBit flag alive) k (rows - (n + 1)))) bit (sym (add-one n))
+      ∙ ap₂ (λ (b : Bool) (k : ℕ). cond b n (seek (aliveBit flag alive) k (rows - (n + 1)))) (bit flag alive n set) (sym (add-one n))
 
   pub next-here : n < rows → bitAt alive n ≡ true → n ≡ nextRow flag alive rows n
   next-here h e = sym (one-more h ∙ rw e)
@@ -90,10 +93,6 @@ unfolding nextRow
 next-none flag alive rows n h = let e : rows - n ≡ 0 = omega arith in rw e
 
 -- ---- ids
-
-pub rank-zero : (ids : List ℕ) → 0 ≡ rankIn 0 ids
-unfolding rankIn
-rank-zero ids = sym (none-below ids)
 
 pub rank-grows : (x y : ℕ) (ids : List ℕ) → x ≤ y → rankIn x ids ≤ rankIn y ids
 unfolding rankIn
@@ -118,40 +117,65 @@ module _ (ids : List ℕ) (row : ℕ) (asc : T (ascending ids)) where
   pub ids-end : (n : ℕ) → length ids ≤ n → n ≤ length ids → ((j : ℕ) → j < n → getD ids j 0 ≤ row) → n ≡ rankIn (suc row) ids
   ids-end n h k f = counted (suc row) ids n k (λ j l. suc-le-suc (f j l)) (λ j l m. absurd (omega arith))
 
--- ---- values
+-- ---- times
 
-module _ (kind : ℕ) (offsets : List ℕ) (row k : ℕ) where
-  pub until-empty : kind ≡ 0 → 0 ≡ valuesUntil kind offsets row k
-  unfolding valuesUntil
-  until-empty e = rw e
+module _ (kind : ℕ) (ids : List ℕ) (row : ℕ) where
+  pub times-none : kind ≡ 0 → 0 ≡ timesBefore kind ids (suc row)
+  unfolding timesBefore
+  times-none e = rw e
 
-  pub until-full : kind ≡ 1 → row + 1 ≡ valuesUntil kind offsets row k
-  unfolding valuesUntil
-  until-full e = rw e (add-one row)
+  pub times-full : kind ≡ 1 → row + 1 ≡ timesBefore kind ids (suc row)
+  unfolding timesBefore
+  times-full e = rw e (add-one row)
 
-  pub until-optional : kind ≡ 2 → k ≡ valuesUntil kind offsets row k
-  unfolding valuesUntil
-  until-optional e = rw e
-
-  pub until-multi : 3 ≤ kind → getD offsets k 0 ≡ valuesUntil kind offsets row k
-  unfolding valuesUntil
-  until-multi h = go kind h
+module _ (kind : ℕ) (ids : List ℕ) (n : ℕ) where
+  pub times-listed : (kind ≡ 0 → ⊥) → (kind ≡ 1 → ⊥) → rankIn n ids ≡ timesBefore kind ids n
+  unfolding timesBefore
+  times-listed a b = rw (ne-eqb kind 0 a, ne-eqb kind 1 b) (go (eqb kind 2))
     where
-      go : (n : ℕ) → 3 ≤ n → getD offsets k 0 ≡ byIndex n 0 (suc row) k (getD offsets k 0)
-      go zero h = absurd (omega arith)
-      go (suc zero) h = absurd (omega arith)
-      go (suc (suc zero)) h = absurd (omega arith)
-      go (suc (suc (suc n))) h = sym (index-multi n 0 (suc row) k (getD offsets k 0))
+      go : (c : Bool) → rankIn n ids ≡ cond c (rankIn n ids) (rankIn n ids)
+      go true = refl
+      go false = refl
+
+  -- a column of times has no offsets: where a row's values begin is how many times stand before it
+  pub times-earlier : earlierOf (timeKind kind) ids [] n ≡ timesBefore kind ids n
+  unfolding earlierOf timesBefore rankIn
+  times-earlier = go (eqb kind 0) (eqb kind 1) (eqb kind 2)
+    where
+      go : (a b c : Bool) → byIndex (cond a 0 (cond b 1 (cond c 2 2))) 0 n (rank n ids) (getD [] (rank n ids) 0) ≡ cond a 0 (cond b n (cond c (rank n ids) (rank n ids)))
+      go true b c = refl
+      go false true c = refl
+      go false false true = refl
+      go false false false = refl
+
+  pub times-kind : timesBefore (timeKind kind) ids n ≡ timesBefore kind ids n
+  unfolding timesBefore
+  times-kind = go (eqb kind 0) (eqb kind 1) (eqb kind 2)
+    where
+      go : (a b c : Bool) → byIndex (cond a 0 (cond b 1 (cond c 2 2))) 0 n (rankIn n ids) (rankIn n ids) ≡ cond a 0 (cond b n (cond c (rankIn n ids) (rankIn n ids)))
+      go true b c = refl
+      go false true c = refl
+      go false false true = refl
+      go false false false = refl
+
+pub times-zero : (kind : ℕ) (ids : List ℕ) → 0 ≡ timesBefore kind ids 0
+unfolding timesBefore rankIn
+times-zero kind ids = rw (none-below ids) (go (eqb kind 0) (eqb kind 1) (eqb kind 2))
+  where
+    go : (a b c : Bool) → _≡_ {A = ℕ} 0 (cond a 0 (cond b 0 (cond c 0 0)))
+    go true b c = refl
+    go false true c = refl
+    go false false true = refl
+    go false false false = refl
 
 -- ---- the cursor
 
-pub key-none : (values : List ℕ) (n row rows k : ℕ) → n ≡ 0 → 0 ∷ 0 ∷ 0 ∷ row ∷ rows ∷ k ∷ 0 ∷ 0 ∷ [] ≡ keyCursor (lastKey values n) row rows k
+pub key-none : (values : List ℕ) (n row rows : ℕ) → length values ≡ 0 → 0 ∷ 0 ∷ 0 ∷ row ∷ rows ∷ n ∷ 0 ∷ 0 ∷ [] ≡ keyCursor (lastKey values n) row rows n
 unfolding keyCursor
-key-none values n row rows k e = rw e
+key-none [] n row rows e = refl
+key-none (v ∷ vs) n row rows e = absurd (omega arith)
 
-pub key-time : (values : List ℕ) (n row rows k t : ℕ) → (n ≡ 0 → ⊥) → t ≡ timeOf (getD values (n - 1) 0) → 0 ∷ 0 ∷ 0 ∷ row ∷ rows ∷ k ∷ 1 ∷ t ∷ [] ≡ keyCursor (lastKey values n) row rows k
+pub key-time : (values : List ℕ) (n row rows t : ℕ) → (length values ≡ 0 → ⊥) → t ≡ timeOf (getD values (n - 1) 0) → 0 ∷ 0 ∷ 0 ∷ row ∷ rows ∷ n ∷ 1 ∷ t ∷ [] ≡ keyCursor (lastKey values n) row rows n
 unfolding keyCursor
-key-time values zero row rows k t d e = absurd (d refl)
-key-time values (suc n) row rows k t d e =
-    let f : suc n - 1 ≡ n = omega arith in
-    ap (λ (x : ℕ). 0 ∷ 0 ∷ 0 ∷ row ∷ rows ∷ k ∷ 1 ∷ x ∷ []) (e ∙ ap (λ (x : ℕ). timeOf (getD values x 0)) f)
+key-time [] n row rows t d e = absurd (d refl)
+key-time (v ∷ vs) n row rows t d e = ap (λ (x : ℕ). 0 ∷ 0 ∷ 0 ∷ row ∷ rows ∷ n ∷ 1 ∷ x ∷ []) e

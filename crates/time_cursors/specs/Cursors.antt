@@ -10,9 +10,8 @@ use Rattle.definitions.specs.Segment.{Segment}
 use Rattle.segment.specs.Kind.{byIndex}
 use Rattle.definitions.specs.Row.{bitAt}
 use Rattle.definitions.specs.TimeOrder.{timeOf}
-use Rattle.column_index.specs.Lookup.{rankIn}
-use Rattle.places.specs.Place.{run, kindAt, rowsAt, idsAt, offsetsAt, valuesAt}
-use Rattle.places.specs.Stack.{SoundAt}
+use Rattle.column_index.specs.Lookup.{rankIn, Sound}
+use Rattle.places.specs.Place.{run, kindAt, rowsAt, idsAt, valuesAt}
 
 -- ---- the next alive row
 
@@ -30,17 +29,17 @@ nextRow flag alive rows from = seek (aliveBit flag alive) from (rows - from)
 
 -- ---- its key
 
--- how many values stand before the end of the row; k ids are at most the row
-unfoldable pub valuesUntil : ℕ → List ℕ → ℕ → ℕ → ℕ
-valuesUntil kind offsets row k = byIndex kind 0 (suc row) k (getD offsets k 0)
+-- how many times stand in the rows before n; a row has one at most
+unfoldable pub timesBefore : ℕ → List ℕ → ℕ → ℕ
+timesBefore kind ids n = byIndex kind 0 n (rankIn n ids) (rankIn n ids)
 
--- the key of the last of n times: the time, above 0, and 0 if there is none
+-- the key of the last of the first n times, else of the first one: the time, above 0; and 0 if there is none
 abbrev pub lastKey : List ℕ → ℕ → ℕ
-lastKey values zero = 0
-lastKey values (suc n) = suc (timeOf (getD values n 0))
+lastKey [] n = 0
+lastKey (v ∷ vs) n = suc (timeOf (getD (v ∷ vs) (n - 1) 0))
 
 -- ---- the cursor: eight numbers
--- 0 to 2: an empty term, and no tie before the segment's number; 3 and 4: the row, and the number of rows; 5: how many ids are at most the row
+-- 0 to 2: an empty term, and no tie before the segment's number; 3 and 4: the row, and the number of rows; 5: how many times stand up to the row's end
 -- 6 and 7, the key: 0 before all times, else 1; the time in the order of two's complement
 
 unfoldable pub keyCursor : ℕ → ℕ → ℕ → ℕ → List ℕ
@@ -49,10 +48,10 @@ keyCursor (suc t) row rows k = 0 ∷ 0 ∷ 0 ∷ row ∷ rows ∷ k ∷ 1 ∷ t 
 
 -- of a row of the segment; no row is left at the number of rows
 unfoldable pub cursorAt : Segment → ℕ → List ℕ
-unfolding keyCursor valuesUntil
+unfolding keyCursor timesBefore
 cursorAt s n =
     cond (ltb n (s .rows))
-    (keyCursor (lastKey (s .values) (valuesUntil (s .kind) (s .offsets) n (rankIn (suc n) (s .ids)))) n (s .rows) (rankIn (suc n) (s .ids)))
+    (keyCursor (lastKey (s .values) (timesBefore (s .kind) (s .ids) (suc n))) n (s .rows) (timesBefore (s .kind) (s .ids) (suc n)))
     (keyCursor 0 (s .rows) (s .rows) 0)
 
 -- of the first alive row from the given one on
@@ -66,31 +65,42 @@ firstFrom s from = cursorAt s (nextRow (s .flag) (s .alive) (s .rows) from)
 abbrev pub wordsAt : List ℕ → List ℕ → List ℕ
 wordsAt set alive = run (getD set 1 0) (getD set 2 0) alive
 
--- the segment that stands there, without its type and terms
-unfoldable pub segmentIn : List ℕ → List ℕ → List ℕ → List ℕ → List ℕ → List ℕ → Segment
-segmentIn place set ids offsets values alive =
+-- no row has several times, so kind 4 is as good as kind 2: the offsets say nothing more
+abbrev pub timeKind : ℕ → ℕ
+timeKind kind = byIndex kind 0 1 2 2
+
+-- the segment that stands there, without its type, offsets and terms
+unfoldable pub segmentIn : List ℕ → List ℕ → List ℕ → List ℕ → List ℕ → Segment
+segmentIn place set ids values alive =
     record {
       type = 0;
-      kind = kindAt place;
+      kind = timeKind (kindAt place);
       rows = rowsAt place;
       ids = idsAt place ids;
-      offsets = offsetsAt place offsets;
+      offsets = [];
       values = valuesAt place values;
       terms = [];
       flag = getD set 0 0;
       alive = wordsAt set alive;
     }
 
--- the runs lie within the sections, and what the checks say of them
-pub record Timed (place set ids offsets values alive : List ℕ) : Type 0 where
-  pub sound : SoundAt place ids offsets
+-- the runs of ids and times lie within the sections, and what the checks say of them
+pub record TimesAt (place ids values : List ℕ) : Type 0 where
+  pub ids-run : getD place 2 0 ≤ getD place 3 0
+  pub ids-end : getD place 3 0 ≤ length ids
+  pub values-run : getD place 6 0 ≤ getD place 7 0
   pub values-end : getD place 7 0 ≤ length values
+  pub sound : Sound (timeKind (kindAt place)) (rowsAt place) (length (valuesAt place values)) (idsAt place ids) []
+  pub small : rowsAt place < 4294967296
+
+-- and of the alive words
+pub record Timed (place set ids values alive : List ℕ) : Type 0 where
+  pub times : TimesAt place ids values
   pub alive-run : getD set 1 0 ≤ getD set 2 0
   pub alive-end : getD set 2 0 ≤ length alive
   pub words : getD set 0 0 ≡ 1 → rowsAt place ≤ 64 * (getD set 2 0 - getD set 1 0)
-  pub small : rowsAt place < 4294967296
 
--- the rows from the given one on are left, and k ids are below it
+-- the rows from the given one on are left, and k times stand before it
 pub record Left (place ids : List ℕ) (from k : ℕ) : Type 0 where
   pub row : from ≤ rowsAt place
-  pub ids-before : k ≡ rankIn from (idsAt place ids)
+  pub times : k ≡ timesBefore (kindAt place) (idsAt place ids) from

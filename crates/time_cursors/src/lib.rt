@@ -1,13 +1,36 @@
 // One segment's rows in time order (added by document 01, "Time order"; no Rust file has it): the next alive row with its key, which is its time,
-// else the last time before it in the segment, else before all times. Withdrawn rows are passed over, and still give their time.
+// else the last time before it in the segment, else the first one after it (document 02, (e)), else before all times. Withdrawn rows are passed over,
+// and still give their time.
 ghost use mathlib.Core.Path.{_≡_};
-ghost use Prim.Native.Nat.{suc, _+_, _*_, _<_, _≤_};
+ghost use mathlib.Core.Bool.{cond};
+ghost use Prim.Native.Nat.{suc, _+_, _-_, _*_, _<_, _≤_};
 ghost use lib.ListN.{length};
 ghost use lib.Dec.{T};
 ghost use Rattle.definitions.specs.Lists.{ascending};
 ghost use Rattle.column_index.specs.Lookup.{rankIn};
-ghost use Rattle.time_cursors.specs.Cursors.{nextRow, valuesUntil, lastKey, keyCursor, firstFrom, segmentIn, Timed, Left};
+ghost use Rattle.time_cursors.specs.Cursors.{aliveBit, nextRow, timesBefore, lastKey, keyCursor, firstFrom, segmentIn, Timed, Left};
 use term_merger::Cursor;
+
+// Whether the row is alive; all are where there is no alive set.
+pub fn is_listed(flag: usize, alive: &[u64], row: usize) -> bool
+    requires { ⌜ (flag ≡ 1 → row < 64 * length (now alive)) ⌝ }
+    ensures { λ r. ⌜ r ≡ aliveBit flag (now (alive .entry)) row ⌝ }
+{
+    if flag != 1 {
+        return true;
+    }
+    alive_set::is_alive(alive, row)
+}
+
+// 1 for an alive row, else 0: no branch, which could not be foreseen.
+pub fn one_if_listed(flag: usize, alive: &[u64], row: usize) -> usize
+    requires { ⌜ (flag ≡ 1 → row < 64 * length (now alive)) ⌝ }
+    ensures { λ r. ⌜ r ≡ cond (aliveBit flag (now (alive .entry)) row) 1 0 ⌝ }
+    ensures { λ r. ⌜ r ≤ 1 ⌝ }
+{
+    let b = is_listed(flag, alive, row);
+    b as usize
+}
 
 // The first alive row from the given one on, or the number of rows.
 fn next_alive(flag: usize, alive: &[u64], rows: usize, from: usize) -> usize
@@ -44,11 +67,12 @@ fn ids_until(ids: &[u32], row: usize, k: usize) -> usize
     n
 }
 
-// How many values stand before the end of the row; k ids are at most the row.
-fn values_until(kind: usize, offsets: &[u32], row: usize, k: usize) -> usize
+// How many times stand up to the row's end; k stand before a row that is not after it.
+fn times_until(kind: usize, ids: &[u32], row: usize, k: usize) -> usize
     requires { ⌜ row < 4294967296 ⌝ }
-    requires { ⌜ (3 ≤ kind → k < length (now offsets)) ⌝ }
-    ensures { λ r. ⌜ r ≡ valuesUntil kind (now (offsets .entry)) row k ⌝ }
+    requires { ⌜ T (ascending (now ids)) ⌝ }
+    requires { ⌜ ((kind ≡ 0 → ⊥) → (kind ≡ 1 → ⊥) → k ≤ rankIn (suc row) (now ids)) ⌝ }
+    ensures { λ r. ⌜ r ≡ timesBefore kind (now (ids .entry)) (suc row) ⌝ }
 {
     if kind == 0 {
         return 0;
@@ -56,38 +80,44 @@ fn values_until(kind: usize, offsets: &[u32], row: usize, k: usize) -> usize
     if kind == 1 {
         return row + 1;
     }
-    if kind == 2 {
-        return k;
+    ids_until(ids, row, k)
+}
+
+// Where the last of n times stands, else the first one: untimed rows at a segment's start go with it (02, (e)).
+fn last_of(n: usize) -> usize
+    ensures { λ r. ⌜ r ≡ n - 1 ⌝ }
+{
+    if n == 0 {
+        return 0;
     }
-    segment::wide(offsets[k])
+    n - 1
 }
 
 // The cursor at a row with n times up to its end.
-fn key_cursor(values: &[u64], n: usize, row: usize, rows: usize, k: usize) -> Cursor
+fn key_cursor(values: &[u64], n: usize, row: usize, rows: usize) -> Cursor
     requires { ⌜ n ≤ length (now values) ⌝ }
-    ensures { λ r. ⌜ r ≡ keyCursor (lastKey (now (values .entry)) n) row rows k ⌝ }
+    ensures { λ r. ⌜ r ≡ keyCursor (lastKey (now (values .entry)) n) row rows n ⌝ }
 {
-    if n == 0 {
-        return [0, 0, 0, row, rows, k, 0, 0];
+    if values.len() == 0 {
+        return [0, 0, 0, row, rows, n, 0, 0];
     }
-    let t = time_checks::time_of(values[n - 1]);
-    [0, 0, 0, row, rows, k, 1, t as usize]
+    let t = time_checks::time_of(values[last_of(n)]);
+    [0, 0, 0, row, rows, n, 1, t as usize]
 }
 
-// The cursor at the first alive row from the given one on; k ids are below it.
+// The cursor at the first alive row from the given one on; k times stand before it.
 pub fn first_from(
     place: [usize; 8],
     set: [usize; 3],
     ids: &[u32],
-    offsets: &[u32],
     values: &[u64],
     alive: &[u64],
     from: usize,
     k: usize,
 ) -> Cursor
-    requires { ⌜ Timed place set (now ids) (now offsets) (now values) (now alive) ⌝ }
+    requires { ⌜ Timed place set (now ids) (now values) (now alive) ⌝ }
     requires { ⌜ Left place (now ids) from k ⌝ }
-    ensures { λ r. ⌜ r ≡ firstFrom (segmentIn place set (now (ids .entry)) (now (offsets .entry)) (now (values .entry)) (now (alive .entry))) from ⌝ }
+    ensures { λ r. ⌜ r ≡ firstFrom (segmentIn place set (now (ids .entry)) (now (values .entry)) (now (alive .entry))) from ⌝ }
 {
     let rows = place[1];
     let a = set[1];
@@ -98,11 +128,8 @@ pub fn first_from(
     }
     let c = place[2];
     let d = place[3];
-    let j = ids_until(&ids[c..d], n, k);
-    let e = place[4];
-    let f = place[5];
-    let m = values_until(place[0], &offsets[e..f], n, j);
-    let g = place[6];
-    let h = place[7];
-    key_cursor(&values[g..h], m, n, rows, j)
+    let m = times_until(place[0], &ids[c..d], n, k);
+    let e = place[6];
+    let f = place[7];
+    key_cursor(&values[e..f], m, n, rows)
 }

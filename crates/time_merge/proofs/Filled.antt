@@ -8,26 +8,26 @@ use lib.ListN.{length, getD, set, replicate, length-set, getD-replicate}
 use lib.Seq.{getD-set-same, getD-set-other}
 use Rattle.definitions.specs.Segment.{Segment}
 use Rattle.definitions.specs.Join.{absent}
-use Rattle.places.specs.Place.{idsAt}
+use Rattle.places.specs.Place.{kindAt, idsAt}
 use Rattle.time_cursors.specs.Cursors.{keyCursor, cursorAt, nextRow, firstFrom, Left}
-use Rattle.time_cursors.proofs.Laws.{rank-zero}
+use Rattle.time_cursors.proofs.Laws.{times-zero}
 use Rattle.time_merge.specs.Order.{placed, placedSegments, Ready, Begins}
 use Rattle.time_merge.proofs.Keyed.{segment-there, segment-none}
 use Rattle.lists.proofs.Numbers.{same?, le-lt}
 use lib.Arith.{lt-of-le-ne}
 
 -- the first s cursors are filled
-pub record Filled (places alives : List (List ℕ)) (ids offsets values alive : List ℕ) (cursors : List (List ℕ)) (s : ℕ) : Type 0 where
+pub record Filled (places alives : List (List ℕ)) (ids values alive : List ℕ) (cursors : List (List ℕ)) (s : ℕ) : Type 0 where
   pub size : length cursors ≡ 256
-  pub cursor : (x : ℕ) → x < s → getD cursors x [] ≡ firstFrom (placed places alives ids offsets values alive x) 0
+  pub cursor : (x : ℕ) → x < s → getD cursors x [] ≡ firstFrom (placed places alives ids values alive x) 0
   pub blank : (x : ℕ) → s ≤ x → x < 256 → getD cursors x [] ≡ replicate 8 0
 
 absent-cursor : replicate 8 0 ≡ firstFrom absent 0
 unfolding firstFrom cursorAt keyCursor nextRow
 absent-cursor = refl
 
-module _ {places alives : List (List ℕ)} {ids offsets values alive : List ℕ} (y : Ready places alives ids offsets values alive) where
-  pub filled-start : (cursors : List (List ℕ)) → cursors ≡ replicate 256 (replicate 8 0) → Filled places alives ids offsets values alive cursors 0
+module _ {places alives : List (List ℕ)} {ids values alive : List ℕ} (y : Ready places alives ids values alive) where
+  pub filled-start : (cursors : List (List ℕ)) → cursors ≡ replicate 256 (replicate 8 0) → Filled places alives ids values alive cursors 0
   filled-start cursors e =
       record {
         size = ap length e;
@@ -36,10 +36,10 @@ module _ {places alives : List (List ℕ)} {ids offsets values alive : List ℕ}
       }
 
   pub all-left : (x : ℕ) → Left (getD places x []) ids 0 0
-  all-left x = record { row = zero-le; ids-before = rank-zero (idsAt (getD places x []) ids) }
+  all-left x = record { row = zero-le; times = times-zero (kindAt (getD places x [])) (idsAt (getD places x []) ids) }
 
-  module _ {cursors : List (List ℕ)} {s : ℕ} (g : Filled places alives ids offsets values alive cursors s) where
-    pub filled-more : s < length places → (new : List ℕ) → new ≡ firstFrom (placed places alives ids offsets values alive s) 0 → Filled places alives ids offsets values alive (set cursors s new) (s + 1)
+  module _ {cursors : List (List ℕ)} {s : ℕ} (g : Filled places alives ids values alive cursors s) where
+    pub filled-more : s < length places → (new : List ℕ) → new ≡ firstFrom (placed places alives ids values alive s) 0 → Filled places alives ids values alive (set cursors s new) (s + 1)
     filled-more h new e =
         record {
           size = length-set cursors s new ∙ g .size;
@@ -47,17 +47,17 @@ module _ {places alives : List (List ℕ)} {ids offsets values alive : List ℕ}
           blank = λ x l m. getD-set-other cursors s x new [] (λ q. omega arith) ∙ g .blank x (omega arith) m;
         }
       where
-        go : (x : ℕ) → x < s + 1 → (x ≡ s) ⊎ (x ≡ s → ⊥) → getD (set cursors s new) x [] ≡ firstFrom (placed places alives ids offsets values alive x) 0
+        go : (x : ℕ) → x < s + 1 → (x ≡ s) ⊎ (x ≡ s → ⊥) → getD (set cursors s new) x [] ≡ firstFrom (placed places alives ids values alive x) 0
         go x l (inl q) =
             ap (λ (n : ℕ). getD (set cursors s new) n []) q
             ∙ getD-set-same cursors s new [] (omega (arith, g .size, y .few))
             ∙ e
-            ∙ ap (λ (n : ℕ). firstFrom (placed places alives ids offsets values alive n) 0) (sym q)
+            ∙ ap (λ (n : ℕ). firstFrom (placed places alives ids values alive n) 0) (sym q)
         go x l (inr d) = getD-set-other cursors s x new [] d ∙ g .cursor x (lt-of-le-ne (let q : x ≤ s = omega arith in q) d)
 
-    pub filled-end : length places ≤ s → s ≤ length places → Begins (placedSegments places alives ids offsets values alive) cursors
+    pub filled-end : length places ≤ s → s ≤ length places → Begins (placedSegments places alives ids values alive) cursors
     filled-end h l = record { size = g .size; cursor = λ x k. go x k (le-lt x (length places)) }
       where
-        go : (x : ℕ) → x < 256 → (x < length places) ⊎ (length places ≤ x) → getD cursors x [] ≡ firstFrom (getD (placedSegments places alives ids offsets values alive) x absent) 0
+        go : (x : ℕ) → x < 256 → (x < length places) ⊎ (length places ≤ x) → getD cursors x [] ≡ firstFrom (getD (placedSegments places alives ids values alive) x absent) 0
         go x k (inl m) = g .cursor x (omega arith) ∙ ap (λ (s : Segment). firstFrom s 0) (sym (segment-there y x m))
         go x k (inr m) = g .blank x (omega arith) k ∙ absent-cursor ∙ ap (λ (s : Segment). firstFrom s 0) (sym (segment-none y x m))

@@ -6,28 +6,29 @@ use mathlib.Core.Path.{_≡_, refl, sym, ap, _∙_, subst}
 use mathlib.Core.Logic.{_⊎_, inl, inr}
 use mathlib.Core.List.{List, [], _∷_, map}
 use lib.ListN.{length, getD, List·getD-eq-default}
-use lib.Dec.{T}
-use borrow.Author.Tests.{lt-ltb, le-ltb}
+use lib.Dec.{T, eqb, ltb}
+use borrow.Author.Tests.{lt-ltb, le-ltb, ltb-true, eqb-true}
+use mathlib.Core.Bool.{Bool, true, false, cond, false≢true}
 use Rattle.definitions.specs.Lists.{notFalling}
 use Rattle.definitions.specs.Segment.{Segment, address as at}
-use Rattle.definitions.specs.Row.{rowValues}
 use Rattle.definitions.specs.Join.{absent}
 use Rattle.definitions.specs.TimeOrder.{timeOf, keyOf}
 use Rattle.definitions.proofs.Terms.{Before, lower, behind, before-some}
-use Rattle.column_index.specs.Lookup.{rankIn, Sound}
-use Rattle.places.specs.Place.{kindAt, rowsAt, idsAt, offsetsAt, valuesAt}
+use Rattle.column_index.specs.Lookup.{Sound}
+use Rattle.column_index.proofs.Sound.{earlierOf}
+use Rattle.places.specs.Place.{kindAt, rowsAt, idsAt}
 use Rattle.places.specs.Places.{table}
 use Rattle.places.proofs.Fill.{table-length, table-at}
 use Rattle.term_order.specs.Key.{restOf, keyed, Inside}
 use Rattle.term_merger.specs.Order.{tieOf}
 use Rattle.term_merger.specs.Order as heap
 use Rattle.term_merger.proofs.Laws.{LE}
-use Rattle.time_cursors.specs.Cursors.{lastKey, valuesUntil, keyCursor, cursorAt, segmentIn}
-use Rattle.time_cursors.proofs.Parts.{until-earlier}
-use Rattle.time_cursors.proofs.Keys.{key-earlier, key-grows}
+use Rattle.time_cursors.specs.Cursors.{lastKey, timesBefore, keyCursor, cursorAt, segmentIn}
+use Rattle.time_cursors.proofs.Laws.{times-earlier, times-kind}
+use Rattle.time_cursors.proofs.Keys.{none-several, key-earlier, key-grows}
 use Rattle.time_merge.specs.Order.{placed, placedSegments, Ready, Rising}
+use Rattle.time_merge.specs.Runs.{within, boundAt}
 use Rattle.lists.proofs.Numbers.{le-lt}
-use Rattle.lists.proofs.Parts.{run-length}
 
 -- ---- the cursor's numbers
 
@@ -51,12 +52,15 @@ unfolding keyCursor
 key-inside bytes zero n rows k = record { low = zero-le; high = zero-le }
 key-inside bytes (suc t) n rows k = record { low = zero-le; high = zero-le }
 
--- the key that a cursor has, where a row is left
+-- the key that a cursor has, where a row is left, and how many times stand up to the row's end
+abbrev pub timesTo : Segment → ℕ → ℕ
+timesTo s n = timesBefore (s .kind) (s .ids) (suc n)
+
 abbrev pub keyAt : Segment → ℕ → ℕ
-keyAt s n = lastKey (s .values) (valuesUntil (s .kind) (s .offsets) n (rankIn (suc n) (s .ids)))
+keyAt s n = lastKey (s .values) (timesTo s n)
 
 module _ (s : Segment) (n : ℕ) where
-  pub cursor-left : n < s .rows → cursorAt s n ≡ keyCursor (keyAt s n) n (s .rows) (rankIn (suc n) (s .ids))
+  pub cursor-left : n < s .rows → cursorAt s n ≡ keyCursor (keyAt s n) n (s .rows) (timesTo s n)
   unfolding cursorAt
   cursor-left h = rw (lt-ltb n (s .rows) h)
 
@@ -68,24 +72,24 @@ module _ (s : Segment) (n : ℕ) where
   cursor-3 l = go (le-lt n (s .rows))
     where
       go : (n < s .rows) ⊎ (s .rows ≤ n) → getD (cursorAt s n) 3 0 ≡ n
-      go (inl h) = ap (λ (r : List ℕ). getD r 3 0) (cursor-left h) ∙ key-3 (keyAt s n) n (s .rows) (rankIn (suc n) (s .ids))
+      go (inl h) = ap (λ (r : List ℕ). getD r 3 0) (cursor-left h) ∙ key-3 (keyAt s n) n (s .rows) (timesTo s n)
       go (inr h) = ap (λ (r : List ℕ). getD r 3 0) (cursor-over h) ∙ key-3 0 (s .rows) (s .rows) 0 ∙ (let e : s .rows ≡ n = omega arith in e)
 
   pub cursor-4 : getD (cursorAt s n) 4 0 ≡ s .rows
   cursor-4 = go (le-lt n (s .rows))
     where
       go : (n < s .rows) ⊎ (s .rows ≤ n) → getD (cursorAt s n) 4 0 ≡ s .rows
-      go (inl h) = ap (λ (r : List ℕ). getD r 4 0) (cursor-left h) ∙ key-4 (keyAt s n) n (s .rows) (rankIn (suc n) (s .ids))
+      go (inl h) = ap (λ (r : List ℕ). getD r 4 0) (cursor-left h) ∙ key-4 (keyAt s n) n (s .rows) (timesTo s n)
       go (inr h) = ap (λ (r : List ℕ). getD r 4 0) (cursor-over h) ∙ key-4 0 (s .rows) (s .rows) 0
 
-  pub cursor-5 : n < s .rows → getD (cursorAt s n) 5 0 ≡ rankIn (suc n) (s .ids)
-  cursor-5 h = ap (λ (r : List ℕ). getD r 5 0) (cursor-left h) ∙ key-5 (keyAt s n) n (s .rows) (rankIn (suc n) (s .ids))
+  pub cursor-5 : n < s .rows → getD (cursorAt s n) 5 0 ≡ timesTo s n
+  cursor-5 h = ap (λ (r : List ℕ). getD r 5 0) (cursor-left h) ∙ key-5 (keyAt s n) n (s .rows) (timesTo s n)
 
   pub cursor-inside : (bytes : List ℕ) → Inside bytes (heap.keyIn (cursorAt s n))
   cursor-inside bytes = go (le-lt n (s .rows))
     where
       go : (n < s .rows) ⊎ (s .rows ≤ n) → Inside bytes (heap.keyIn (cursorAt s n))
-      go (inl h) = subst (λ (r : List ℕ). Inside bytes (heap.keyIn r)) (sym (cursor-left h)) (key-inside bytes (keyAt s n) n (s .rows) (rankIn (suc n) (s .ids)))
+      go (inl h) = subst (λ (r : List ℕ). Inside bytes (heap.keyIn r)) (sym (cursor-left h)) (key-inside bytes (keyAt s n) n (s .rows) (timesTo s n))
       go (inr h) = subst (λ (r : List ℕ). Inside bytes (heap.keyIn r)) (sym (cursor-over h)) (key-inside bytes 0 (s .rows) (s .rows) 0)
 
 -- ---- the heap's order is that of the keys, then of the segments' numbers
@@ -165,64 +169,77 @@ cursors-order bytes cursors s y k l n m p q i j e f h =
     (subst (λ (r : List ℕ). LE (compared bytes (keyCursor k n p i)) (getD (keyCursor k n p i) 2 0 ∷ s ∷ []) (compared bytes r) (getD r 2 0 ∷ y ∷ [])) f
     (subst (λ (r : List ℕ). LE (compared bytes r) (getD r 2 0 ∷ s ∷ []) (compared bytes (getD cursors y [])) (getD (getD cursors y []) 2 0 ∷ y ∷ [])) e h))
 
+-- a time that comes within the bound of a cursor comes before its key
+pub within-key : (cursors : List (List ℕ)) (s c k n p i w : ℕ) → getD cursors c [] ≡ keyCursor k n p i → within (boundAt cursors s c) w ≡ true
+    → (suc (timeOf w) < k) ⊎ ((suc (timeOf w) ≡ k) × (s < c))
+unfolding keyCursor within
+within-key cursors s c zero n p i w e h = absurd (false≢true (ap (λ (r : List ℕ). cond (eqb (getD r 6 0) 0) false (cond (eqb (timeOf w) (getD r 7 0)) (ltb s c) (ltb (timeOf w) (getD r 7 0)))) (sym e) ∙ h))
+within-key cursors s c (suc t) n p i w e h =
+    go (eqb (timeOf w) t) refl (ap (λ (r : List ℕ). cond (eqb (getD r 6 0) 0) false (cond (eqb (timeOf w) (getD r 7 0)) (ltb s c) (ltb (timeOf w) (getD r 7 0)))) (sym e) ∙ h)
+  where
+    go : (b : Bool) → eqb (timeOf w) t ≡ b → cond b (ltb s c) (ltb (timeOf w) t) ≡ true → (suc (timeOf w) < suc t) ⊎ ((suc (timeOf w) ≡ suc t) × (s < c))
+    go true f h = inr (ap suc (eqb-true (timeOf w) t f), ltb-true s c h)
+    go false f h = inl (suc-le-suc (ltb-true (timeOf w) t h))
+
 -- ---- the segments and their keys
 
 -- what a segment of times that has passed the checks is
 record Keyed (s : Segment) : Type 0 where
   sound : Sound (s .kind) (s .rows) (length (s .values)) (s .ids) (s .offsets)
-  single : (r : ℕ) → r < s .rows → length (rowValues s r) ≤ 1
+  single : (r : ℕ) → r < s .rows → earlierOf (s .kind) (s .ids) (s .offsets) (suc r) - earlierOf (s .kind) (s .ids) (s .offsets) r ≤ 1
+  times : (n : ℕ) → earlierOf (s .kind) (s .ids) (s .offsets) n ≡ timesBefore (s .kind) (s .ids) n
   rising : T (notFalling (map timeOf (s .values)))
 
-module _ {places alives : List (List ℕ)} {ids offsets values alive : List ℕ} (y : Ready places alives ids offsets values alive) where
-  pub segment-there : (x : ℕ) → x < length places → getD (placedSegments places alives ids offsets values alive) x absent ≡ placed places alives ids offsets values alive x
+module _ {places alives : List (List ℕ)} {ids values alive : List ℕ} (y : Ready places alives ids values alive) where
+  pub segment-there : (x : ℕ) → x < length places → getD (placedSegments places alives ids values alive) x absent ≡ placed places alives ids values alive x
   unfolding placedSegments
-  segment-there x h = table-at (placed places alives ids offsets values alive) absent (length places) x h
+  segment-there x h = table-at (placed places alives ids values alive) absent (length places) x h
 
-  pub segment-none : (x : ℕ) → length places ≤ x → getD (placedSegments places alives ids offsets values alive) x absent ≡ absent
+  pub segment-none : (x : ℕ) → length places ≤ x → getD (placedSegments places alives ids values alive) x absent ≡ absent
   unfolding placedSegments
   segment-none x h =
-      let l : length (table (placed places alives ids offsets values alive) (length places)) ≤ x = omega (arith, table-length (placed places alives ids offsets values alive) (length places)) in
-      List·getD-eq-default (table (placed places alives ids offsets values alive) (length places)) absent l
+      let l : length (table (placed places alives ids values alive) (length places)) ≤ x = omega (arith, table-length (placed places alives ids values alive) (length places)) in
+      List·getD-eq-default (table (placed places alives ids values alive) (length places)) absent l
 
-  pub rows-there : (x : ℕ) → x < length places → getD (placedSegments places alives ids offsets values alive) x absent .rows ≡ rowsAt (getD places x [])
+  pub rows-there : (x : ℕ) → x < length places → getD (placedSegments places alives ids values alive) x absent .rows ≡ rowsAt (getD places x [])
   unfolding segmentIn
   rows-there x h = ap (λ (s : Segment). s .rows) (segment-there x h)
 
-  pub there : (x : ℕ) → 0 < getD (placedSegments places alives ids offsets values alive) x absent .rows → x < length places
+  pub there : (x : ℕ) → 0 < getD (placedSegments places alives ids values alive) x absent .rows → x < length places
   there x h = go (le-lt x (length places))
     where
       go : (x < length places) ⊎ (length places ≤ x) → x < length places
       go (inl k) = k
-      go (inr k) = absurd (let e : getD (placedSegments places alives ids offsets values alive) x absent .rows ≡ 0 = ap (λ (s : Segment). s .rows) (segment-none x k) in omega arith)
+      go (inr k) = absurd (let e : getD (placedSegments places alives ids values alive) x absent .rows ≡ 0 = ap (λ (s : Segment). s .rows) (segment-none x k) in omega arith)
 
-  module _ {out : List (List ℕ)} (z : Rising places alives ids offsets values alive out) where
-    keyed-place : (x : ℕ) → x < length places → Keyed (placed places alives ids offsets values alive x)
+  module _ {out : List (List ℕ)} (z : Rising places alives ids values alive out) where
+    keyed-place : (x : ℕ) → x < length places → Keyed (placed places alives ids values alive x)
     unfolding segmentIn
     keyed-place x h =
-        let t = y .timed x h in
-        let n : length (valuesAt (getD places x []) values) ≡ getD (getD places x []) 7 0 - getD (getD places x []) 6 0 = run-length (getD (getD places x []) 6 0) (getD (getD places x []) 7 0) values (t .values-end) in
+        let place = getD places x [] in
         record {
-          sound = subst (λ (k : ℕ). Sound (kindAt (getD places x [])) (rowsAt (getD places x [])) k (idsAt (getD places x []) ids) (offsetsAt (getD places x []) offsets)) (sym n) (t .sound .sound);
-          single = λ r l. z .single x r h l;
+          sound = y .timed x h .times .sound;
+          single = none-several (y .timed x h .times .sound);
+          times = λ n. times-earlier (kindAt place) (idsAt place ids) n ∙ sym (times-kind (kindAt place) (idsAt place ids) n);
           rising = z .rising x h;
         }
 
-    keyed-at : (x : ℕ) → x < length places → Keyed (getD (placedSegments places alives ids offsets values alive) x absent)
+    keyed-at : (x : ℕ) → x < length places → Keyed (getD (placedSegments places alives ids values alive) x absent)
     keyed-at x h = subst Keyed (sym (segment-there x h)) (keyed-place x h)
 
     -- the key in the cursor is the definitions'
-    pub key-is : (x n : ℕ) → n < getD (placedSegments places alives ids offsets values alive) x absent .rows
-        → keyAt (getD (placedSegments places alives ids offsets values alive) x absent) n ≡ keyOf (placedSegments places alives ids offsets values alive) (at x n)
+    pub key-is : (x n : ℕ) → n < getD (placedSegments places alives ids values alive) x absent .rows
+        → keyAt (getD (placedSegments places alives ids values alive) x absent) n ≡ keyOf (placedSegments places alives ids values alive) (at x n)
     unfolding keyOf
     key-is x n h =
-        let s = getD (placedSegments places alives ids offsets values alive) x absent in
+        let s = getD (placedSegments places alives ids values alive) x absent in
         let k = keyed-at x (there x (omega arith)) in
-        ap (lastKey (s .values)) (until-earlier (s .kind) (s .ids) (s .offsets) n) ∙ sym (key-earlier s (k .sound) (k .single) (suc n) h)
+        ap (lastKey (s .values)) (sym (k .times (suc n))) ∙ sym (key-earlier s (k .sound) (k .single) (suc n) h)
 
-    pub keys-grow : (x n m : ℕ) → n ≤ m → m < getD (placedSegments places alives ids offsets values alive) x absent .rows
-        → keyOf (placedSegments places alives ids offsets values alive) (at x n) ≤ keyOf (placedSegments places alives ids offsets values alive) (at x m)
+    pub keys-grow : (x n m : ℕ) → n ≤ m → m < getD (placedSegments places alives ids values alive) x absent .rows
+        → keyOf (placedSegments places alives ids values alive) (at x n) ≤ keyOf (placedSegments places alives ids values alive) (at x m)
     unfolding keyOf
     keys-grow x n m h l =
-        let s = getD (placedSegments places alives ids offsets values alive) x absent in
+        let s = getD (placedSegments places alives ids values alive) x absent in
         let k = keyed-at x (there x (omega arith)) in
         key-grows s (k .sound) (k .single) (k .rising) (suc n) (suc m) (suc-le-suc h) l

@@ -1,4 +1,6 @@
-pub mod Standing
 pub mod Keyed
-pub mod Going
 pub mod Filled
+pub mod Rows
+pub mod Reaching
+pub mod Standing
+pub mod Going

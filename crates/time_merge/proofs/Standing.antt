@@ -1,22 +1,23 @@
 -- The merge without the code: P x is the row at which segment x stands, alive or the number of its rows; done is what is written. Assumes nothing.
-use Prim.Native.Nat.{ℕ, _+_, _-_, _≤_, _<_, zero-le}
+use Prim.Native.Nat.{ℕ, zero, suc, _+_, _-_, _≤_, _<_, zero-le}
 use native.Mathlib.Nat.{le-refl}
+use native.Mathlib.Numerals.{add-one}
 use native.Mathlib.Omega.{arith}
 use mathlib.Core.Path.{_≡_, refl, sym, ap, _∙_, subst}
 use mathlib.Core.Logic.{_⊎_, inl, inr}
-use mathlib.Core.List.{List, [], _∷_, _++_, append-assoc, append-nil}
+use mathlib.Core.List.{List, [], _∷_, _++_, map, append-assoc, append-nil}
 use mathlib.Core.Bool.{Bool, true, false, cond, _&&_, _||_, false≢true, true≢false}
 use lib.ListN.{length, getD, length-append, List·getD-eq-default}
 use lib.Dec.{eqb, ltb, leb}
 use borrow.Author.Tests.{eq-eqb, ne-eqb, lt-ltb, le-ltb, le-leb, lt-leb, leb-true, leb-false}
-use Rattle.definitions.specs.Lists.{filter}
+use Rattle.definitions.specs.Lists.{upFrom, filter}
 use Rattle.definitions.specs.Segment.{Segment, Address, address as at}
 use Rattle.definitions.specs.Row.{isAlive}
 use Rattle.definitions.specs.Join.{absent, stackedFrom}
 use Rattle.definitions.specs.Answer.{sameAddress, isAliveAt, aliveAddresses}
 use Rattle.definitions.specs.TimeOrder.{keyOf, isBefore, sortAddresses, timeOrder}
 use Rattle.definitions.proofs.TimeOrder.{Alive, alive-back, alive-at, alive-once, filter-same, filter-nothing, take-first}
-use Rattle.time_cursors.specs.Cursors.{nextRow}
+use Rattle.time_cursors.specs.Cursors.{seek, nextRow}
 use Rattle.time_cursors.proofs.Laws.{seek-found, seek-first}
 use Rattle.time_cursors.proofs.Parts.{next-low, next-high}
 use Rattle.lists.proofs.Numbers.{same?, le-lt}
@@ -205,7 +206,7 @@ module _ (ss : List Segment) where
     taken : sortAddresses ss (filter (left P) (stackedFrom 0 ss)) ≡ at s (P s) ∷ sortAddresses ss (filter (left P′) (stackedFrom 0 ss))
     taken = take-first ss (at s (P s)) (left P) (left P′) left-a gone-a others first (stackedFrom 0 ss) (alive-once ss (at s (P s)) alive-a)
 
-    pub standing-next : Standing (bump P s (next s (P s + 1))) (done ++ (at s (P s) ∷ []))
+    standing-next : Standing (bump P s (next s (P s + 1))) (done ++ (at s (P s) ∷ []))
     standing-next =
         record {
           place = λ x. place x (same? x s);
@@ -226,8 +227,77 @@ module _ (ss : List Segment) where
             let q : P′ x ≡ P x = bump-there P s (next s (P s + 1)) x d in
             subst (λ (z : ℕ). isAlive (seg x) z ≡ true) (sym q) (g .alive x (omega arith))
 
-    -- one more address is there to be written
-    pub one-left : length done < length (timeOrder ss)
-    one-left =
-        let e : length (done ++ (at s (P s) ∷ sortAddresses ss (filter (left P′) (stackedFrom 0 ss)))) ≡ length (timeOrder ss) = ap length (ap (λ (l : List Address). done ++ l) (sym taken) ∙ g .rest) in
-        omega (arith, length-append done (at s (P s) ∷ sortAddresses ss (filter (left P′) (stackedFrom 0 ss))))
+  -- what is written has place in the order
+  pub standing-room : (P : ℕ → ℕ) (done : List Address) → Standing P done → length done ≤ length (timeOrder ss)
+  standing-room P done g = omega (arith, ap length (g .rest), length-append done (sortAddresses ss (filter (left P) (stackedFrom 0 ss))))
+
+  -- ---- a run: segment s goes on to row e, and each row before e comes before the next row of every other segment
+
+  next-step : (x n : ℕ) → n < seg x .rows → next x n ≡ cond (isAlive (seg x) n) n (next x (n + 1))
+  unfolding nextRow isAlive
+  next-step x n h =
+      let e : seg x .rows - n ≡ suc (seg x .rows - (n + 1)) = omega arith in
+      ap (seek (isAlive (seg x)) n) e ∙ ap (λ (k : ℕ). cond (isAlive (seg x) n) n (seek (isAlive (seg x)) k (seg x .rows - (n + 1)))) (sym (add-one n))
+
+  bump-bump : (P : ℕ → ℕ) (s a b : ℕ) → bump (bump P s a) s b ≡ bump P s b
+  bump-bump P s a b = λ i x. at x (same? x s) i
+    where
+      at : (x : ℕ) → (x ≡ s) ⊎ (x ≡ s → ⊥) → bump (bump P s a) s b x ≡ bump P s b x
+      at x (inl e) = bump-here (bump P s a) s b x e ∙ sym (bump-here P s b x e)
+      at x (inr d) = bump-there (bump P s a) s b x d ∙ bump-there P s a x d ∙ sym (bump-there P s b x d)
+
+  -- the rows of the run that are alive, n rows looked at from r on
+  abbrev pub aliveRows : ℕ → ℕ → ℕ → List ℕ
+  aliveRows s r n = filter (isAlive (seg s)) (upFrom r n)
+
+  module _ (P : ℕ → ℕ) (s e : ℕ) (inside : e ≤ seg s .rows)
+      (grows : (x n m : ℕ) → n ≤ m → m < seg x .rows → keyOf ss (at x n) ≤ keyOf ss (at x m))
+      (before : (r : ℕ) → r < e → (y : ℕ) → (y ≡ s → ⊥) → P y < seg y .rows → (keyOf ss (at s r) < keyOf ss (at y (P y))) ⊎ ((keyOf ss (at s r) ≡ keyOf ss (at y (P y))) × (s ≤ y))) where
+    -- segment s stands at its first alive row from r on
+    abbrev Q : ℕ → ℕ → ℕ
+    Q r = bump P s (next s r)
+
+    one : (r : ℕ) (done : List Address) → r < e → isAlive (seg s) r ≡ true → Standing (Q r) done → Standing (Q (r + 1)) (done ++ (at s r ∷ []))
+    one r done h live g =
+        subst (λ (R : ℕ → ℕ). Standing R (done ++ (at s r ∷ []))) (bump-bump P s (next s r) (next s (r + 1)))
+        (subst (λ (k : ℕ). Standing (bump (Q r) s (next s (k + 1))) (done ++ (at s k ∷ []))) here
+        (standing-next (Q r) done s g (rw here (omega arith)) grows least))
+      where
+        here : Q r s ≡ r
+        here = bump-here P s (next s r) s refl ∙ next-step s r (omega arith) ∙ rw live
+
+        least : (y : ℕ) → Q r y < seg y .rows → (keyOf ss (at s (Q r s)) < keyOf ss (at y (Q r y))) ⊎ ((keyOf ss (at s (Q r s)) ≡ keyOf ss (at y (Q r y))) × (s ≤ y))
+        least y l = go (same? y s)
+          where
+            go : (y ≡ s) ⊎ (y ≡ s → ⊥) → (keyOf ss (at s (Q r s)) < keyOf ss (at y (Q r y))) ⊎ ((keyOf ss (at s (Q r s)) ≡ keyOf ss (at y (Q r y))) × (s ≤ y))
+            go (inl q) = inr (ap (λ (x : ℕ). keyOf ss (at x (Q r x))) (sym q), (let z : s ≤ y = omega arith in z))
+            go (inr d) =
+                let there = bump-there P s (next s r) y d in
+                rw (here, there) (before r h y d (subst (λ (k : ℕ). k < seg y .rows) there l))
+
+    pass : (r : ℕ) (done : List Address) → r < e → isAlive (seg s) r ≡ false → Standing (Q r) done → Standing (Q (r + 1)) done
+    pass r done h dead g = subst (λ (k : ℕ). Standing (bump P s k) done) (next-step s r (omega arith) ∙ rw dead) g
+
+    run : (n r : ℕ) (done : List Address) → r + n ≡ e → Standing (Q r) done → Standing (Q e) (done ++ map (at s) (aliveRows s r n))
+    run zero r done h g =
+        let z : r ≡ e = omega arith in
+        subst (λ (k : ℕ). Standing (Q k) (done ++ [])) z (rw (append-nil done) g)
+    run (suc n) r done h g =
+        go (isAlive (seg s) r) refl (λ more k. subst (λ (m : ℕ). Standing (Q e) (more ++ map (at s) (aliveRows s m n))) (add-one r) (run n (r + 1) more (omega arith) k))
+      where
+        go : (b : Bool) → isAlive (seg s) r ≡ b → ((more : List Address) → Standing (Q (r + 1)) more → Standing (Q e) (more ++ map (at s) (aliveRows s (suc r) n)))
+            → Standing (Q e) (done ++ map (at s) (cond b (r ∷ aliveRows s (suc r) n) (aliveRows s (suc r) n)))
+        go true live on =
+            subst (λ (l : List Address). Standing (Q e) l) (append-assoc done (at s r ∷ []) (map (at s) (aliveRows s (suc r) n)))
+            (on (done ++ (at s r ∷ [])) (one r done (omega arith) live g))
+        go false dead on = on done (pass r done (omega arith) dead g)
+
+    pub standing-run : (done : List Address) → Standing P done → P s ≤ e → P s < seg s .rows → Standing (bump P s (next s e)) (done ++ map (at s) (aliveRows s (P s) (e - P s)))
+    standing-run done g h live = run (e - P s) (P s) done (omega arith) (subst (λ (R : ℕ → ℕ). Standing R done) (λ i x. same x (same? x s) i) g)
+      where
+        stays : next s (P s) ≡ P s
+        stays = next-step s (P s) live ∙ rw (g .alive s live)
+
+        same : (x : ℕ) → (x ≡ s) ⊎ (x ≡ s → ⊥) → P x ≡ bump P s (next s (P s)) x
+        same x (inl q) = ap P q ∙ sym (bump-here P s (next s (P s)) x q ∙ stays)
+        same x (inr d) = sym (bump-there P s (next s (P s)) x d)

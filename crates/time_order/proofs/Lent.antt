@@ -1,5 +1,5 @@
 -- What an answer of 0 gives to the merge, and what the merge gives to the outcome. Assumes nothing.
-use Prim.Native.Nat.{ℕ, _≤_, _<_}
+use Prim.Native.Nat.{ℕ, suc, _≤_, _<_, suc-le-suc}
 use native.Mathlib.Omega.{arith}
 use mathlib.Core.Path.{_≡_, refl, sym, ap, ap₂, _∙_, subst}
 use mathlib.Core.List.{List, [], map}
@@ -9,29 +9,30 @@ use lib.Seq.{ext-getD}
 use lib.Dec.{T, eqb, ltb}
 use borrow.Author.Tests.{ltb-false, not-false}
 use Rattle.definitions.specs.Lists.{all, any, upTo, notFalling}
-use Rattle.definitions.specs.Segment.{Segment, segmentsFrom, recordFrom}
+use Rattle.definitions.specs.Segment.{Segment, segmentsFrom, recordFrom, address as at}
 use Rattle.definitions.specs.Row.{rowValues, isPresent}
 use Rattle.definitions.specs.Types.{DateTime}
 use Rattle.definitions.specs.Join.{absent}
 use Rattle.definitions.specs.Checks.{Passed}
 use Rattle.definitions.specs.Answer.{indexFits, aliveAddresses, plainChecks}
-use Rattle.definitions.specs.TimeOrder.{TimeInput, timeOf, timeOrder, timesWrong, timeOwnChecks, timeChecks, timeAnswer}
+use Rattle.definitions.specs.TimeOrder.{TimeInput, timeOf, keyOf, timeOrder, timesWrong, timeOwnChecks, timeChecks, timeAnswer}
 use Rattle.definitions.proofs.Accept.{index-fits}
 use Rattle.definitions.proofs.Checks.{all-passed, passed-append, passes}
 use Rattle.definitions.proofs.TimeOrder.{order-length}
 use Rattle.segment.specs.Records.{recordsOf, sectionsIn, recordAt}
 use Rattle.sections_fit.proofs.Own.{rows-all}
 use Rattle.sections_fit.proofs.Seven.{Ready, ready}
-use Rattle.places.specs.Place.{rowsAt}
+use Rattle.column_index.specs.Lookup.{Sound}
+use Rattle.places.specs.Place.{kindAt, rowsAt, idsAt, valuesAt}
 use Rattle.places.specs.Places.{table, rawAt, aliveAt, rawPlaces, alivesOf}
 use Rattle.places.proofs.Bridge.{Stands, sound-stands}
 use Rattle.places.proofs.Fill.{table-length, table-at}
 use Rattle.places.proofs.Raw.{Held, stands-there, flag-there, words-there, words-run, words-end, words-many}
 use Rattle.time_checks.specs.Lent.{lentTimes}
-use Rattle.time_cursors.specs.Cursors.{segmentIn, Timed}
+use Rattle.time_cursors.specs.Cursors.{timeKind, segmentIn, Timed}
 use Rattle.time_merge.specs.Order as merged
 use Rattle.time_merge.specs.Order.{placed, placedSegments, Rising}
-use Rattle.time_order.proofs.Bare.{bare, bare-values, order-same}
+use Rattle.time_order.proofs.Bare.{bare, Single, bare-sound, keys-rise, order-same}
 use Rattle.definitions.proofs.Lists.{mem-at, mem-upTo, any-false, or-right, getD-in}
 use Rattle.segment.proofs.At.{segments-many}
 use Rattle.lists.proofs.Tests.{neither, true-T}
@@ -48,7 +49,7 @@ module _ (records : List (List ℕ)) (ids offsets values lengths bytes alive : L
   ss = segmentsFrom (recordsOf records) (sectionsIn ids offsets values lengths bytes alive)
 
   abbrev here : ℕ → Segment
-  here k = placed (rawPlaces records) (alivesOf records) ids offsets values alive k
+  here k = placed (rawPlaces records) (alivesOf records) ids values alive k
 
   module _ (zero-answer : timeAnswer (lentTimes records ids offsets values lengths bytes alive space) ≡ 0) where
     passed : Passed (timeChecks input)
@@ -103,23 +104,7 @@ module _ (records : List (List ℕ)) (ids offsets values lengths bytes alive : L
       unfolding rawAt
       record-rows = refl
 
-      timed-raw : Timed (rawAt records k) (aliveAt records k) ids offsets values alive
-      timed-raw =
-          record {
-            sound = sound-stands stands fits;
-            values-end = stands .values-end;
-            alive-run = words-run records ids offsets values lengths bytes alive held k h;
-            alive-end = words-end records ids offsets values lengths bytes alive held k h;
-            words = λ e. omega (arith, words-many records ids offsets values lengths bytes alive held k h, words-enough (recordAt records k) (record-flag ∙ e), record-rows);
-            small = omega (arith, rows-small, stands .rows);
-          }
-
-      pub timed : Timed (getD (rawPlaces records) k []) (getD (alivesOf records) k []) ids offsets values alive
-      timed =
-          subst (λ (p : List ℕ). Timed p (getD (alivesOf records) k []) ids offsets values alive) (sym place-is)
-          (subst (λ (s : List ℕ). Timed (rawAt records k) s ids offsets values alive) (sym set-is) timed-raw)
-
-      bare-raw : segmentIn (rawAt records k) (aliveAt records k) ids offsets values alive ≡ bare (getD ss k absent)
+      bare-raw : segmentIn (rawAt records k) (aliveAt records k) ids values alive ≡ bare (getD ss k absent)
       unfolding segmentIn
       bare-raw =
           let st = stands in
@@ -128,10 +113,10 @@ module _ (records : List (List ℕ)) (ids offsets values lengths bytes alive : L
           λ i.
           record {
             type = 0;
-            kind = st .kind i;
+            kind = timeKind (st .kind i);
             rows = st .rows i;
             ids = st .ids-are i;
-            offsets = st .offsets-are i;
+            offsets = [];
             values = st .values-are i;
             terms = [];
             flag = f i;
@@ -139,7 +124,7 @@ module _ (records : List (List ℕ)) (ids offsets values lengths bytes alive : L
           }
 
       bare-here : here k ≡ bare (getD ss k absent)
-      bare-here = ap₂ (λ (p s : List ℕ). segmentIn p s ids offsets values alive) place-is set-is ∙ bare-raw
+      bare-here = ap₂ (λ (p s : List ℕ). segmentIn p s ids values alive) place-is set-is ∙ bare-raw
 
       -- what check 12 says
       times : (any (λ r. ltb 1 (length (rowValues (getD ss k absent) r))) (upTo (getD ss k absent .rows)) ≡ false) × (not (notFalling (map timeOf (getD ss k absent .values))) ≡ false)
@@ -152,22 +137,56 @@ module _ (records : List (List ℕ)) (ids offsets values lengths bytes alive : L
           let p = neither (a || b) (not (notFalling (map timeOf (s .values)))) w in
           (or-right a b (p .0), p .1)
 
-      single : (r : ℕ) → r < rowsAt (getD (rawPlaces records) k []) → length (rowValues (here k) r) ≤ 1
-      single r l =
+      pub single : Single (getD ss k absent)
+      single =
           let s = getD ss k absent in
-          let m : r < s .rows = subst (λ (n : ℕ). r < n) (ap rowsAt place-is ∙ stands .rows) l in
-          let e = any-false (λ r. ltb 1 (length (rowValues s r))) (upTo (s .rows)) (times .0) (mem-upTo (s .rows) r m) in
-          subst (λ (v : List ℕ). length v ≤ 1) (sym (ap (λ (x : Segment). rowValues x r) bare-here ∙ bare-values s r)) (ltb-false 1 (length (rowValues s r)) e)
+          record {
+            fits = fits;
+            one = λ r m. ltb-false 1 (length (rowValues s r)) (any-false (λ r. ltb 1 (length (rowValues s r))) (upTo (s .rows)) (times .0) (mem-upTo (s .rows) r m));
+          }
+
+      sound-raw : Sound (timeKind (kindAt (rawAt records k))) (rowsAt (rawAt records k)) (length (valuesAt (rawAt records k) values)) (idsAt (rawAt records k) ids) []
+      unfolding segmentIn
+      sound-raw = subst (λ (x : Segment). Sound (x .kind) (x .rows) (length (x .values)) (x .ids) []) (sym bare-raw) (bare-sound single)
+
+      timed-raw : Timed (rawAt records k) (aliveAt records k) ids values alive
+      timed-raw =
+          let at = sound-stands stands fits in
+          record {
+            times =
+                record {
+                  ids-run = at .ids-run;
+                  ids-end = at .ids-end;
+                  values-run = at .values-run;
+                  values-end = stands .values-end;
+                  sound = sound-raw;
+                  small = omega (arith, rows-small, stands .rows);
+                };
+            alive-run = words-run records ids offsets values lengths bytes alive held k h;
+            alive-end = words-end records ids offsets values lengths bytes alive held k h;
+            words = λ e. omega (arith, words-many records ids offsets values lengths bytes alive held k h, words-enough (recordAt records k) (record-flag ∙ e), record-rows);
+          }
+
+      pub timed : Timed (getD (rawPlaces records) k []) (getD (alivesOf records) k []) ids values alive
+      timed =
+          subst (λ (p : List ℕ). Timed p (getD (alivesOf records) k []) ids values alive) (sym place-is)
+          (subst (λ (s : List ℕ). Timed (rawAt records k) s ids values alive) (sym set-is) timed-raw)
+
+      times-rise : T (notFalling (map timeOf (getD ss k absent .values)))
+      times-rise = let vs = getD ss k absent .values in true-T (notFalling (map timeOf vs)) (not-false (notFalling (map timeOf vs)) (times .1))
 
       rising : T (notFalling (map timeOf (here k .values)))
-      rising =
-          let s = getD ss k absent in
-          subst (λ (x : Segment). T (notFalling (map timeOf (x .values)))) (sym bare-here) (true-T (notFalling (map timeOf (s .values))) (not-false (notFalling (map timeOf (s .values))) (times .1)))
+      rising = subst (λ (x : Segment). T (notFalling (map timeOf (x .values)))) (sym bare-here) times-rise
+
+      -- keys don't fall within a segment of an accepted call
+      pub keys-dont-fall : (n m : ℕ) → n ≤ m → m < getD ss k absent .rows → keyOf ss (at k n) ≤ keyOf ss (at k m)
+      unfolding keyOf
+      keys-dont-fall n m h l = keys-rise single times-rise (suc n) (suc m) (suc-le-suc h) l
 
     many : length (rawPlaces records) ≡ length records
     many = table-length (rawAt records) (length records)
 
-    bare-all : placedSegments (rawPlaces records) (alivesOf records) ids offsets values alive ≡ map bare ss
+    bare-all : placedSegments (rawPlaces records) (alivesOf records) ids values alive ≡ map bare ss
     unfolding placedSegments
     bare-all =
         ext-getD absent (table here (length (rawPlaces records))) (map bare ss)
@@ -177,10 +196,10 @@ module _ (records : List (List ℕ)) (ids offsets values lengths bytes alive : L
         let r : k < length records = omega (arith, many) in
         table-at here absent (length (rawPlaces records)) k q ∙ bare-here k r ∙ sym (getD-in bare ss k absent absent (k-there k r)))
 
-    pub order-is : timeOrder (placedSegments (rawPlaces records) (alivesOf records) ids offsets values alive) ≡ timeOrder ss
-    order-is = ap timeOrder bare-all ∙ order-same ss
+    pub order-is : timeOrder (placedSegments (rawPlaces records) (alivesOf records) ids values alive) ≡ timeOrder ss
+    order-is = ap timeOrder bare-all ∙ order-same ss (λ n h. single n (omega (arith, segments-many records (sectionsIn ids offsets values lengths bytes alive))))
 
-    pub merge-ready : merged.Ready (rawPlaces records) (alivesOf records) ids offsets values alive
+    pub merge-ready : merged.Ready (rawPlaces records) (alivesOf records) ids values alive
     merge-ready =
         record {
           few = omega (arith, many, few);
@@ -188,10 +207,9 @@ module _ (records : List (List ℕ)) (ids offsets values lengths bytes alive : L
           timed = λ k h. timed k (omega (arith, many));
         }
 
-    pub merge-rising : (out : List (List ℕ)) → space ≡ length out → Rising (rawPlaces records) (alivesOf records) ids offsets values alive out
+    pub merge-rising : (out : List (List ℕ)) → space ≡ length out → Rising (rawPlaces records) (alivesOf records) ids values alive out
     merge-rising out e =
         record {
-          single = λ k r h l. single k (omega (arith, many)) r l;
           rising = λ k h. rising k (omega (arith, many));
           room = omega (arith, ap length order-is, order-length ss, ltb-false space (length (aliveAddresses ss)) (later .0));
         }

@@ -1,3 +1,4 @@
+pub mod Single
 pub mod Tables
 pub mod Bare
 pub mod Lent

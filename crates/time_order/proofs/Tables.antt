@@ -20,7 +20,7 @@ pub take-table : {A : Type 0} (f : ℕ → A) (n : ℕ) (l old : List A) → l �
 unfolding put
 take-table {A} f n l old e = ap (λ (x : List A). take n x) e ∙ take-at (table f n) (drop (0 + length (table f n)) old) n (table-length f n)
 
-pub few-records : (records : List (List ℕ)) {alives : List (List ℕ)} {ids offsets values alive : List ℕ} → Ready (rawPlaces records) alives ids offsets values alive → length records ≤ 256
+pub few-records : (records : List (List ℕ)) {alives : List (List ℕ)} {ids values alive : List ℕ} → Ready (rawPlaces records) alives ids values alive → length records ≤ 256
 few-records records y = omega (arith, y .few, table-length (rawAt records) (length records))
 
 pub begins-readable : {ss : List Segment} (bytes : List ℕ) {cursors : List (List ℕ)} → Begins ss cursors → TermsInside bytes cursors

@@ -17,15 +17,14 @@ pub enum TimeAnswer {
 fn order_rows(
     records: &[[u32; 8]],
     ids: &[u32],
-    offsets: &[u32],
     values: &[u64],
     alive: &[u64],
     out: &mut [[u32; 2]],
 ) -> usize
-    requires { ⌜ Ready (rawPlaces (now records)) (alivesOf (now records)) (now ids) (now offsets) (now values) (now alive) ⌝ }
-    requires { ⌜ Rising (rawPlaces (now records)) (alivesOf (now records)) (now ids) (now offsets) (now values) (now alive) (now out) ⌝ }
-    ensures { λ r. ⌜ r ≡ length (timeOrder (placedSegments (rawPlaces (now (records .entry))) (alivesOf (now (records .entry))) (now (ids .entry)) (now (offsets .entry)) (now (values .entry)) (now (alive .entry)))) ⌝ }
-    ensures { λ r. ⌜ now (out .exit) ≡ timeWritten (placedSegments (rawPlaces (now (records .entry))) (alivesOf (now (records .entry))) (now (ids .entry)) (now (offsets .entry)) (now (values .entry)) (now (alive .entry))) (now (out .entry)) ⌝ }
+    requires { ⌜ Ready (rawPlaces (now records)) (alivesOf (now records)) (now ids) (now values) (now alive) ⌝ }
+    requires { ⌜ Rising (rawPlaces (now records)) (alivesOf (now records)) (now ids) (now values) (now alive) (now out) ⌝ }
+    ensures { λ r. ⌜ r ≡ length (timeOrder (placedSegments (rawPlaces (now (records .entry))) (alivesOf (now (records .entry))) (now (ids .entry)) (now (values .entry)) (now (alive .entry)))) ⌝ }
+    ensures { λ r. ⌜ now (out .exit) ≡ timeWritten (placedSegments (rawPlaces (now (records .entry))) (alivesOf (now (records .entry))) (now (ids .entry)) (now (values .entry)) (now (alive .entry))) (now (out .entry)) ⌝ }
 {
     let n = records.len();
     let mut places = [[0usize; 8]; 256];
@@ -33,15 +32,7 @@ fn order_rows(
     let mut alives = [[0usize; 3]; 256];
     places::fill_alives(records, &mut alives);
     let mut cursors = [[0usize; 8]; term_merger::Heap::CAP];
-    time_merge::fill_cursors(
-        &places[..n],
-        &alives[..n],
-        ids,
-        offsets,
-        values,
-        alive,
-        &mut cursors,
-    );
+    time_merge::fill_cursors(&places[..n], &alives[..n], ids, values, alive, &mut cursors);
     // all terms are empty: nothing is read of the term bytes
     let bytes = [0u8; 1];
     let heap = term_merger::start_heap(&bytes, &cursors);
@@ -51,7 +42,6 @@ fn order_rows(
         &places[..n],
         &alives[..n],
         ids,
-        offsets,
         values,
         alive,
         &mut cursors,
@@ -86,6 +76,6 @@ pub fn time_order(
     if k != 0 {
         return TimeAnswer::Refused(k);
     }
-    let n = order_rows(records, ids, offsets, values, alive, out);
+    let n = order_rows(records, ids, values, alive, out);
     TimeAnswer::Sorted(n)
 }

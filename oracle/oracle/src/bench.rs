@@ -23,12 +23,15 @@
 //! length already touched. Terms and map are not copied.
 //!
 //! The time order, which the crate has not, is measured beside a sort of the same rows, in the same
-//! rounds: the whole call, with all checks, into a list already touched; and `sort_unstable` of a list
-//! of time, segment and row that is made before the clock starts.
+//! rounds: the whole call, with all checks, into a list already touched; `sort_unstable` of a list of
+//! key, segment and row that is made before the clock starts; and the whole by that sort, which makes
+//! the list from the segments, sorts it and writes the addresses, both into lists already touched. The
+//! list has elements of two forms, and the faster one counts.
 //!
 //! The converter, for which the crate has no counterpart either, is measured by itself, in the same rounds:
 //! the whole call, with all checks, into lists already touched that have place for an id and an offset
 //! of every row; and beside it a plain copy of the stored offsets.
+mod by_sort;
 mod inputs;
 mod plot;
 mod report;
@@ -39,11 +42,13 @@ use hook::{Captured, Mode};
 use tantivy_columnar::{ColumnarReader, ColumnarWriter, merge_columnar};
 
 use crate::convert::{self, Space};
-use crate::ours::{Joiner, Lists, NewLists};
+use crate::order;
+use crate::ours::{Addresses, Joiner, Lists, NewLists};
 use crate::run::{merge_order, segment_file};
 use crate::table::Lent;
 use crate::wire::{Input, Sections};
-use inputs::{Line, Times};
+use by_sort::BySort;
+use inputs::{Line, OrderLine};
 
 pub use plot::plot;
 pub use report::{growth, segments, table};
@@ -152,39 +157,41 @@ fn measure_conversion(rows: u32) -> MeasuredConversion {
     }
 }
 
-/// What was measured of the time order: the number of rows, ns per row, checksums of the sorted
-/// addresses and of ours.
+/// What was measured of the time order: the number of alive rows, ns per such row of ours, of the sort
+/// alone and of the whole by sort, checksums of the sorted addresses and of ours.
 pub struct MeasuredOrder {
+    pub line: OrderLine,
     pub rows: usize,
     pub ours: f64,
     pub sort: f64,
+    pub whole: f64,
     pub sums: [u64; 2],
 }
 
-fn measure_order(times: Times, segs: usize, rows: u32) -> MeasuredOrder {
-    let segs = times.segments(segs, rows);
-    let list =
-        |s: usize| segs[s].values.iter().zip(0..).map(move |(&time, row)| (time as i64, s as u32, row));
-    let given: Vec<(i64, u32, u32)> = (0..segs.len()).flat_map(list).collect();
-    let rows = given.len();
-    let mut sorted = given.clone();
-    let sections = Input { mode: 0, required: 255, segs: segs.clone(), addresses: vec![] }.sections();
-    let (mut addresses, mut count) = (vec![[1; 2]; rows], 0);
+fn measure_order(line: OrderLine, segs: usize, rows: u32) -> MeasuredOrder {
+    let segs = line.segments(segs, rows);
+    let sections = order::sections(&segs);
+    let rows = order::alive_rows(&segs) as usize;
+    let mut joiner = library();
+    let mut lists = Addresses::new(rows, 1);
+    let (mut by_sort, mut by_words) = (BySort::<(i64, u32, u32)>::new(&segs), BySort::<u128>::new(&segs));
     let repeats = repeats(rows);
     let (Clock { look, .. }, least) = rounds(|| {
-        let ours = mean(repeats, || assert_eq!(time_order(&sections, &mut addresses, &mut count), 0));
-        sorted.copy_from_slice(&given);
-        [ours, mean(1, || sorted.sort_unstable())]
+        let ours = mean(repeats, || assert_eq!(joiner.order(&sections, &mut lists), 0));
+        let ([sort, whole], other) = (by_sort.times(&segs), by_words.times(&segs));
+        [ours, sort.min(other[0]), whole.min(other[1])]
     });
-    let looks = [look / repeats, look];
+    let looks = [look / repeats, look, look];
     let per_row = |i: usize| least[i].saturating_sub(looks[i]).as_nanos() as f64 / rows as f64;
     let words = |list: &[[u32; 2]]| checksum(list.as_flattened(), &[], &[]);
-    let expected: Vec<[u32; 2]> = sorted.iter().map(|&(_, segment, row)| [segment, row]).collect();
+    let count = lists.count.lent()[0] as usize;
     MeasuredOrder {
+        line,
         rows,
         ours: per_row(0),
         sort: per_row(1),
-        sums: [words(&expected), words(&addresses[..count as usize])],
+        whole: per_row(2),
+        sums: [words(by_sort.addresses()), words(&lists.addresses.lent()[..count])],
     }
 }
 
@@ -365,14 +372,6 @@ impl Ours {
         let n: [usize; 3] = std::array::from_fn(|i| numbers.lent()[3 + i] as usize);
         (&ids.lent()[..n[0]], &offsets.lent()[..n[1]], &values.lent()[..n[2]])
     }
-}
-
-#[cfg(library)]
-use crate::library::time_order;
-
-#[cfg(not(library))]
-fn time_order(_: &Sections, _: &mut [[u32; 2]], _: &mut u64) -> u32 {
-    panic!("built without the library")
 }
 
 #[cfg(library)]

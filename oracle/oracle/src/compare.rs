@@ -1,7 +1,10 @@
 //! The comparison: seeded inputs and damaged copies, each given to the joiner, whose answer and
-//! memory are held to the crate's merge (accepted) and to the table (refused); and stored segments of
-//! kind 3 given to the converter, which is held to its model, and then to the joiner, which is held to
-//! the crate's merge of the segments before their conversion.
+//! memory are held to the crate's merge (accepted) and to the table (refused); stored segments of kind 3
+//! given to the converter, which is held to its model, and then to the joiner, which is held to the
+//! crate's merge of the segments before their conversion; and segments of times given to the time
+//! order, which is held to its model, and then to the joiner in the order found.
+mod orders;
+
 use std::io::{Read, Write};
 use std::path::{Path, PathBuf};
 use std::process::{Command, Stdio};
@@ -11,12 +14,14 @@ use crate::convert::{self, Space};
 use crate::damage;
 use crate::generate::{self, Kinds, Shape};
 use crate::model;
-use crate::ours::{Joiner, Lists, NewLists};
+use crate::order;
+use crate::ours::{Addresses, Joiner, Lists, NewLists};
 use crate::rng::Rng;
 use crate::run;
 use crate::slips::{Standin, slips};
 use crate::table::{self, CHECKS, Call, Lent, PROGRAM, PROGRAM_BYTES};
 use crate::wire::{Input, Outcome, Sections, to_words};
+use orders::Orders;
 
 pub enum Ours {
     Library,
@@ -35,50 +40,88 @@ const MOST_DIFFERENCES: u64 = 5;
 
 /// One call: what is handed over and how much is lent.
 pub enum Task {
-    Join {
-        sections: Sections,
-        lent: Lent,
-        /// The segments that these were converted from, if they were: the crate joins those.
-        stored: Option<Input>,
-    },
-    Convert {
-        sections: Sections,
-        space: Space,
-    },
+    Join { sections: Sections, lent: Lent, source: Source },
+    Convert { sections: Sections, space: Space },
+    Order { sections: Sections, space: usize },
+}
+
+/// Where the segments and the row order of a join come from.
+pub enum Source {
+    /// From nothing else.
+    Drawn,
+    /// Converted from these: the crate joins those.
+    Converted(Input),
+    /// The row order is the segments' time order, which a join must take.
+    Ordered,
 }
 
 /// What must come of it.
 pub enum Must {
     Join(Outcome),
     Convert(convert::Outcome),
+    Order(order::Outcome),
+}
+
+/// Which function is called.
+#[derive(Clone, Copy, Debug, PartialEq, Eq)]
+pub enum Part {
+    Join,
+    Convert,
+    Order,
 }
 
 impl Task {
     fn join(sections: Sections, lent: Lent) -> Task {
-        Task::Join { sections, lent, stored: None }
+        Task::Join { sections, lent, source: Source::Drawn }
     }
-    pub fn converts(&self) -> bool {
-        matches!(self, Task::Convert { .. })
+    pub fn part(&self) -> Part {
+        match self {
+            Task::Join { .. } => Part::Join,
+            Task::Convert { .. } => Part::Convert,
+            Task::Order { .. } => Part::Order,
+        }
     }
     fn must(&self) -> Result<Must, String> {
         Ok(match self {
-            Task::Join { sections, lent, stored } => {
-                Must::Join(expected(&Call::new(sections, *lent), stored.as_ref())?)
+            Task::Join { sections, lent, source } => {
+                Must::Join(source.expected(&Call::new(sections, *lent))?)
             }
             Task::Convert { sections, space } => {
                 Must::Convert(convert::outcome(&convert::Call { sections, space: *space }))
+            }
+            Task::Order { sections, space } => {
+                Must::Order(order::outcome(&order::Call::new(sections, *space)))
             }
         })
     }
     fn show(&self) -> String {
         match self {
-            Task::Join { sections, lent, stored } => {
-                let from = stored.as_ref().map_or(String::new(), |input| {
-                    format!("\n  converted from: {}", show(&input.sections()))
-                });
+            Task::Join { sections, lent, source } => {
+                let from = match source {
+                    Source::Converted(input) => {
+                        format!("\n  converted from: {}", show(&input.sections()))
+                    }
+                    _ => String::new(),
+                };
                 format!("join: {}\n  {lent:?}{from}", show(sections))
             }
             Task::Convert { sections, space } => format!("conversion: {}\n  {space:?}", show(sections)),
+            Task::Order { sections, space } => {
+                format!("time order: {}\n  space for {space} addresses", show(sections))
+            }
+        }
+    }
+}
+
+impl Source {
+    fn expected(&self, call: &Call) -> Result<Outcome, String> {
+        match self {
+            Source::Drawn => expected(call, None),
+            Source::Converted(stored) => expected(call, Some(stored)),
+            Source::Ordered => match expected(call, None)? {
+                Outcome::Refused(n) => Err(format!("the table refuses the time order's addresses with {n}")),
+                accepted => Ok(accepted),
+            },
         }
     }
 }
@@ -114,8 +157,8 @@ pub fn expected(call: &Call, stored: Option<&Input>) -> Result<Outcome, String> 
     Ok(Outcome::Accepted(listing))
 }
 
-/// The calls of a case: the join of a good input, mostly of a damaged copy of it, and what is made of
-/// stored segments.
+/// The calls of a case: the join of a good input, mostly of a damaged copy of it, what is made of
+/// stored segments, and time orders.
 pub fn tasks(seed: u64, case: u64) -> Vec<Task> {
     let mut rng = Rng::of_case(seed, case);
     let shape = generate::shape(&mut rng, false);
@@ -133,6 +176,7 @@ pub fn tasks(seed: u64, case: u64) -> Vec<Task> {
         list.push(Task::join(sections, lent));
     }
     list.extend(stored_tasks(&mut rng));
+    list.extend(orders::tasks(&mut Rng::of_orders(seed, case)));
     list
 }
 
@@ -160,7 +204,7 @@ fn stored_tasks(rng: &mut Rng) -> Vec<Task> {
     if old().next().is_some() {
         list.push(Task::join(stored.sections(), lent));
     }
-    list.push(Task::Join { sections, lent, stored: Some(stored) });
+    list.push(Task::Join { sections, lent, source: Source::Converted(stored) });
     list
 }
 
@@ -266,21 +310,28 @@ struct Stats {
     converted: Answers,
     converted_stacked: u64,
     repeats: u64,
+    orders: Orders,
     differences: u64,
 }
 
 impl Stats {
     fn count(&mut self, task: &Task, must: &Must) {
         match (task, must) {
-            (Task::Join { sections, stored: None, .. }, Must::Join(outcome)) => {
+            (Task::Join { sections, source: Source::Drawn, .. }, Must::Join(outcome)) => {
                 self.count_join(outcome, || sections.cut())
             }
-            (Task::Join { stored: Some(stored), .. }, Must::Join(outcome)) => {
+            (Task::Join { source: Source::Converted(stored), .. }, Must::Join(outcome)) => {
                 self.converted.0[outcome.number() as usize] += 1;
                 if outcome.number() == 0 {
                     self.converted_stacked += (stored.mode == 0) as u64;
                     self.repeats += (run::repeats(stored) > 0) as u64;
                 }
+            }
+            (Task::Join { source: Source::Ordered, .. }, Must::Join(outcome)) => {
+                self.orders.count_join(outcome)
+            }
+            (Task::Order { sections, space }, Must::Order(outcome)) => {
+                self.orders.count(sections, *space, outcome)
             }
             (Task::Convert { sections, space }, Must::Convert(outcome)) => {
                 self.count_conversion(sections, *space, outcome)
@@ -350,6 +401,7 @@ impl Stats {
         self.most_rows = self.most_rows.max(other.most_rows);
         self.converted_stacked += other.converted_stacked;
         self.repeats += other.repeats;
+        self.orders.add(&other.orders);
         self.differences += other.differences;
     }
 
@@ -398,7 +450,7 @@ impl Stats {
             self.classes[2],
             self.most_values
         );
-        // The joining program does not convert.
+        // The joining program does not convert, and has no time order.
         if matches!(ours, Ours::Program(_)) {
             return;
         }
@@ -430,6 +482,7 @@ impl Stats {
             self.converted.accepted() - self.converted_stacked,
             self.repeats
         );
+        self.orders.print();
     }
 }
 
@@ -444,7 +497,7 @@ fn show(sections: &Sections) -> String {
     }
 }
 
-/// What is wrong with one call of the joiner or of its converter, if anything.
+/// What is wrong with one call of the joiner, its converter or its time order, if anything.
 fn fault(joiner: &mut dyn Joiner, task: &Task, must: &Must, salt: u64) -> Option<String> {
     let (before, answer, expected, fault) = match (task, must) {
         (Task::Join { sections, lent, .. }, Must::Join(outcome)) => {
@@ -457,6 +510,12 @@ fn fault(joiner: &mut dyn Joiner, task: &Task, must: &Must, salt: u64) -> Option
             let mut lists = NewLists::new(*space, salt);
             let input = sections.clone();
             let answer = joiner.convert(&input, &mut lists);
+            (input == *sections, answer, outcome.number(), lists.fault(outcome))
+        }
+        (Task::Order { sections, space }, Must::Order(outcome)) => {
+            let mut lists = Addresses::new(*space, salt);
+            let input = sections.clone();
+            let answer = joiner.order(&input, &mut lists);
             (input == *sections, answer, outcome.number(), lists.fault(outcome))
         }
         _ => unreachable!(),
@@ -588,7 +647,7 @@ pub fn find_slips(o: &Options) -> bool {
         for task in tasks(o.seed, case) {
             let must = task.must().unwrap_or_else(|fault| panic!("case {case}: {fault}"));
             left.retain_mut(|(slip, joiner)| {
-                if slip.converts() != task.converts() {
+                if slip.part() != task.part() {
                     return true;
                 }
                 let fault = fault(joiner, &task, &must, o.seed ^ case << 8);

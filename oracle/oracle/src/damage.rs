@@ -1,7 +1,8 @@
-//! Damaged copies of good inputs. Which number they are answered with, if any, is the table's, or for
-//! the converter convert.rs's.
+//! Damaged copies of good inputs. Which number they are answered with, if any, is the table's, for the
+//! converter convert.rs's and for the time order order.rs's.
 use crate::convert::{self, Space};
 use crate::model;
+use crate::order;
 use crate::rng::Rng;
 use crate::table::{self, Lent};
 use crate::wire::{Input, Sections, Seg};
@@ -135,14 +136,16 @@ fn sections(rng: &mut Rng, s: &mut Sections) {
         0 => s.mode = rng.pick(&[0, 1, 2, 3, 255, 256, u32::MAX]),
         1 => s.required = rng.pick(ODD),
         2..19 => records_and_runs(rng, s),
-        // Too many segments, or as many as may be.
-        _ if rng.one_in(4) => {
-            let many = rng.pick(&[255, 256, 256, 257, 257, 300]);
-            while s.records.len() < many {
-                s.records.push([255, 0, 0, 0, 0, 0, 0, 0]);
-            }
-        }
+        _ if rng.one_in(4) => many_segments(rng, s),
         _ => s.required = rng.pick(TYPES),
+    }
+}
+
+/// Too many segments, or as many as may be.
+fn many_segments(rng: &mut Rng, s: &mut Sections) {
+    let many = rng.pick(&[255, 256, 256, 257, 257, 300]);
+    while s.records.len() < many {
+        s.records.push([255, 0, 0, 0, 0, 0, 0, 0]);
     }
 }
 
@@ -239,16 +242,7 @@ pub fn stored(rng: &mut Rng, good: &Seg) -> (Sections, Space) {
         match rng.below(12) {
             0..6 => segment(rng, &mut damaged, true),
             6..8 => in_sections += 1,
-            // All rows alive, and a bit past them where the last word has place for one.
-            8 | 9 if damaged.rows <= 200_000 => {
-                let (words, past) = (damaged.rows.div_ceil(64) as usize, damaged.rows % 64);
-                let mut set = vec![u64::MAX; words];
-                if past > 0 {
-                    let bit = rng.between(past as u64, 63);
-                    set[words - 1] = !(u64::MAX << past) | 1 << bit;
-                }
-                damaged.alive = Some(set);
-            }
+            8 | 9 if damaged.rows <= 200_000 => past_the_rows(rng, &mut damaged),
             _ => {
                 let place = if rng.one_in(2) { &mut space.ids } else { &mut space.offsets };
                 *place = if rng.one_in(4) { 0 } else { place.saturating_sub(1) };
@@ -260,6 +254,102 @@ pub fn stored(rng: &mut Rng, good: &Seg) -> (Sections, Space) {
         records_and_runs(rng, &mut s);
     }
     (s, space)
+}
+
+/// All rows alive, and a bit past them where the last word has place for one.
+fn past_the_rows(rng: &mut Rng, s: &mut Seg) {
+    let (words, past) = (s.rows.div_ceil(64) as usize, s.rows % 64);
+    let mut set = vec![u64::MAX; words];
+    if past > 0 {
+        let bit = rng.between(past as u64, 63);
+        set[words - 1] = !(u64::MAX << past) | 1 << bit;
+    }
+    s.alive = Some(set);
+}
+
+/// A copy of segments for the time order, with one to three damages, in too little space among them.
+pub fn order(rng: &mut Rng, good: &[Seg]) -> (Sections, usize) {
+    let mut input = Input { mode: 0, required: 255, segs: good.to_vec(), addresses: vec![] };
+    let mut space = order::alive_rows(good) as usize;
+    let mut in_sections = 0;
+    if rng.one_in(8) {
+        old_kind(rng, &mut input);
+    }
+    for _ in 0..rng.pick(&[1, 1, 1, 2, 2, 3]) {
+        match rng.below(16) {
+            0..3 => in_sections += 1,
+            3 => many_rows(rng, &mut input.segs),
+            4..6 => space = if rng.one_in(4) { 0 } else { space.saturating_sub(1) },
+            how => one_segment(rng, how, &mut input.segs),
+        }
+    }
+    let mut s = input.sections();
+    for _ in 0..in_sections {
+        match rng.below(6) {
+            0 => many_segments(rng, &mut s),
+            _ => records_and_runs(rng, &mut s),
+        }
+    }
+    (s, space)
+}
+
+fn one_segment(rng: &mut Rng, how: u64, segs: &mut [Seg]) {
+    if segs.is_empty() {
+        return;
+    }
+    let i = rng.index(segs.len());
+    let s = &mut segs[i];
+    match how {
+        6..8 if s.rows <= 200_000 => past_the_rows(rng, s),
+        8..12 => times(rng, s),
+        _ => segment(rng, s, true),
+    }
+}
+
+/// Rows that sum to just what 7 allows, or to one or two more.
+fn many_rows(rng: &mut Rng, segs: &mut Vec<Seg>) {
+    let rows: u64 = segs.iter().map(|s| s.rows as u64).sum();
+    let rest = rng.pick(&[4294967294, 4294967295, 4294967296u64]).saturating_sub(rows);
+    segs.push(Seg { ty: 255, rows: rest.min(u32::MAX as u64) as u32, ..Seg::default() });
+}
+
+/// Changes what 12 asks for: the type, how many times a row has, or that times don't fall.
+fn times(rng: &mut Rng, s: &mut Seg) {
+    match rng.below(8) {
+        0 => s.ty = rng.pick(&[0, 1, 2]),
+        1 => {
+            let ty = rng.pick(&[0, 1, 2, 3, 4, 5]);
+            *s = Seg { ty, rows: s.rows, alive: s.alive.clone(), ..Seg::default() };
+        }
+        2..4 => several_times(rng, s),
+        _ if s.values.len() < 2 => {}
+        how => {
+            let j = 1 + rng.index(s.values.len() - 1);
+            match how {
+                4 => s.values.swap(j - 1, j),
+                5 => s.values[j - 1] = rng.pick(&[0, 1 << 62, i64::MAX as u64]),
+                _ => s.values[j] = s.values[j - 1].wrapping_sub(rng.pick(&[1, 1, 2, 1 << 63])),
+            }
+        }
+    }
+}
+
+/// The times of two rows in one, as kind 4 has them.
+fn several_times(rng: &mut Rng, s: &mut Seg) {
+    if !matches!(s.kind, 1 | 2 | 4) || table::runs_of(s) {
+        return;
+    }
+    if s.kind == 1 {
+        s.ids = (0..s.rows).collect();
+    }
+    if s.kind != 4 {
+        s.kind = 4;
+        s.offsets = (0..=s.ids.len() as u32).collect();
+    }
+    if s.ids.len() > 1 {
+        s.ids.remove(rng.index(s.ids.len()));
+        s.offsets.remove(1 + rng.index(s.ids.len()));
+    }
 }
 
 /// Damages of the wire form itself.

@@ -1,5 +1,7 @@
 //! Random inputs that document 01 accepts, or (a few) refuses with 10; and the same with segments of
 //! kind 3 among the others, which go through the converter first.
+pub mod times;
+
 use crate::model;
 use crate::rng::Rng;
 use crate::wire::{Input, Seg};

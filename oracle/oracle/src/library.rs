@@ -1,6 +1,6 @@
 //! The joiner's static library, called as C would call it: each run as a pointer and a number of
 //! elements, in the order of document 01's sections.
-use crate::ours::{Element, Joiner, Lists, NewLists, Run};
+use crate::ours::{Addresses, Element, Joiner, Lists, NewLists, Run};
 use crate::wire::Sections;
 
 unsafe extern "C" {
@@ -171,30 +171,31 @@ impl Joiner for Library {
             )
         }
     }
-}
 
-/// The time order's answer; 0: the addresses are written, as many as `count` then says.
-pub fn time_order(s: &Sections, addresses: &mut [[u32; 2]], count: &mut u64) -> u32 {
-    // The same holds here.
-    unsafe {
-        jadmirus_time_order(
-            s.records.as_ptr(),
-            s.records.len(),
-            s.ids.as_ptr(),
-            s.ids.len(),
-            s.offsets.as_ptr(),
-            s.offsets.len(),
-            s.values.as_ptr(),
-            s.values.len(),
-            s.term_lengths.as_ptr(),
-            s.term_lengths.len(),
-            s.term_bytes.as_ptr(),
-            s.term_bytes.len(),
-            s.alive.as_ptr(),
-            s.alive.len(),
-            addresses.as_mut_ptr(),
-            addresses.len(),
-            count,
-        )
+    fn order(&mut self, s: &Sections, lists: &mut Addresses) -> u32 {
+        let addresses = run(&mut lists.addresses);
+        let count = run(&mut lists.count);
+        // And here.
+        unsafe {
+            jadmirus_time_order(
+                s.records.as_ptr(),
+                s.records.len(),
+                s.ids.as_ptr(),
+                s.ids.len(),
+                s.offsets.as_ptr(),
+                s.offsets.len(),
+                s.values.as_ptr(),
+                s.values.len(),
+                s.term_lengths.as_ptr(),
+                s.term_lengths.len(),
+                s.term_bytes.as_ptr(),
+                s.term_bytes.len(),
+                s.alive.as_ptr(),
+                s.alive.len(),
+                addresses.0,
+                addresses.1,
+                count.0,
+            )
+        }
     }
 }

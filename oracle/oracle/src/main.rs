@@ -7,6 +7,7 @@ mod generate;
 #[cfg(library)]
 mod library;
 mod model;
+mod order;
 mod ours;
 mod rng;
 mod run;

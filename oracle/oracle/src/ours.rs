@@ -1,7 +1,9 @@
-//! The joiner's side of the comparison: one call with lent outputs, of the join or of the converter.
+//! The joiner's side of the comparison: one call with lent outputs, of the join, of the converter or of
+//! the time order.
 //! Back ends: the static library (library.rs), and stand-ins made of the model, right and wrong
 //! (slips.rs). The joining program is compared by its listings instead (compare.rs).
 use crate::convert::{self, Converted, Space};
+use crate::order;
 use crate::table::Lent;
 use crate::wire::{Listing, Outcome, Sections};
 
@@ -21,6 +23,11 @@ impl Element for u32 {
 impl Element for u64 {
     fn from_word(word: u64) -> u64 {
         word
+    }
+}
+impl Element for [u32; 2] {
+    fn from_word(word: u64) -> [u32; 2] {
+        [word as u32, (word >> 32) as u32]
     }
 }
 
@@ -210,9 +217,40 @@ impl NewLists {
     }
 }
 
-/// A joiner and its converter: the answer's number; what is written goes to the lists.
+/// All that a call of the time order is lent to write to.
+pub struct Addresses {
+    pub addresses: Run<[u32; 2]>,
+    pub count: Run<u64>,
+}
+
+impl Addresses {
+    pub fn new(space: usize, salt: u64) -> Addresses {
+        Addresses { addresses: Run::new(space, salt), count: Run::new(1, salt + 1) }
+    }
+
+    /// Writes as an accepted time order does.
+    pub fn write(&mut self, list: &[[u32; 2]]) {
+        self.addresses.lent()[..list.len()].copy_from_slice(list);
+        self.count.lent()[0] = list.len() as u64;
+    }
+
+    /// What is wrong, if the call must have had this outcome. A refusal writes nothing; output
+    /// beyond the addresses keeps its elements.
+    pub fn fault(&self, outcome: &order::Outcome) -> Option<String> {
+        let (addresses, count): (&[[u32; 2]], &[u64]) = match outcome {
+            order::Outcome::Sorted(list) => (list, &[list.len() as u64]),
+            order::Outcome::Refused(_) => (&[], &[]),
+        };
+        None.or_else(|| self.count.fault("the count", count))
+            .or_else(|| self.addresses.fault("addresses", addresses))
+    }
+}
+
+/// A joiner, its converter and its time order: the answer's number; what is written goes to the lists.
 pub trait Joiner {
     fn join(&mut self, sections: &Sections, lists: &mut Lists) -> u32;
     /// Of the sections' one record and its runs.
     fn convert(&mut self, sections: &Sections, lists: &mut NewLists) -> u32;
+    /// Of the sections' segments.
+    fn order(&mut self, sections: &Sections, lists: &mut Addresses) -> u32;
 }

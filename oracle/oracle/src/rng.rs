@@ -1,4 +1,4 @@
-//! splitmix64, and one stream for each case of a seed.
+//! splitmix64, and two streams for each case of a seed.
 pub struct Rng(u64);
 
 fn mix(mut z: u64) -> u64 {
@@ -14,6 +14,10 @@ impl Rng {
     /// Case number `case` of a seed: the same whatever cases were run before it.
     pub fn of_case(seed: u64, case: u64) -> Rng {
         Rng(mix(mix(seed.wrapping_add(0x9E3779B97F4A7C15)) ^ case))
+    }
+    /// The same for its time orders, so that they and the joins don't depend on each other.
+    pub fn of_orders(seed: u64, case: u64) -> Rng {
+        Rng(mix(!Rng::of_case(seed, case).0))
     }
     pub fn next(&mut self) -> u64 {
         self.0 = self.0.wrapping_add(0x9E3779B97F4A7C15);

@@ -1,12 +1,14 @@
 //! Stand-ins for the joiner, made of the model: one that is right, and one for each slip below and in
-//! slips/converter.rs, which the comparison must find (oracle/compare SEED COUNT --slips). They are
-//! tests of the comparison and of its inputs, of nothing else.
+//! slips/, which the comparison must find (oracle/compare SEED COUNT --slips). They are tests of the
+//! comparison and of its inputs, of nothing else.
 mod converter;
+mod time_order;
 
 use std::collections::BTreeSet;
 
+use crate::compare::Part;
 use crate::model;
-use crate::ours::{COPIED, Joiner, Lists, NewLists};
+use crate::ours::{Addresses, COPIED, Joiner, Lists, NewLists};
 use crate::run;
 use crate::table::{self, CHECKS, Call, Check};
 use crate::wire::{Input, Listing, Outcome, Sections, Seg};
@@ -31,6 +33,8 @@ pub enum How {
     First,
     /// A slip of the converter.
     Converter(converter::How),
+    /// A slip of the time order.
+    TimeOrder(time_order::How),
 }
 
 pub struct Slip {
@@ -43,14 +47,19 @@ const fn slip(name: &'static str, how: How) -> Slip {
 }
 
 impl Slip {
-    pub fn converts(&self) -> bool {
-        matches!(self.how, How::Converter(_))
+    /// What goes wrong.
+    pub fn part(&self) -> Part {
+        match self.how {
+            How::Converter(_) => Part::Convert,
+            How::TimeOrder(_) => Part::Order,
+            _ => Part::Join,
+        }
     }
 }
 
-/// All of them, the joiner's and the converter's.
+/// All of them: the joiner's, the converter's and the time order's.
 pub fn slips() -> impl Iterator<Item = &'static Slip> {
-    SLIPS.iter().chain(converter::SLIPS)
+    SLIPS.iter().chain(converter::SLIPS).chain(time_order::SLIPS)
 }
 
 const SLIPS: &[Slip] = &[
@@ -746,5 +755,13 @@ impl Joiner for Standin {
             _ => None,
         };
         run::caught(|| converter::convert(how, sections, lists)).unwrap_or(u32::MAX)
+    }
+
+    fn order(&mut self, sections: &Sections, lists: &mut Addresses) -> u32 {
+        let how = match self.how {
+            Some(How::TimeOrder(how)) => Some(how),
+            _ => None,
+        };
+        run::caught(|| time_order::time_order(how, sections, lists)).unwrap_or(u32::MAX)
     }
 }

@@ -132,12 +132,15 @@ pub fn known_type(ty: u32) -> bool {
 pub fn unknown(call: &Call) -> bool {
     !matches!(call.sections.mode, 0 | 1)
         || !known_type(call.sections.required)
-        || call.sections.records.iter().any(|&[ty, kind, _rows, ids, offsets, values, terms, flag]| {
-            !known_type(ty)
-                || kind > 4
-                || flag > 1
-                || ty == 255 && (kind, ids, offsets, values, terms) != (0, 0, 0, 0, 0)
-        })
+        || call.sections.records.iter().any(unknown_record)
+}
+
+/// 3 of one record.
+pub fn unknown_record(&[ty, kind, _rows, ids, offsets, values, terms, flag]: &[u32; 8]) -> bool {
+    !known_type(ty)
+        || kind > 4
+        || flag > 1
+        || ty == 255 && (kind, ids, offsets, values, terms) != (0, 0, 0, 0, 0)
 }
 
 /// 19: a record of kind 3
@@ -240,11 +243,15 @@ pub fn addresses(call: &Call) -> bool {
         }
     }
     // Each address is another alive row: all alive rows are listed if there are no more of them.
-    let alive_rows = |s: &Seg| match &s.alive {
+    segs.iter().map(alive_rows).sum::<u64>() != listed.len() as u64
+}
+
+/// How many rows of a segment are alive.
+pub fn alive_rows(s: &Seg) -> u64 {
+    match &s.alive {
         None => s.rows as u64,
         Some(_) => (0..s.rows).filter(|&r| s.is_alive(r)).count() as u64,
-    };
-    segs.iter().map(alive_rows).sum::<u64>() != listed.len() as u64
+    }
 }
 
 /// Numbers (0, 1, 2) are one category, each other type is one alone.

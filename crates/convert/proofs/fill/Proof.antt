@@ -3,9 +3,9 @@ use Prim.Native.Nat.{ℕ, _+_, _-_, _≤_, zero-le}
 use native.Mathlib.Omega.{arith}
 use lib.Dec.{ltb}
 use lib.ListN.{length, drop, getD, length-set}
-use Rattle.runs.proofs.Laws.{Filling, fill-from, fill-done}
+use Rattle.runs.proofs.Laws.{Filling, fill-from, fill-done, fill-if}
 use Rattle.convert.specs.Risen.{risenIds, risenEnds}
-use Rattle.convert.proofs.Risen.{ids-step, ends-step, ends-ids, fill-if, none-left, turn, put-first}
+use Rattle.convert.proofs.Risen.{ids-step, ends-step, ends-ids, none-left, turn, put-first}
 use borrow.Author.Needs.{needs}
 use Rattle.convert.proofs.fill.Statement.{statement}
 use Rattle.convert.proofs.fill.Tie as tie

@@ -5,85 +5,65 @@ use borrow.Author.Needs.{needs}
 use Rattle.term_merger.proofs.comes_before.Statement.{statement}
 use Rattle.term_merger.proofs.comes_before.Tie as tie
 
--- src/lib.rt:58:9
 byte-requires : tie.Need-byte-requires
 byte-requires c κs = search needs
 
--- src/lib.rt:59:9
 byte-requires-2 : tie.Need-byte-requires-2
 byte-requires-2 c κs = search needs
 
--- src/lib.rt:60:13
 mul-x : tie.Need-mul-x
 mul-x c = search needs
 
--- src/lib.rt:60:13
 shared-slice-copy-out-x : tie.Need-shared-slice-copy-out-x
 shared-slice-copy-out-x c = search needs
 
--- src/lib.rt:61:13
 mul-y : tie.Need-mul-y
 mul-y c = search needs
 
--- src/lib.rt:61:13
 shared-slice-copy-out-y : tie.Need-shared-slice-copy-out-y
 shared-slice-copy-out-y c = search needs
 
--- src/lib.rt:62:45
 key-of-requires : tie.Need-key-of-requires
 key-of-requires c κs = search needs
 
--- src/lib.rt:62:56
 key-of-requires-2 : tie.Need-key-of-requires-2
 key-of-requires-2 c κs = search needs
 
--- src/lib.rt:62:9
 compare-keys-requires : tie.Need-compare-keys-requires
 compare-keys-requires c κs =
     let s = c .before .before .before .before .before .before .before .args in
     (subst (Inside (s .bytes .now)) (sym (c .before .key-of .ensures)) (inside-at (s .bytes .now) (s .cursors .now) (c .before .before .before .before .before .byte .result) (c .before .before .before .before .before .before .before .pre .1) (c .before .before .before .before .before .byte .ensures .1)), subst (Inside (s .bytes .now)) (sym (c .key-of2 .ensures)) (inside-at (s .bytes .now) (s .cursors .now) (c .before .before .before .before .byte2 .result) (c .before .before .before .before .before .before .before .pre .1) (c .before .before .before .before .byte2 .ensures .1)))
 
--- src/lib.rt:64:30
 enum-told : tie.Need-enum-told
 enum-told c = search needs
 
--- src/lib.rt:66:16
 enum-told-2 : tie.Need-enum-told-2
 enum-told-2 c = search needs
 
--- src/lib.rt:66:16
 array-read-if1 : tie.Need-array-read-if1
 array-read-if1 c = search needs
 
--- src/lib.rt:66:24
 array-read-if1-2 : tie.Need-array-read-if1-2
 array-read-if1-2 c = search needs
 
--- src/lib.rt:67:24
 array-read-result : tie.Need-array-read-result
 array-read-result c = search needs
 
--- src/lib.rt:67:31
 array-read-result-2 : tie.Need-array-read-result-2
 array-read-result-2 c = search needs
 
--- src/lib.rt:67:17
 returns : tie.Need-returns
 returns c = rw (← c .before .before .before .before .before .before .before .before .before .byte .ensures .0, ← c .before .before .before .before .before .before .before .before .byte2 .ensures .0) (before-tie _ _ _ _ (sym (c .before .enum-told2 .given .1) ∙ compared (c .before .before .before .before .before .before .before .before .before .before .before .args .bytes .now) (c .before .before .before .before .before .before .before .before .before .before .before .args .cursors .now) (c .before .before .before .before .before .before .before .before .before .byte .result) (c .before .before .before .before .before .before .before .before .byte2 .result) (c .before .before .before .before .before .key-of .ensures) (c .before .before .before .before .key-of2 .ensures) (c .before .before .before .compare-keys .ensures)) (c .if1 .taken))
 
--- src/lib.rt:71:29
 enum-told-3 : tie.Need-enum-told-3
 enum-told-3 c = search needs
 
--- src/lib.rt:54:1
 returns-2 : tie.Need-returns-2
 returns-2 c = rw (← c .before .before .before .before .before .before .before .before .byte .ensures .0, ← c .before .before .before .before .before .before .before .byte2 .ensures .0) (before-lt _ _ _ _ (sym (c .enum-told .given .1) ∙ compared (c .before .before .before .before .before .before .before .before .before .before .args .bytes .now) (c .before .before .before .before .before .before .before .before .before .before .args .cursors .now) (c .before .before .before .before .before .before .before .before .byte .result) (c .before .before .before .before .before .before .before .byte2 .result) (c .before .before .before .before .key-of .ensures) (c .before .before .before .key-of2 .ensures) (c .before .before .compare-keys .ensures)))
 
--- src/lib.rt:54:1
 returns-3 : tie.Need-returns-3
 returns-3 c = rw (← c .before .before .before .before .before .before .before .before .before .byte .ensures .0, ← c .before .before .before .before .before .before .before .before .byte2 .ensures .0) (before-number _ _ _ _ (sym (c .before .enum-told2 .given .1) ∙ compared (c .before .before .before .before .before .before .before .before .before .before .before .args .bytes .now) (c .before .before .before .before .before .before .before .before .before .before .before .args .cursors .now) (c .before .before .before .before .before .before .before .before .before .byte .result) (c .before .before .before .before .before .before .before .before .byte2 .result) (c .before .before .before .before .before .key-of .ensures) (c .before .before .before .before .key-of2 .ensures) (c .before .before .before .compare-keys .ensures)) (c .if1 .left))
 
--- src/lib.rt:54:1
 returns-4 : tie.Need-returns-4
 returns-4 c = rw (← c .before .before .before .before .before .before .before .before .byte .ensures .0, ← c .before .before .before .before .before .before .before .byte2 .ensures .0) (before-gt _ _ _ _ (sym (c .enum-told3 .given .1) ∙ compared (c .before .before .before .before .before .before .before .before .before .before .args .bytes .now) (c .before .before .before .before .before .before .before .before .before .before .args .cursors .now) (c .before .before .before .before .before .before .before .before .byte .result) (c .before .before .before .before .before .before .before .byte2 .result) (c .before .before .before .before .key-of .ensures) (c .before .before .before .key-of2 .ensures) (c .before .before .compare-keys .ensures)))
 

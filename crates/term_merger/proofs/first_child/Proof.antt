@@ -4,31 +4,24 @@ use borrow.Author.Needs.{needs}
 use Rattle.term_merger.proofs.first_child.Statement.{statement}
 use Rattle.term_merger.proofs.first_child.Tie as tie
 
--- src/lib.rt:118:13
 add-r : tie.Need-add-r
 add-r c = search needs
 
--- src/lib.rt:120:9
 returns : tie.Need-returns
 returns c = child-last _ _ _ _ _ (c .before .before .pre .1 .0) (c .if1 .taken)
 
--- src/lib.rt:122:13
 element-copy-out-a : tie.Need-element-copy-out-a
 element-copy-out-a c = search needs
 
--- src/lib.rt:123:13
 element-copy-out-b : tie.Need-element-copy-out-b
 element-copy-out-b c = search needs
 
--- src/lib.rt:124:8
 comes-before-requires : tie.Need-comes-before-requires
 comes-before-requires c κs = search needs
 
--- src/lib.rt:125:9
 returns-2 : tie.Need-returns-2
 returns-2 c = child-second _ _ _ _ _ (c .before .before .before .before .if1 .left) (sym (c .before .comes-before .ensures) ∙ c .if2 .taken)
 
--- src/lib.rt:113:1
 returns-3 : tie.Need-returns-3
 returns-3 c = child-first _ _ _ _ _ (c .before .before .before .before .before .before .pre .1 .0) (sym (c .before .comes-before .ensures) ∙ c .if2 .left)
 

@@ -6,49 +6,38 @@ use borrow.Author.Needs.{needs}
 use Rattle.term_merger.proofs.keep_top.Statement.{statement}
 use Rattle.term_merger.proofs.keep_top.Tie as tie
 
--- src/lib.rt:157:24
 element-copy-out-byte : tie.Need-element-copy-out-byte
 element-copy-out-byte c = search needs
 
--- src/lib.rt:157:9
 byte-requires : tie.Need-byte-requires
 byte-requires c κs = search needs
 
--- src/lib.rt:158:15
 mul-top : tie.Need-mul-top
 mul-top c = search needs
 
--- src/lib.rt:158:15
 shared-slice-copy-out-top : tie.Need-shared-slice-copy-out-top
 shared-slice-copy-out-top c = search needs
 
--- src/lib.rt:159:8
 array-read-if1 : tie.Need-array-read-if1
 array-read-if1 c = search needs
 
--- src/lib.rt:159:17
 array-read-if1-2 : tie.Need-array-read-if1-2
 array-read-if1-2 c = search needs
 
--- src/lib.rt:160:9
 returns : tie.Need-returns
 returns c =
     let s = c .before .before .before .before .args in
     top-stays (s .cursors .now) (s .seg .now) (s .len) (subst (λ (x : ℕ). cell (s .cursors .now) x 3 < cell (s .cursors .now) x 4) (c .before .before .byte .ensures .0) (c .if1 .taken))
 
--- src/lib.rt:162:13
 sub-n : tie.Need-sub-n
 sub-n c = search needs
 
--- src/lib.rt:163:14
 element-copy-out-seg : tie.Need-element-copy-out-seg
 element-copy-out-seg c = search needs
 
--- src/lib.rt:163:5
 element-write-seg : tie.Need-element-write-seg
 element-write-seg c = search needs
 
--- src/lib.rt:151:1
 returns-2 : tie.Need-returns-2
 returns-2 c =
     let s = c .before .before .before .before .before .args in

@@ -8,28 +8,23 @@ use borrow.Author.Needs.{needs}
 use Rattle.term_merger.proofs.push.Statement.{statement}
 use Rattle.term_merger.proofs.push.Tie as tie
 
--- src/lib.rt:101:8
 is-full-requires : tie.Need-is-full-requires
 is-full-requires c κs = search needs
 
--- src/lib.rt:102:9
 returns : tie.Need-returns
 returns c =
     let h = c .before .before .before .args .heap in
     let full : 256 ≤ h .len = leb-true 256 (h .len) (sym (c .before .is-full .ensures) ∙ c .if1 .taken) in
     record { room = λ l. absurd (omega arith); full = λ l. refl }
 
--- src/lib.rt:106:5
 element-write-h : tie.Need-element-write-h
 element-write-h c = leb-false 256 (c .before .before .before .args .heap .len) (sym (c .before .is-full .ensures) ∙ c .if1 .left)
 
--- src/lib.rt:107:13
 add-h : tie.Need-add-h
 add-h c =
     let room : c .before .before .before .args .heap .len < 256 = leb-false 256 (c .before .before .before .args .heap .len) (sym (c .before .is-full .ensures) ∙ c .if1 .left) in
     search needs
 
--- src/lib.rt:108:5
 sift-up-requires : tie.Need-sift-up-requires
 sift-up-requires c κs =
     let h = c .before .before .before .before .args .heap in
@@ -37,7 +32,6 @@ sift-up-requires c κs =
     let room : h .len < 256 = leb-false 256 (h .len) (sym (c .before .before .is-full .ensures) ∙ c .before .if1 .left) in
     (c .before .before .before .before .pre .0, (simp length-set q, room, ordered-set _ _ _ _ _ (c .before .before .before .before .pre .1)))
 
--- src/lib.rt:96:1
 returns-2 : tie.Need-returns-2
 returns-2 c =
     let s = c .before .before .before .before .before .args in

@@ -3,17 +3,14 @@ use borrow.Author.Needs.{needs}
 use Rattle.term_merger.proofs.settle_top.Statement.{statement}
 use Rattle.term_merger.proofs.settle_top.Tie as tie
 
--- src/lib.rt:173:9
 keep-top-requires : tie.Need-keep-top-requires
 keep-top-requires c κs = search needs
 
--- src/lib.rt:174:5
 sift-down-requires : tie.Need-sift-down-requires
 sift-down-requires c κs =
     let s = c .before .before .before .before .args in
     (c .before .before .before .before .pre .0, sift-given (s .cursors .now) (s .seg .now) (s .len) (s .bytes .now) (c .before .before .before .before .pre .1 .1) (c .before .keep-top .ensures .0) (c .before .keep-top .ensures .1) (c .before .before .before .before .pre .1 .0) (c .before .before .before .before .pre .1 .2) (c .before .before .before .before .pre .1 .3))
 
--- src/lib.rt:168:1
 returns : tie.Need-returns
 returns c =
     let s = c .before .before .before .before .before .args in

@@ -16,43 +16,33 @@ Inv-loop seg₀ bytes cursors n i₀ seg i = (i ≤ 256) × (length seg ≡ 256)
 abbrev μ-loop : tie.MeasureT-loop
 μ-loop seg₀ bytes cursors n i₀ seg i = n - i
 
--- src/lib.rt:137:5
 loop-holds : tie.Need-loop-holds Inv-loop μ-loop
 loop-holds c = (search needs, c .before .pre .1 .0, (λ x. refl), c .before .pre .1 .2)
 
--- src/lib.rt:137:11
 mul-loop : tie.Need-mul-loop Inv-loop μ-loop
 mul-loop c = search needs
 
--- src/lib.rt:137:11
 add-loop : tie.Need-add-loop Inv-loop μ-loop
 add-loop c = search needs
 
--- src/lib.rt:138:50
 mul-first-child : tie.Need-mul-first-child Inv-loop μ-loop
 mul-first-child c = search needs
 
--- src/lib.rt:138:50
 add-first-child : tie.Need-add-first-child Inv-loop μ-loop
 add-first-child c = search needs
 
--- src/lib.rt:138:13
 first-child-requires : tie.Need-first-child-requires Inv-loop μ-loop
 first-child-requires c κs = (c .before .before .before .before .pre .0, (omega arith, c .before .before .before .before .pre .1 .1))
 
--- src/lib.rt:139:17
 element-copy-out-a : tie.Need-element-copy-out-a Inv-loop μ-loop
 element-copy-out-a c = omega (arith, c .first-child .ensures .inside)
 
--- src/lib.rt:140:17
 element-copy-out-b : tie.Need-element-copy-out-b Inv-loop μ-loop
 element-copy-out-b c = omega (arith, c .before .first-child .ensures .inside)
 
--- src/lib.rt:141:13
 comes-before-requires : tie.Need-comes-before-requires Inv-loop μ-loop
 comes-before-requires c κs = c .before .before .before .before .before .before .before .pre .0
 
--- src/lib.rt:142:13
 returns : tie.Need-returns Inv-loop μ-loop
 returns c =
     let s = c .before .before .before .before .before .before .before .before .before .args in
@@ -67,19 +57,15 @@ returns c =
       holds = l .inv .2;
     }
 
--- src/lib.rt:144:9
 element-write-seg : tie.Need-element-write-seg Inv-loop μ-loop
 element-write-seg c = omega (arith, c .before .before .before .before .first-child .ensures .inside)
 
--- src/lib.rt:145:9
 element-write-seg-2 : tie.Need-element-write-seg-2 Inv-loop μ-loop
 element-write-seg-2 c = omega (arith, c .before .before .before .before .first-child .ensures .inside)
 
--- src/lib.rt:137:5
 loop-less : tie.Need-loop-less Inv-loop μ-loop
 loop-less c = omega (arith, c .before .before .before .before .first-child .ensures .inside, c .before .before .before .before .first-child .ensures .low)
 
--- src/lib.rt:137:5
 loop-again : tie.Need-loop-again Inv-loop μ-loop
 loop-again c =
     let s = c .before .before .before .before .before .before .before .before .before .args in
@@ -99,7 +85,6 @@ loop-again c =
           (λ j p q e. f .ensures .least j (omega arith) (omega arith) q) (l .inv .3),
     )
 
--- src/lib.rt:131:1
 returns-2 : tie.Need-returns-2 Inv-loop μ-loop
 returns-2 c =
     let s = c .before .before .before .args in

@@ -16,27 +16,21 @@ Inv-loop seg₀ bytes cursors from i₀ seg i = (i < from + 1) × (length seg �
 abbrev μ-loop : tie.MeasureT-loop
 μ-loop seg₀ bytes cursors from i₀ seg i = i
 
--- src/lib.rt:82:5
 loop-holds : tie.Need-loop-holds Inv-loop μ-loop
 loop-holds c = (search needs, c .before .pre .1 .0, (λ x. refl), up-start _ _ _ _ (c .before .pre .1 .2))
 
--- src/lib.rt:83:18
 sub-p : tie.Need-sub-p Inv-loop μ-loop
 sub-p c = search needs
 
--- src/lib.rt:84:17
 element-copy-out-a : tie.Need-element-copy-out-a Inv-loop μ-loop
 element-copy-out-a c = search needs
 
--- src/lib.rt:85:17
 element-copy-out-b : tie.Need-element-copy-out-b Inv-loop μ-loop
 element-copy-out-b c = search needs
 
--- src/lib.rt:86:13
 comes-before-requires : tie.Need-comes-before-requires Inv-loop μ-loop
 comes-before-requires c κs = c .before .before .before .before .before .pre .0
 
--- src/lib.rt:87:13
 returns : tie.Need-returns Inv-loop μ-loop
 returns c =
     let s = c .before .before .before .before .before .before .before .args in
@@ -47,19 +41,15 @@ returns c =
       holds = l .inv .2;
     }
 
--- src/lib.rt:89:9
 element-write-seg : tie.Need-element-write-seg Inv-loop μ-loop
 element-write-seg c = search needs
 
--- src/lib.rt:90:9
 element-write-seg-2 : tie.Need-element-write-seg-2 Inv-loop μ-loop
 element-write-seg-2 c = omega arith
 
--- src/lib.rt:82:5
 loop-less : tie.Need-loop-less Inv-loop μ-loop
 loop-less c = search needs
 
--- src/lib.rt:82:5
 loop-again : tie.Need-loop-again Inv-loop μ-loop
 loop-again c =
     let s = c .before .before .before .before .before .before .before .args in
@@ -76,7 +66,6 @@ loop-again c =
       up-swap (s .bytes .now) (s .cursors .now) seg (l .i) (s .from + 1) pos ins (omega arith) k (l .inv .3),
     )
 
--- src/lib.rt:76:1
 returns-2 : tie.Need-returns-2 Inv-loop μ-loop
 returns-2 c =
     let s = c .before .before .before .args in

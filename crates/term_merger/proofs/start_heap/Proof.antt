@@ -14,47 +14,36 @@ Inv-loop bytes cursors h₀ s₀ h s = Begun bytes cursors h s
 abbrev μ-loop : tie.MeasureT-loop
 μ-loop bytes cursors h₀ s₀ h s = 256 - s
 
--- src/lib.rt:183:9
 empty-requires : tie.Need-empty-requires Inv-loop μ-loop
 empty-requires c κs = search needs
 
--- src/lib.rt:185:5
 loop-holds : tie.Need-loop-holds Inv-loop μ-loop
 loop-holds c = begun-start _ _ _ (ap (λ (h : Heap). h .len) (c .empty .ensures))
 
--- src/lib.rt:186:22
 mul-cursor : tie.Need-mul-cursor Inv-loop μ-loop
 mul-cursor c = search needs
 
--- src/lib.rt:186:22
 shared-slice-copy-out-cursor : tie.Need-shared-slice-copy-out-cursor Inv-loop μ-loop
 shared-slice-copy-out-cursor c = search needs
 
--- src/lib.rt:187:12
 array-read-if1 : tie.Need-array-read-if1 Inv-loop μ-loop
 array-read-if1 c = search needs
 
--- src/lib.rt:187:24
 array-read-if1-2 : tie.Need-array-read-if1-2 Inv-loop μ-loop
 array-read-if1-2 c = search needs
 
--- src/lib.rt:188:41
 cast-push : tie.Need-cast-push Inv-loop μ-loop
 cast-push c = omega (arith, c .before .before .loop-test .taken)
 
--- src/lib.rt:188:13
 push-requires : tie.Need-push-requires Inv-loop μ-loop
 push-requires c κs = ((omega (arith, c .before .before .before .before .before .before .pre .0), c .before .before .before .before .before .before .pre .1), c .before .before .before .loop .inv .inHeapOrder)
 
--- src/lib.rt:190:9
 add-s : tie.Need-add-s Inv-loop μ-loop
 add-s c = search needs
 
--- src/lib.rt:185:5
 loop-less : tie.Need-loop-less Inv-loop μ-loop
 loop-less c = search needs
 
--- src/lib.rt:185:5
 loop-again : tie.Need-loop-again Inv-loop μ-loop
 loop-again c =
     let s = c .before .before .before .before .before .before .args in
@@ -65,7 +54,6 @@ loop-again c =
     (λ w. subst (λ (h : Heap). Begun (s .bytes .now) (s .cursors .now) h (l .s + 1)) (sym (w .1)) (begun-pass (l .inv) k (omega (arith, w .0 .left))))
     (c .if1 .came)
 
--- src/lib.rt:179:1
 returns : tie.Need-returns Inv-loop μ-loop
 returns c = begun-end _ _ _ _ (c .before .loop .inv) (c .loop-test .left) (c .before .before .before .before .pre .0)
 

@@ -16,8 +16,14 @@
 //! shuffled           in random order
 //! interleaved-alive  interleaved, one row in ten withdrawn
 //!
-//! The time order's segments are kind 1, DateTime: in turn, one second later each row, and each
-//! segment after the one before it; overlapping, sorted next() >> 24.
+//! The time order's segments are DateTime, and their times lie
+//!
+//! in turn      one second later each row, and each segment after the one before it
+//! overlapping  sorted next() >> 24
+//!
+//! all timed        kind 1
+//! half untimed     kind 2, a row keeps its time if next() is even
+//! tenth withdrawn  kind 1, one row in ten withdrawn
 //!
 //! The converter's segment is that of multi as kind 3, from seed 1.
 use tantivy_columnar::ColumnType;
@@ -111,31 +117,52 @@ impl Line {
     }
 }
 
-/// How the times of a time order lie.
-#[derive(Clone, Copy, PartialEq, Eq)]
-pub enum Times {
-    InTurn,
-    Overlapping,
+/// A line of the time order's table: how the segments' times lie, and which rows have one.
+#[derive(Clone, Copy)]
+pub struct OrderLine {
+    pub times: &'static str,
+    pub rows: &'static str,
 }
 
-impl Times {
-    pub fn name(self) -> &'static str {
-        match self {
-            Times::InTurn => "in turn",
-            Times::Overlapping => "overlapping",
-        }
+pub const IN_TURN: &str = "in turn";
+const HALF_UNTIMED: &str = "half untimed";
+const TENTH_WITHDRAWN: &str = "tenth withdrawn";
+
+/// All lines whose name has `word` in it.
+pub fn order_lines(word: &str) -> Vec<OrderLine> {
+    let rows = |times| ["all timed", HALF_UNTIMED, TENTH_WITHDRAWN].map(|rows| OrderLine { times, rows });
+    let all = [IN_TURN, "overlapping"].into_iter().flat_map(rows);
+    all.filter(|line| line.name().contains(word)).collect()
+}
+
+impl OrderLine {
+    pub fn name(&self) -> String {
+        format!("time order {} {}", self.times, self.rows)
     }
 
-    pub fn segments(self, segs: usize, rows: u32) -> Vec<Seg> {
-        let times = |i: u64| match self {
-            Times::InTurn => (i * rows as u64..(i + 1) * rows as u64).map(|n| 1_000_000_000 * n).collect(),
-            Times::Overlapping => {
-                let mut times = words(&mut Rng::new(1 + i), rows);
-                times.sort_unstable();
-                times
-            }
+    pub fn segments(&self, segs: usize, rows: u32) -> Vec<Seg> {
+        (0..segs as u64).map(|i| self.segment(i, rows)).collect()
+    }
+
+    fn segment(&self, i: u64, rows: u32) -> Seg {
+        let mut rng = Rng::new(1 + i);
+        let n = rows as u64;
+        let mut times: Vec<u64> = match self.times {
+            IN_TURN => (i * n..(i + 1) * n).map(|second| 1_000_000_000 * second).collect(),
+            _ => words(&mut rng, rows),
         };
-        (0..segs as u64).map(|i| Seg { ty: 7, kind: 1, rows, values: times(i), ..Seg::default() }).collect()
+        times.sort_unstable();
+        let mut s = Seg { ty: 7, kind: 1, rows, values: times, ..Seg::default() };
+        match self.rows {
+            HALF_UNTIMED => {
+                s.kind = 2;
+                s.ids = (0..rows).filter(|_| rng.one_in(2)).collect();
+                s.values = s.ids.iter().map(|&row| s.values[row as usize]).collect();
+            }
+            TENTH_WITHDRAWN => s.alive = Some(alive(&mut rng, rows)),
+            _ => {}
+        }
+        s
     }
 }
 

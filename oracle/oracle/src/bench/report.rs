@@ -1,5 +1,5 @@
 //! The table and the growth series as text, and the machine that they were made on.
-use super::inputs::{Line, TERMS, Times, lines};
+use super::inputs::{IN_TURN, Line, OrderLine, TERMS, lines, order_lines};
 use super::{Measured, MeasuredConversion, MeasuredOrder, ROUNDS};
 use super::{keep_memory, measure, measure_conversion, measure_order};
 use crate::compare::has_library;
@@ -23,9 +23,9 @@ const MOST_SEGMENTS: usize = 256;
 
 /// Prints the tables of the lines that have `word` in their name. False if checksums differ.
 pub fn table(segs: usize, rows: u32, word: &str) -> Result<bool, String> {
-    let lines = lines(word);
-    let (order, converter) = (ORDER.contains(word), CONVERTER.contains(word));
-    if lines.is_empty() && !order && !converter {
+    let (lines, orders) = (lines(word), order_lines(word));
+    let converter = CONVERTER.contains(word);
+    if lines.is_empty() && orders.is_empty() && !converter {
         return Err("no line has that word in its name".into());
     }
     begin()?;
@@ -38,8 +38,8 @@ pub fn table(segs: usize, rows: u32, word: &str) -> Result<bool, String> {
     if !terms.is_empty() {
         all_equal &= joins(&terms, MOST_SEGMENTS, rows);
     }
-    if order {
-        all_equal &= time_orders(segs, rows);
+    if !orders.is_empty() {
+        all_equal &= time_orders(&orders, segs, rows);
     }
     if converter {
         all_equal &= conversion((segs as u32).saturating_mul(rows));
@@ -62,36 +62,57 @@ fn joins(lines: &[Line], segs: usize, rows: u32) -> bool {
     equal == lines.len()
 }
 
-/// The time order's name where lines are named.
-const ORDER: &str = "time order";
-
-fn time_orders(segs: usize, rows: u32) -> bool {
+fn time_orders(lines: &[OrderLine], segs: usize, rows: u32) -> bool {
     println!(
         "\nThe time order: {segs} segments of {} rows, one after the other in time or overlapping, beside \
-         `sort_unstable` of (time, segment, row). Times in ns per row, processor time, least of {ROUNDS} rounds.\n",
+         `sort_unstable` of (key, segment, row), alone and with the making of that list and of the addresses. \
+         Times in ns per alive row, processor time, least of {ROUNDS} rounds.\n",
         grouped(rows as usize)
     );
-    println!("| Segments | Rows | Ours | Sort | Sort / ours | Checksum of both |");
-    println!("|---|--:|--:|--:|--:|---|");
-    let mut all_equal = true;
-    for times in [Times::InTurn, Times::Overlapping] {
-        let MeasuredOrder { rows, ours, sort, sums } = measure_order(times, segs, rows);
-        println!(
-            "| {} | {} | {} | {} | {} | {} |",
-            times.name(),
-            grouped(rows),
-            digits(ours),
-            digits(sort),
-            digits(sort / ours),
-            sum(sums)
-        );
-        let equal = if sums[0] == sums[1] { "" } else { ", CHECKSUMS DIFFER" };
-        let name = format!("{ORDER} {}", times.name());
-        let (ours, sort) = (digits(ours), digits(sort));
-        eprintln!("{name:<28} {rows:>10} rows: ours {ours:>8}, sort {sort:>8} ns per row{equal}");
-        all_equal &= sums[0] == sums[1];
+    println!(
+        "| Segments | Rows | Alive rows | Ours | Sort alone | Sort / ours | Whole by sort | Whole / ours | Target met | Checksum of both |"
+    );
+    println!("|---|---|--:|--:|--:|--:|--:|--:|---|---|");
+    let (mut met, mut equal) = (0, 0);
+    for &line in lines {
+        let m = measure_order(line, segs, rows);
+        met += order_missed(&m).is_none() as usize;
+        equal += (m.sums[0] == m.sums[1]) as usize;
+        print_order(&m);
     }
-    all_equal
+    println!("\nTargets met on {met} of {} lines; checksums equal on {equal}.", lines.len());
+    equal == lines.len()
+}
+
+fn print_order(m: &MeasuredOrder) {
+    let (ours, sort, whole) = (digits(m.ours), digits(m.sort), digits(m.whole));
+    println!(
+        "| {} | {} | {} | {ours} | {sort} | {} | {whole} | {} | {} | {} |",
+        m.line.times,
+        m.line.rows,
+        grouped(m.rows),
+        digits(m.sort / m.ours),
+        digits(m.whole / m.ours),
+        order_missed(m).map_or("yes".to_string(), |text| format!("**no**: {text}")),
+        sum(m.sums)
+    );
+    let equal = if m.sums[0] == m.sums[1] { "" } else { ", CHECKSUMS DIFFER" };
+    eprintln!(
+        "{:<38} {:>10} rows: ours {ours:>8}, sort {sort:>8}, whole by sort {whole:>8} ns per row{equal}",
+        m.line.name(),
+        m.rows
+    );
+}
+
+/// The target that a line misses: overlapping, at least as fast as the sort alone; in turn, at least
+/// twice as fast as the whole by sort, since a list that is in order already costs the sort one look.
+fn order_missed(m: &MeasuredOrder) -> Option<&'static str> {
+    match m.line.times {
+        IN_TURN if m.whole < 2.0 * m.ours => Some("below 2 times the whole by sort"),
+        IN_TURN => None,
+        _ if m.sort < m.ours => Some("slower than the sort alone"),
+        _ => None,
+    }
 }
 
 /// The converter's name where lines are named.

@@ -62,8 +62,9 @@ jadmirus order FILE [--output FILE] [--from sheet|wire]
 
 Sorts the rows that are not withdrawn by time, then segment, then row, and writes them as
 an 'addresses' entry for the sheet of an ordered join. The segments hold DateTime columns, or
-none; a row without a time follows the one before it in its segment, and before the first
-time it stands before all times. Mode, required type and addresses of FILE play no part. A
+none. A row without a time goes by the last time before it in its segment; at the start of a
+segment, by the first time after it. Times of withdrawn rows count in this. A segment without
+any time stands before all times. Mode, required type and addresses of FILE play no part. A
 refusal prints 'answer' and its number; that of an OldMultivalued segment is 19, and 'jadmirus
 convert' makes it a new one.
 
