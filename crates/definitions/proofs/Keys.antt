@@ -5,13 +5,13 @@ use native.Mathlib.Nat.{le-refl, add-zero, zero-add}
 use native.Mathlib.Omega.{arith}
 use mathlib.Core.Path.{_≡_, refl, sym, ap, _∙_, subst}
 use mathlib.Core.List.{List, [], _∷_, _++_, map}
-use lib.IntN.{ℤ, pos, negsuc}
+use lib.IntN.{pos, negsuc}
 use lib.ListN.{getD}
 use borrow.Author.Tests.{le-leb, lt-leb}
 use Rattle.definitions.specs.Lists.{concat, upFrom}
 use Rattle.definitions.specs.Segment.{Segment, Address}
 use Rattle.definitions.specs.Row.{rowValues}
-use Rattle.definitions.specs.Types.{isNegative, signedOf}
+use Rattle.definitions.specs.Types.{signedOf}
 use Rattle.definitions.specs.Join.{absent}
 use Rattle.definitions.specs.TimeOrder.{timeOf, keyOr, firstKey, keyAfter, keyOf}
 

@@ -20,7 +20,7 @@ use Rattle.term_order.specs.declared.Key.{Key}
 use Rattle.term_order.specs.Key.{keyed, Inside}
 use Rattle.term_order.proofs.Laws.{told-lt, told-eq, told-gt}
 use Rattle.term_merger.specs.Order.{cell, keyIn, keyOf, tieOf, orderAt, comesBefore, TermsInside}
-use Rattle.term_merger.specs.Heap.{one, count, Ordered, Sinking, FirstChild, Risen, Pushed}
+use Rattle.term_merger.specs.Heap.{one, count, Ordered, Sinking, firstChild, FirstChild, Risen, Pushed}
 use Rattle.term_merger.specs.Live.{topLives, keptLen, keptNumbers, Settled}
 use Rattle.term_merger.specs.declared.Heap.{Heap}
 use Rattle.lists.proofs.Numbers.{same?, le-lt}
@@ -324,9 +324,26 @@ module _ (bytes : List ℕ) (cursors : List (List ℕ)) (a b : ℕ) where
 -- ---- the first child
 
 module _ (bytes : List ℕ) (cursors : List (List ℕ)) (seg : List ℕ) (l n : ℕ) where
+  last-is : n ≤ l + 1 → l ≡ firstChild bytes cursors seg l n
+  unfolding firstChild
+  last-is h = rw (le-ltb (l + 1) n h)
+
+  first-is : AtMost bytes cursors (getD seg l 0) (getD seg (l + 1) 0) → l ≡ firstChild bytes cursors seg l n
+  unfolding firstChild
+  first-is k = rw k (go (ltb (l + 1) n))
+    where
+      go : (b : Bool) → l ≡ cond b l l
+      go true = refl
+      go false = refl
+
+  second-is : l + 1 < n → comesBefore bytes cursors (getD seg (l + 1) 0) (getD seg l 0) ≡ true → l + 1 ≡ firstChild bytes cursors seg l n
+  unfolding firstChild
+  second-is h k = rw (lt-ltb (l + 1) n h, k)
+
   pub child-last : l < n → n ≤ l + 1 → FirstChild bytes cursors seg l n l
   child-last h k =
       record {
+        is = last-is k;
         low = omega arith;
         high = omega arith;
         inside = h;
@@ -334,14 +351,14 @@ module _ (bytes : List ℕ) (cursors : List (List ℕ)) (seg : List ℕ) (l n : 
       }
 
   pub child-first : l < n → AtMost bytes cursors (getD seg l 0) (getD seg (l + 1) 0) → FirstChild bytes cursors seg l n l
-  child-first h k = record { low = omega arith; high = omega arith; inside = h; least = λ j p q r. go j p q (same? j l) }
+  child-first h k = record { is = first-is k; low = omega arith; high = omega arith; inside = h; least = λ j p q r. go j p q (same? j l) }
     where
       go : (j : ℕ) → l ≤ j → j ≤ l + 1 → (j ≡ l) ⊎ (j ≡ l → ⊥) → AtMost bytes cursors (getD seg l 0) (getD seg j 0)
       go j p q (inl e) = subst (λ (x : ℕ). AtMost bytes cursors (getD seg l 0) (getD seg x 0)) (sym e) (at-most-refl bytes cursors (getD seg l 0))
       go j p q (inr d) = subst (λ (x : ℕ). AtMost bytes cursors (getD seg l 0) (getD seg x 0)) (let x : j ≢ l = d in let e : l + 1 ≡ j = omega arith in e) k
 
   pub child-second : l + 1 < n → comesBefore bytes cursors (getD seg (l + 1) 0) (getD seg l 0) ≡ true → FirstChild bytes cursors seg l n (l + 1)
-  child-second h k = record { low = omega arith; high = omega arith; inside = h; least = λ j p q r. go j p q (same? j l) }
+  child-second h k = record { is = second-is h k; low = omega arith; high = omega arith; inside = h; least = λ j p q r. go j p q (same? j l) }
     where
       go : (j : ℕ) → l ≤ j → j ≤ l + 1 → (j ≡ l) ⊎ (j ≡ l → ⊥) → AtMost bytes cursors (getD seg (l + 1) 0) (getD seg j 0)
       go j p q (inl e) = subst (λ (x : ℕ). AtMost bytes cursors (getD seg (l + 1) 0) (getD seg x 0)) (sym e) (before-at-most bytes cursors (getD seg (l + 1) 0) (getD seg l 0) k)

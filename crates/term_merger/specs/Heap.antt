@@ -1,9 +1,9 @@
 -- What a heap of segment numbers holds, and its order. Assumes nothing.
 use Prim.Native.Nat.{ℕ, _+_, _-_, _/_, _≤_, _<_}
-use mathlib.Core.Bool.{Bool, true, false}
+use mathlib.Core.Bool.{Bool, true, false, cond}
 use mathlib.Core.List.{List, [], _∷_}
 use mathlib.Core.Path.{_≡_}
-use lib.Dec.{eqb}
+use lib.Dec.{eqb, ltb}
 use lib.ListN.{length, take, getD, replicate}
 use Rattle.term_merger.specs.declared.Heap.{Heap}
 use Rattle.term_merger.specs.Order.{comesBefore}
@@ -44,8 +44,14 @@ pub record Risen (bytes : List ℕ) (cursors : List (List ℕ)) (seg : List ℕ)
   pub inHeapOrder : Ordered bytes cursors seg′ n
   pub holds : (x : ℕ) → count x (take n seg′) ≡ count x (take n seg)
 
--- c is l or the place after it, and neither of the two comes before the one at c
+-- of place l and the one after it, if that is there, the one that comes first; l of two that are the same
+unfoldable pub firstChild : List ℕ → List (List ℕ) → List ℕ → ℕ → ℕ → ℕ
+unfolding comesBefore
+firstChild bytes cursors seg l n = cond (ltb (l + 1) n) (cond (comesBefore bytes cursors (getD seg (l + 1) 0) (getD seg l 0)) (l + 1) l) l
+
+-- c is that place: l or the place after it, and neither of the two comes before the one at c
 pub record FirstChild (bytes : List ℕ) (cursors : List (List ℕ)) (seg : List ℕ) (l n c : ℕ) : Type 0 where
+  pub is : c ≡ firstChild bytes cursors seg l n
   pub low : l ≤ c
   pub high : c ≤ l + 1
   pub inside : c < n

@@ -128,35 +128,37 @@ module _ (kind : ℕ) (ids : List ℕ) (row : ℕ) where
   unfolding timesBefore
   times-full e = rw e (add-one row)
 
+-- a column of times has no offsets: what is said of kind 2 is said of all above it
+pub by-time-kind : {A : Type 0} (kind : ℕ) (a b c d : A) → byIndex (timeKind kind) a b c d ≡ byIndex kind a b c c
+by-time-kind kind a b c d = go (eqb kind 0) (eqb kind 1) (eqb kind 2)
+  where
+    go : (p q r : Bool) → byIndex (cond p 0 (cond q 1 (cond r 2 2))) a b c d ≡ cond p a (cond q b (cond r c c))
+    go true q r = refl
+    go false true r = refl
+    go false false true = refl
+    go false false false = refl
+
+-- what is said of the kinds with ids
+pub by-ids : {A : Type 0} (kind : ℕ) (a b c : A) → (kind ≡ 0 → ⊥) → (kind ≡ 1 → ⊥) → c ≡ byIndex kind a b c c
+by-ids kind a b c d e = rw (ne-eqb kind 0 d, ne-eqb kind 1 e) (go (eqb kind 2))
+  where
+    go : (p : Bool) → c ≡ cond p c c
+    go true = refl
+    go false = refl
+
 module _ (kind : ℕ) (ids : List ℕ) (n : ℕ) where
   pub times-listed : (kind ≡ 0 → ⊥) → (kind ≡ 1 → ⊥) → rankIn n ids ≡ timesBefore kind ids n
   unfolding timesBefore
-  times-listed a b = rw (ne-eqb kind 0 a, ne-eqb kind 1 b) (go (eqb kind 2))
-    where
-      go : (c : Bool) → rankIn n ids ≡ cond c (rankIn n ids) (rankIn n ids)
-      go true = refl
-      go false = refl
+  times-listed = by-ids kind 0 n (rankIn n ids)
 
-  -- a column of times has no offsets: where a row's values begin is how many times stand before it
+  -- where a row's values begin is how many times stand before it
   pub times-earlier : earlierOf (timeKind kind) ids [] n ≡ timesBefore kind ids n
   unfolding earlierOf timesBefore rankIn
-  times-earlier = go (eqb kind 0) (eqb kind 1) (eqb kind 2)
-    where
-      go : (a b c : Bool) → byIndex (cond a 0 (cond b 1 (cond c 2 2))) 0 n (rank n ids) (getD [] (rank n ids) 0) ≡ cond a 0 (cond b n (cond c (rank n ids) (rank n ids)))
-      go true b c = refl
-      go false true c = refl
-      go false false true = refl
-      go false false false = refl
+  times-earlier = by-time-kind kind 0 n (rank n ids) (getD [] (rank n ids) 0)
 
   pub times-kind : timesBefore (timeKind kind) ids n ≡ timesBefore kind ids n
   unfolding timesBefore
-  times-kind = go (eqb kind 0) (eqb kind 1) (eqb kind 2)
-    where
-      go : (a b c : Bool) → byIndex (cond a 0 (cond b 1 (cond c 2 2))) 0 n (rankIn n ids) (rankIn n ids) ≡ cond a 0 (cond b n (cond c (rankIn n ids) (rankIn n ids)))
-      go true b c = refl
-      go false true c = refl
-      go false false true = refl
-      go false false false = refl
+  times-kind = by-time-kind kind 0 n (rankIn n ids) (rankIn n ids)
 
 pub times-zero : (kind : ℕ) (ids : List ℕ) → 0 ≡ timesBefore kind ids 0
 unfolding timesBefore rankIn

@@ -4,11 +4,11 @@ use native.Mathlib.Nat.{le-refl}
 use native.Mathlib.Omega.{arith}
 use mathlib.Core.Path.{_≡_, refl, sym, ap, _∙_, subst}
 use mathlib.Core.Logic.{_⊎_, inl, inr}
-use mathlib.Core.Bool.{Bool, true, false, cond, false≢true, true≢false}
+use mathlib.Core.Bool.{true, false, false≢true}
 use mathlib.Core.List.{List, [], _∷_}
 use lib.ListN.{length, getD, List·getD-eq-default}
-use lib.Dec.{T, eqb, ltb, ltb→lt}
-use borrow.Author.Tests.{eq-eqb, ne-eqb, lt-ltb, le-ltb, ltb-true}
+use lib.Dec.{ltb, ltb→lt}
+use borrow.Author.Tests.{eq-eqb, ne-eqb, lt-ltb, le-ltb}
 use Rattle.definitions.specs.TimeOrder.{timeOf}
 use Rattle.definitions.specs.Row.{rank}
 use Rattle.lists.proofs.Numbers.{le-lt}
@@ -19,7 +19,7 @@ use Rattle.column_index.specs.Lookup.{rankIn, Sound}
 use Rattle.column_index.proofs.Sound.{rank-all}
 use Rattle.time_checks.proofs.Several.{rank-at, rank-past}
 use Rattle.time_cursors.specs.Cursors.{timesBefore, timeKind, TimesAt, Left}
-use Rattle.time_cursors.proofs.Laws.{rank-grows, times-listed}
+use Rattle.time_cursors.proofs.Laws.{rank-grows, by-ids, times-listed}
 use Rattle.time_cursors.proofs.Parts.{times-fit}
 use Rattle.places.specs.Place.{kindAt, rowsAt, idsAt, valuesAt}
 use Rattle.term_merger.specs.Order.{cell}
@@ -136,11 +136,7 @@ module _ (kind : ℕ) (ids : List ℕ) (rows m : ℕ) where
 
   row-is : (kind ≡ 0 → ⊥) → (kind ≡ 1 → ⊥) → getD ids m rows ≡ rowOfTime kind ids rows m
   unfolding rowOfTime
-  row-is a b = rw (ne-eqb kind 0 a, ne-eqb kind 1 b) (go (eqb kind 2))
-    where
-      go : (c : Bool) → getD ids m rows ≡ cond c (getD ids m rows) (getD ids m rows)
-      go true = refl
-      go false = refl
+  row-is = by-ids kind rows m (getD ids m rows)
 
   pub row-end : (kind ≡ 0 → ⊥) → (kind ≡ 1 → ⊥) → length ids ≤ m → rows ≡ rowOfTime kind ids rows m
   row-end a b h = sym (List·getD-eq-default ids rows h) ∙ row-is a b

@@ -2,12 +2,11 @@
 use Prim.Native.Nat.{ℕ, zero, suc, _-_, _≤_, _<_}
 use native.Mathlib.Nat.{le-refl}
 use native.Mathlib.Omega.{arith}
-use mathlib.Core.Path.{_≡_, refl, sym, ap, _∙_, subst}
+use mathlib.Core.Path.{_≡_, refl, sym, ap, _∙_}
 use mathlib.Core.Bool.{Bool, true, false, cond}
 use mathlib.Core.List.{List, []}
 use lib.ListN.{length, getD}
 use lib.Dec.{T, eqb, ltb, ltb→lt}
-use borrow.Author.Tests.{ne-eqb}
 use Rattle.definitions.specs.Lists.{all, elem}
 use Rattle.definitions.specs.Row.{rank}
 use Rattle.definitions.proofs.Fit.{rank-lt}
@@ -18,6 +17,14 @@ use Rattle.column_index.specs.Lookup.{rankIn, isIn, startOf, endOf, Sound}
 use Rattle.column_index.proofs.Sound.{earlierOf, earlier-end, rank-all}
 use Rattle.time_checks.proofs.Several.{asc-strict, rank-at, rank-past}
 use Rattle.time_cursors.specs.Cursors.{timeKind}
+use Rattle.time_cursors.proofs.Laws.{by-time-kind}
+
+-- two words on kind 4 that say the same
+by-multi : {A : Type 0} (kind : ℕ) (a b : A) {c d : A} → ((k : ℕ) → kind ≡ suc (suc (suc k)) → c ≡ d) → byIndex kind a b c c ≡ byIndex kind a b c d
+by-multi zero a b f = refl
+by-multi (suc zero) a b f = refl
+by-multi (suc (suc zero)) a b f = refl
+by-multi (suc (suc (suc k))) a b {c} {d} f = index-multi k a b c c ∙ f k refl ∙ sym (index-multi k a b c d)
 
 module _ {kind rows n : ℕ} {ids offsets : List ℕ} (so : Sound kind rows n ids offsets) (single : (r : ℕ) → r < rows → earlierOf kind ids offsets (suc r) - earlierOf kind ids offsets r ≤ 1) where
   -- what stands before a row of kind 4
@@ -57,41 +64,22 @@ module _ {kind rows n : ℕ} {ids offsets : List ℕ} (so : Sound kind rows n id
           let two : timeKind kind ≡ 2 = ap timeKind e ∙ index-multi k 0 1 2 2 in
           rw two (fields two refl (λ z. absurd (omega arith)) (λ z. absurd (omega arith)) (λ z. (so .multi (omega arith) .0, many k e)) (λ h. omega arith))
 
-  -- and a row's times stand where they stood
+  -- and a row's times stand where they stood: what is said by rank is said by the offset of that rank
+  same-place : (r full : ℕ) (f : ℕ → ℕ) → ((j : ℕ) → j < length ids → f j ≤ length ids)
+      → byIndex (timeKind kind) 0 full (cond (elem r ids) (f (rank r ids)) 0) (cond (elem r ids) (getD [] (f (rank r ids)) 0) 0)
+      ≡ byIndex kind 0 full (cond (elem r ids) (f (rank r ids)) 0) (cond (elem r ids) (getD offsets (f (rank r ids)) 0) 0)
+  same-place r full f within =
+      by-time-kind kind 0 full (cond (elem r ids) (f (rank r ids)) 0) (cond (elem r ids) (getD [] (f (rank r ids)) 0) 0)
+      ∙ by-multi kind 0 full (λ k e. listed k e (elem r ids) refl)
+    where
+      listed : (k : ℕ) → kind ≡ suc (suc (suc k)) → (b : Bool) → elem r ids ≡ b → cond b (f (rank r ids)) 0 ≡ cond b (getD offsets (f (rank r ids)) 0) 0
+      listed k e true h = sym (offsets-are k e (f (rank r ids)) (within (rank r ids) (rank-lt r ids h)))
+      listed k e false h = refl
+
   pub start-same : (r : ℕ) → startOf (timeKind kind) ids [] r ≡ startOf kind ids offsets r
   unfolding startOf rankIn isIn
-  start-same r = go kind refl
-    where
-      listed : (k : ℕ) → kind ≡ suc (suc (suc k)) → (b : Bool) → elem r ids ≡ b → cond b (rank r ids) 0 ≡ cond b (getD offsets (rank r ids) 0) 0
-      listed k e true f = sym (offsets-are k e (rank r ids) (let t = rank-lt r ids f in omega arith))
-      listed k e false f = refl
-
-      go : (k : ℕ) → kind ≡ k → byIndex (timeKind kind) 0 r (cond (elem r ids) (rank r ids) 0) (cond (elem r ids) (getD [] (rank r ids) 0) 0)
-          ≡ byIndex kind 0 r (cond (elem r ids) (rank r ids) 0) (cond (elem r ids) (getD offsets (rank r ids) 0) 0)
-      go zero e = rw e
-      go (suc zero) e = rw e
-      go (suc (suc zero)) e = rw e
-      go (suc (suc (suc k))) e =
-          ap (λ (m : ℕ). byIndex m 0 r (cond (elem r ids) (rank r ids) 0) (cond (elem r ids) (getD [] (rank r ids) 0) 0)) (ap timeKind e ∙ index-multi k 0 1 2 2)
-          ∙ listed k e (elem r ids) refl
-          ∙ sym (ap (λ (m : ℕ). byIndex m 0 r (cond (elem r ids) (rank r ids) 0) (cond (elem r ids) (getD offsets (rank r ids) 0) 0)) e
-          ∙ index-multi k 0 r (cond (elem r ids) (rank r ids) 0) (cond (elem r ids) (getD offsets (rank r ids) 0) 0))
+  start-same r = same-place r r (λ j. j) (λ j h. omega arith)
 
   pub end-same : (r : ℕ) → endOf (timeKind kind) ids [] r ≡ endOf kind ids offsets r
   unfolding endOf rankIn isIn
-  end-same r = go kind refl
-    where
-      listed : (k : ℕ) → kind ≡ suc (suc (suc k)) → (b : Bool) → elem r ids ≡ b → cond b (suc (rank r ids)) 0 ≡ cond b (getD offsets (suc (rank r ids)) 0) 0
-      listed k e true f = sym (offsets-are k e (suc (rank r ids)) (rank-lt r ids f))
-      listed k e false f = refl
-
-      go : (k : ℕ) → kind ≡ k → byIndex (timeKind kind) 0 (suc r) (cond (elem r ids) (suc (rank r ids)) 0) (cond (elem r ids) (getD [] (suc (rank r ids)) 0) 0)
-          ≡ byIndex kind 0 (suc r) (cond (elem r ids) (suc (rank r ids)) 0) (cond (elem r ids) (getD offsets (suc (rank r ids)) 0) 0)
-      go zero e = rw e
-      go (suc zero) e = rw e
-      go (suc (suc zero)) e = rw e
-      go (suc (suc (suc k))) e =
-          ap (λ (m : ℕ). byIndex m 0 (suc r) (cond (elem r ids) (suc (rank r ids)) 0) (cond (elem r ids) (getD [] (suc (rank r ids)) 0) 0)) (ap timeKind e ∙ index-multi k 0 1 2 2)
-          ∙ listed k e (elem r ids) refl
-          ∙ sym (ap (λ (m : ℕ). byIndex m 0 (suc r) (cond (elem r ids) (suc (rank r ids)) 0) (cond (elem r ids) (getD offsets (suc (rank r ids)) 0) 0)) e
-          ∙ index-multi k 0 (suc r) (cond (elem r ids) (suc (rank r ids)) 0) (cond (elem r ids) (getD offsets (suc (rank r ids)) 0) 0))
+  end-same r = same-place r (suc r) suc (λ j h. h)

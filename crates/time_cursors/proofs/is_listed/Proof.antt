@@ -1,4 +1,3 @@
-use borrow.Author.Needs.{needs}
 use mathlib.Core.Path.{_∙_, sym}
 use Rattle.time_cursors.proofs.Laws.{all-listed, bit}
 use Rattle.time_cursors.proofs.is_listed.Statement.{statement}

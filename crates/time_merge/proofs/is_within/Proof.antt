@@ -1,4 +1,3 @@
-use mathlib.Core.Path.{_∙_}
 use Rattle.time_merge.proofs.Reaching.{within-none, within-tie, within-lower}
 use borrow.Author.Needs.{needs}
 use Rattle.time_merge.proofs.is_within.Statement.{statement}

@@ -1,4 +1,3 @@
-use native.Mathlib.Omega.{arith}
 use mathlib.Core.Path.{_∙_}
 use Rattle.time_merge.proofs.Reaching.{row-none, row-full, row-end, row-listed}
 use borrow.Author.Needs.{needs}

@@ -1,4 +1,3 @@
-use native.Mathlib.Omega.{arith}
 use mathlib.Core.Path.{_∙_}
 use Rattle.time_merge.proofs.Reaching.{step-past, step-is}
 use borrow.Author.Needs.{needs}

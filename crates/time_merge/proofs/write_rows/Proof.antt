@@ -1,9 +1,7 @@
-use borrow.Author.Needs.{needs}
 use Prim.Native.Nat.{ℕ, _+_, _-_, _≤_}
 use native.Mathlib.Nat.{le-refl}
 use native.Mathlib.Omega.{arith}
 use mathlib.Core.Path.{ap}
-use lib.ListN.{length, length-set}
 use Rattle.runs.proofs.Laws.{Filling}
 use Rattle.time_merge.proofs.Rows.{rest, row-room, row-written, all-start, all-end}
 use Rattle.time_merge.proofs.write_rows.Statement.{statement}
