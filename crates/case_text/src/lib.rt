@@ -19,7 +19,7 @@ pub struct Part {
 }
 
 struct RecordAt {
-    record: [u32; 8],
+    record: segment::RecordNumbers,
     at: usize,
 }
 
@@ -190,7 +190,7 @@ fn read_record(text: &[u8], from: usize) -> RecordAt
 }
 
 // Segment records, counted whole.
-pub fn read_records(text: &[u8], from: usize, out: &mut [[u32; 8]]) -> Part
+pub fn read_records(text: &[u8], from: usize, out: &mut [segment::RecordNumbers]) -> Part
     ensures { λ r. ⌜ Counts (r .count) (now (out .exit)) ⌝ }
     ensures { λ r. ⌜ Listed (rowIn 8 (now (text .entry))) (now (text .entry)) from (now (out .entry)) (r .count) (r .at) (now (out .exit)) ⌝ }
 {

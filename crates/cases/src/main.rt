@@ -102,7 +102,7 @@ fn join_case(
     from: usize,
     mode: u32,
     required: u32,
-    records: &[[u32; 8]],
+    records: &[segment::RecordNumbers],
     ids: &[u32],
     offsets: &[u32],
     values: &[u64],
@@ -174,7 +174,7 @@ fn join_case(
 fn time_case(
     text: &[u8],
     from: usize,
-    records: &[[u32; 8]],
+    records: &[segment::RecordNumbers],
     ids: &[u32],
     offsets: &[u32],
     values: &[u64],
@@ -196,7 +196,7 @@ fn time_case(
 fn convert_case(
     text: &[u8],
     from: usize,
-    records: &[[u32; 8]],
+    records: &[segment::RecordNumbers],
     ids: &[u32],
     offsets: &[u32],
     values: &[u64],
@@ -236,7 +236,7 @@ fn run(
     text: &[u8],
     from: usize,
     call: Call,
-    records: &[[u32; 8]],
+    records: &[segment::RecordNumbers],
     ids: &[u32],
     offsets: &[u32],
     values: &[u64],
@@ -311,7 +311,7 @@ fn read_call(text: &[u8], from: usize) -> Call {
 
 // Prints a case's name and what it gives and leaves, and gives the place behind it.
 fn show_case(text: &[u8], from: usize) -> usize {
-    let mut records = [[0u32; 8]; 300];
+    let mut records = [[0u32; segment::WIDTH]; 300];
     let mut ids = [0u32; 300];
     let mut offsets = [0u32; 300];
     let mut values = [0u64; 300];

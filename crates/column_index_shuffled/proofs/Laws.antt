@@ -1,6 +1,5 @@
 -- A list that is written only where it is wanted, and a turn of the loop over the addresses. Assumes nothing.
 use Prim.Native.Nat.{ℕ, suc, _+_, _-_, _≤_, _<_}
-use native.Mathlib.Nat.{add-zero}
 use native.Mathlib.Numerals.{add-one}
 use native.Mathlib.Omega.{arith}
 use mathlib.Core.Path.{_≡_, refl, sym, ap, ap₂, _∙_, subst}
@@ -10,10 +9,12 @@ use lib.ListN.{length, getD, set, drop, drop-of-length-le}
 use lib.Seq.{drop-cons}
 use Rattle.runs.specs.Put.{put, putIf, RoomIf}
 use Rattle.runs.proofs.Laws.{Filling, fill-start, fill-end, fill-room, fill-more, put-nil, put-one}
-use Rattle.places.specs.Width.{idPart, idsOf, totalsOf}
-use Rattle.places.specs.Place.{run, rowOf, startIn, endIn, widthIn, cellIn, widths, Inside}
-use Rattle.places.proofs.Cells.{cell-run, cell-length}
-use Rattle.places.proofs.Laws.{first-set, fill-second, part-none, part-some, part-length, ids-step, totals-step, widthNow}
+use Rattle.stands.specs.Width.{idPart, idsOf, totalsOf}
+use Rattle.stands.specs.declared.Stand.{Stand}
+use Rattle.stands.specs.Stand.{run, standAt}
+use Rattle.stands.specs.Look.{addressed, rowOf, startIn, endIn, widthIn, cellIn, widths, Inside}
+use Rattle.stands.proofs.Cells.{cell-run, cell-length}
+use Rattle.stands.proofs.Laws.{first-set, fill-second, part-none, part-some, part-length, ids-step, totals-step, widthNow}
 use Rattle.column_values_merge.specs.Word.{newWords, Worded}
 use Rattle.column_values_merge.proofs.Laws.{words-length}
 use Rattle.column_index_shuffled.specs.Order.{orderedWords, Ordered}
@@ -35,12 +36,6 @@ module _ (at x w : ℕ) (old : List ℕ) where
   pub part-set : (b : Bool) → RoomIf b at (length (idPart x w)) (length old) → b ≡ true → (w ≡ 0 → ⊥) → set old at x ≡ putIf b at (idPart x w) old
   unfolding putIf
   part-set b r e f = put-one at x old (part-room b r e f) ∙ ap (λ (l : List ℕ). put at l old) (sym (part-some x w f)) ∙ ap (λ (c : Bool). cond c (put at (idPart x w) old) old) (sym e)
-
-pub count-bare : (n w : ℕ) → w ≡ 0 → n ≡ n + length (idPart 0 w)
-count-bare n w e = rw e (sym (add-zero n))
-
-pub count-some : (n w : ℕ) → (w ≡ 0 → ⊥) → n + 1 ≡ n + length (idPart 0 w)
-count-some n w e = ap (λ (l : List ℕ). n + length l) (sym (part-some 0 w e))
 
 -- ---- a list that is written where it is wanted
 
@@ -102,83 +97,91 @@ module _ (b : Bool) (x : ℕ) (vs old : List ℕ) (r : RoomIf b 0 (length (x ∷
             ap (put 0 (x ∷ vs)) (q ∙ sym (put-one 0 x old k)) ∙ first-set x vs old
         go false h q = q
 
--- ---- a turn at the address j: s is the segment that was read, x and y where the row's values were found, w how many they are
+-- ---- a turn at the address j: s is the segment that was read and p where it stands, x and y where the row's values were found
 
-module _ {to : ℕ} {addresses places sources : List (List ℕ)} {ids offsets values table : List ℕ} (l : Ordered to addresses places sources ids offsets values table) {j s : ℕ} (h : j < length addresses)
+module _ {to : ℕ} {addresses stands : List (List ℕ)} {ids offsets values table : List ℕ} (l : Ordered to addresses stands ids offsets values table) {j s : ℕ} (h : j < length addresses)
     (e : s ≡ getD (getD addresses j []) 0 0) where
-  pub ordered-now : (s < length places)
-      × (s < length sources)
-      × Inside (getD places s []) ids offsets values (rowOf (getD addresses j []))
-      × Worded (getD sources s []) table (cellIn (getD places s []) ids offsets values (rowOf (getD addresses j [])))
-  ordered-now = rw e (l .each j h)
+  abbrev row : ℕ
+  row = rowOf (getD addresses j [])
 
-  module _ {x y : ℕ} (p : x ≡ startIn (getD places s []) ids offsets (rowOf (getD addresses j []))) (q : y ≡ endIn (getD places s []) ids offsets (rowOf (getD addresses j []))) where
-    pub row-rises : x ≤ y
-    row-rises = omega (arith, ordered-now .2 .within .rises)
+  -- what is left, from address k on
+  abbrev wordsFrom : ℕ → List ℕ
+  wordsFrom k = orderedWords to stands ids offsets values table (drop k addresses)
 
-    pub row-end : getD (getD places s []) 6 0 + y ≤ length values
-    row-end = omega (arith, ordered-now .2 .inside, ordered-now .2 .values-run, ordered-now .2 .values-end)
+  abbrev widthsFrom : ℕ → List ℕ
+  widthsFrom k = widths stands ids offsets (drop k addresses)
 
-    lent : run (getD (getD places s []) 6 0 + x) (getD (getD places s []) 6 0 + y) values ≡ cellIn (getD places s []) ids offsets values (rowOf (getD addresses j []))
-    lent = rw (p, q) (cell-run (getD places s []) ids offsets values (rowOf (getD addresses j [])) (ordered-now .2))
+  pub segment-in : s < length stands
+  segment-in = rw e (l .each j h .0)
 
-    pub row-worded : Worded (getD sources s []) table (run (getD (getD places s []) 6 0 + x) (getD (getD places s []) 6 0 + y) values)
-    row-worded = rw lent (ordered-now .3)
+  module _ {p : Stand} (d : p ≡ standAt stands s) where
+    here : p ≡ addressed stands (getD addresses j [])
+    here = d ∙ ap (λ (k : ℕ). standAt stands k) e
 
-    row-width : y - x ≡ widthNow places ids offsets addresses j
-    unfolding widthIn
-    row-width = ap₂ (λ (m n : ℕ). m - n) q p ∙ ap (λ (k : ℕ). widthIn (getD places k []) ids offsets (rowOf (getD addresses j []))) e
+    pub row-inside : Inside p ids offsets values row
+    row-inside = subst (λ (q : Stand). Inside q ids offsets values row) (sym here) (l .each j h .1)
 
-    cell-width : length (cellIn (getD places s []) ids offsets values (rowOf (getD addresses j []))) ≡ y - x
-    unfolding widthIn
-    cell-width = cell-length (getD places s []) ids offsets values (rowOf (getD addresses j [])) (ordered-now .2) ∙ ap₂ (λ (m n : ℕ). m - n) (sym q) (sym p)
+    module _ {x y : ℕ} (xe : x ≡ startIn p ids offsets row) (ye : y ≡ endIn p ids offsets row) where
+      pub row-rises : x ≤ y
+      row-rises = omega (arith, row-inside .within .rises)
 
-    abbrev words : List ℕ
-    words = newWords to (getD sources s []) table (run (getD (getD places s []) 6 0 + x) (getD (getD places s []) 6 0 + y) values)
+      pub row-end : p .values .from + y ≤ length values
+      row-end = omega (arith, row-inside .inside, row-inside .values-lie .rises, row-inside .values-lie .ends)
 
-    words-now : orderedWords to places sources ids offsets values table (drop j addresses) ≡ words ++ orderedWords to places sources ids offsets values table (drop (j + 1) addresses)
-    unfolding orderedWords
-    words-now =
-        rw (add-one j, drop-cons addresses j [] h, ← e)
-        (ap (λ (c : List ℕ). newWords to (getD sources s []) table c ++ orderedWords to places sources ids offsets values table (drop (suc j) addresses)) (sym lent))
+      lent : run (p .values .from + x) (p .values .from + y) values ≡ cellIn p ids offsets values row
+      lent = rw (xe, ye) (cell-run p ids offsets values row row-inside)
 
-    words-count : length words ≡ y - x
-    words-count = words-length to (getD sources s []) table (run (getD (getD places s []) 6 0 + x) (getD (getD places s []) 6 0 + y) values) ∙ ap length lent ∙ cell-width
+      pub row-worded : Worded p table (run (p .values .from + x) (p .values .from + y) values)
+      row-worded = rw lent (subst (λ (q : Stand). Worded q table (cellIn q ids offsets values row)) (sym here) (l .each j h .2))
 
-    module _ {whole old out : List ℕ} {at : ℕ} (g : Filling 0 whole old (orderedWords to places sources ids offsets values table (drop j addresses)) out at) where
-      pub words-room : at + (y - x) ≤ length out
-      words-room = rw (← words-count) (fill-room g words (orderedWords to places sources ids offsets values table (drop (j + 1) addresses)) words-now)
+      row-width : y - x ≡ widthNow stands ids offsets addresses j
+      unfolding widthIn
+      row-width = ap₂ (λ (m n : ℕ). m - n) ye xe ∙ ap (λ (q : Stand). widthIn q ids offsets row) here
 
-      pub words-more : {out′ : List ℕ} {at′ : ℕ} → at′ ≡ at + (y - x) → out′ ≡ put at words out
-          → Filling 0 whole old (orderedWords to places sources ids offsets values table (drop (j + 1) addresses)) out′ at′
-      words-more {out′} {at′} a o =
-          fill-more g words (orderedWords to places sources ids offsets values table (drop (j + 1) addresses)) words-now out′ at′ (a ∙ ap (λ (n : ℕ). at + n) (sym words-count)) o
+      abbrev words : List ℕ
+      words = newWords to p table (run (p .values .from + x) (p .values .from + y) values)
 
-    totals-now : (t u : ℕ) → u ≡ t + (y - x) → totalsOf t (widths places ids offsets (drop j addresses)) ≡ idPart u (y - x) ++ totalsOf u (widths places ids offsets (drop (j + 1) addresses))
-    totals-now t u f = rw f (totals-step places ids offsets addresses j h t (y - x) row-width)
+      words-now : wordsFrom j ≡ words ++ wordsFrom (j + 1)
+      unfolding orderedWords
+      words-now =
+          rw (add-one j, drop-cons addresses j [] h)
+          (ap (λ (q : Stand). newWords to q table (cellIn q ids offsets values row) ++ wordsFrom (suc j)) (sym here) ∙ ap (λ (c : List ℕ). newWords to p table c ++ wordsFrom (suc j)) (sym lent))
 
-    module _ {b : Bool} {whole old out : List ℕ} {at : ℕ} where
-      pub ids-room : Partly b whole old (idsOf j (widths places ids offsets (drop j addresses))) out at → RoomIf b at (length (idPart j (y - x))) (length out)
-      ids-room g = partly-room g (idPart j (y - x)) (idsOf (j + 1) (widths places ids offsets (drop (j + 1) addresses))) (ids-step places ids offsets addresses j h (y - x) row-width)
+      words-count : length words ≡ y - x
+      unfolding widthIn
+      words-count =
+          words-length to (p .typ) (p .map) table (run (p .values .from + x) (p .values .from + y) values) ∙ ap length lent ∙ cell-length p ids offsets values row row-inside ∙ ap₂ (λ (m n : ℕ). m - n) (sym ye) (sym xe)
 
-      pub ids-more : Partly b whole old (idsOf j (widths places ids offsets (drop j addresses))) out at → {out′ : List ℕ} {at′ : ℕ} → at′ ≡ at + length (idPart 0 (y - x)) → out′ ≡ putIf b at (idPart j (y - x)) out
-          → Partly b whole old (idsOf (j + 1) (widths places ids offsets (drop (j + 1) addresses))) out′ at′
-      ids-more g {out′} {at′} p o =
-          partly-more g (idPart j (y - x)) (idsOf (j + 1) (widths places ids offsets (drop (j + 1) addresses))) (ids-step places ids offsets addresses j h (y - x) row-width) out′ at′
-          (p ∙ ap (λ (n : ℕ). at + n) (sym (part-length j (y - x)))) o
+      module _ {whole old out : List ℕ} {at : ℕ} (g : Filling 0 whole old (wordsFrom j) out at) where
+        pub words-room : at + (y - x) ≤ length out
+        words-room = rw (← words-count) (fill-room g words (wordsFrom (j + 1)) words-now)
 
-      module _ (t u : ℕ) (f : u ≡ t + (y - x)) where
-        pub totals-room : Partly b whole old (totalsOf t (widths places ids offsets (drop j addresses))) out at → RoomIf b at (length (idPart u (y - x))) (length out)
-        totals-room g = partly-room g (idPart u (y - x)) (totalsOf u (widths places ids offsets (drop (j + 1) addresses))) (totals-now t u f)
+        pub words-more : {out′ : List ℕ} {at′ : ℕ} → at′ ≡ at + (y - x) → out′ ≡ put at words out → Filling 0 whole old (wordsFrom (j + 1)) out′ at′
+        words-more {out′} {at′} q o = fill-more g words (wordsFrom (j + 1)) words-now out′ at′ (q ∙ ap (λ (n : ℕ). at + n) (sym words-count)) o
 
-        -- n is how many rows were listed: the totals stand one place behind the ids
-        pub totals-more : (n n′ : ℕ) → at ≡ n + 1 → Partly b whole old (totalsOf t (widths places ids offsets (drop j addresses))) out at → {out′ : List ℕ} → n′ ≡ n + length (idPart 0 (y - x)) → out′ ≡ putIf b at (idPart u (y - x)) out
-            → Partly b whole old (totalsOf u (widths places ids offsets (drop (j + 1) addresses))) out′ (n′ + 1)
-        totals-more n n′ d g {out′} p o =
-            partly-more g (idPart u (y - x)) (totalsOf u (widths places ids offsets (drop (j + 1) addresses))) (totals-now t u f) out′ (n′ + 1)
-            (omega (arith, part-length u (y - x))) o
+      totals-now : (t u : ℕ) → u ≡ t + (y - x) → totalsOf t (widthsFrom j) ≡ idPart u (y - x) ++ totalsOf u (widthsFrom (j + 1))
+      totals-now t u f = rw f (totals-step stands ids offsets addresses j h t (y - x) row-width)
 
-pub words-end : (to : ℕ) (places sources : List (List ℕ)) (ids offsets values table : List ℕ) (addresses : List (List ℕ)) (j : ℕ) → length addresses ≤ j
-    → orderedWords to places sources ids offsets values table (drop j addresses) ≡ []
+      module _ {b : Bool} {whole old out : List ℕ} {at : ℕ} where
+        module _ (g : Partly b whole old (idsOf j (widthsFrom j)) out at) where
+          pub ids-room : RoomIf b at (length (idPart j (y - x))) (length out)
+          ids-room = partly-room g (idPart j (y - x)) (idsOf (j + 1) (widthsFrom (j + 1))) (ids-step stands ids offsets addresses j h (y - x) row-width)
+
+          pub ids-more : {out′ : List ℕ} {w : ℕ} → w ≡ length (idPart 0 (y - x)) → out′ ≡ putIf b at (idPart j (y - x)) out → Partly b whole old (idsOf (j + 1) (widthsFrom (j + 1))) out′ (at + w)
+          ids-more {out′} {w} q o =
+              partly-more g (idPart j (y - x)) (idsOf (j + 1) (widthsFrom (j + 1))) (ids-step stands ids offsets addresses j h (y - x) row-width) out′ (at + w)
+              (ap (λ (n : ℕ). at + n) (q ∙ sym (part-length j (y - x)))) o
+
+        module _ (t u : ℕ) (f : u ≡ t + (y - x)) where
+          pub totals-room : Partly b whole old (totalsOf t (widthsFrom j)) out at → RoomIf b at (length (idPart u (y - x))) (length out)
+          totals-room g = partly-room g (idPart u (y - x)) (totalsOf u (widthsFrom (j + 1))) (totals-now t u f)
+
+          -- n is how many rows were listed: the totals stand one place behind the ids
+          pub totals-more : (n w : ℕ) → at ≡ n + 1 → Partly b whole old (totalsOf t (widthsFrom j)) out at → {out′ : List ℕ} → w ≡ length (idPart 0 (y - x)) → out′ ≡ putIf b at (idPart u (y - x)) out
+              → Partly b whole old (totalsOf u (widthsFrom (j + 1))) out′ (n + w + 1)
+          totals-more n w c g {out′} q o = partly-more g (idPart u (y - x)) (totalsOf u (widthsFrom (j + 1))) (totals-now t u f) out′ (n + w + 1) (omega (arith, part-length u (y - x))) o
+
+pub words-end : (to : ℕ) (stands : List (List ℕ)) (ids offsets values table : List ℕ) (addresses : List (List ℕ)) (j : ℕ) → length addresses ≤ j
+    → orderedWords to stands ids offsets values table (drop j addresses) ≡ []
 unfolding orderedWords
-words-end to places sources ids offsets values table addresses j h = rw (drop-of-length-le addresses h)
+words-end to stands ids offsets values table addresses j h = rw (drop-of-length-le addresses h)

@@ -7,9 +7,11 @@ ghost use Prim.Native.Nat.{_<_, _≤_, _+_};
 ghost use lib.ListN.{length, replicate};
 ghost use lib.Dec.{eqb};
 ghost use Rattle.runs.specs.Put.{put, putIf, RoomIf};
-ghost use Rattle.places.specs.Width.{idPart, idsOf, totalsOf};
-ghost use Rattle.places.specs.Place.{widths};
+ghost use Rattle.stands.specs.Width.{idPart, idsOf, totalsOf};
+ghost use Rattle.stands.specs.Look.{widths};
 ghost use Rattle.column_index_shuffled.specs.Order.{orderedWords, Ordered};
+use stands::Stand;
+use stands::StandNumbers;
 
 // Writes x where it is wanted and the row has a value.
 fn put_part(wanted: bool, w: usize, x: u32, out: &mut [u32], at: usize)
@@ -23,18 +25,6 @@ fn put_part(wanted: bool, w: usize, x: u32, out: &mut [u32], at: usize)
         return;
     }
     out[at] = x;
-}
-
-// n is the number of listed rows so far; one more if the row has a value.
-fn count_on(n: usize, w: usize) -> usize
-    requires { ⌜ n ≤ 4294967295 ⌝ }
-    ensures { λ r. ⌜ r ≡ n + length (idPart 0 w) ⌝ }
-    ensures { λ r. ⌜ r ≤ n + 1 ⌝ }
-{
-    if w == 0 {
-        return n;
-    }
-    n + 1
 }
 
 // ---- guesses at ranks: of every fourth row of a segment with ids, in the four working bytes that stand for these rows. A guess saves a search and bears on no
@@ -80,36 +70,34 @@ fn fill_segment(ids: &[u32], out: &mut [u8]) {
     }
 }
 
-// The guesses of a segment with ids.
-fn fill_if(place: [usize; 8], ids: &[u32], out: &mut [u8]) {
-    let a = place[2];
-    let b = place[3];
+// The guesses of a segment with ids, if there is a working byte for each of its rows.
+fn fill_if(p: Stand, ids: &[u32], work: &mut [u8]) {
+    let a = p.ids.from;
+    let b = p.ids.to;
     if b <= a {
         return;
     }
     if ids.len() < b {
         return;
     }
-    fill_segment(&ids[a..b], out);
+    let c = p.work;
+    let rows = p.rows;
+    if work.len() < c {
+        return;
+    }
+    if work.len() - c < rows {
+        return;
+    }
+    let d = c + rows;
+    fill_segment(&ids[a..b], &mut work[c..d]);
 }
 
-// The guesses of all segments, and where each one's begin.
-fn fill_guesses(places: &[[usize; 8]], ids: &[u32], bases: &mut [usize], work: &mut [u8]) {
+// The guesses of all segments.
+fn fill_guesses(stands: &[StandNumbers], ids: &[u32], work: &mut [u8]) {
     let mut s: usize = 0;
-    let mut at: usize = 0;
-    while s < places.len() {
-        let p = places[s];
-        let rows = p[1];
-        if work.len() - at < rows {
-            return;
-        }
-        if bases.len() <= s {
-            return;
-        }
-        bases[s] = at;
-        let end = at + rows;
-        fill_if(p, ids, &mut work[at..end]);
-        at = end;
+    while s < stands.len() {
+        let p = stands::stand_at(stands, s);
+        fill_if(p, ids, work);
         s += 1;
     }
 }
@@ -130,14 +118,14 @@ fn guess_at(work: &[u8], at: usize) -> usize {
 }
 
 // A guess at the row's rank in its segment; kinds 0 and 1 have no ids, and their rows are not held up.
-fn guess(place: [usize; 8], base: usize, row: u32, work: &[u8]) -> usize {
-    if place[0] <= 1 {
+fn guess(p: Stand, row: u32, work: &[u8]) -> usize {
+    if p.kind <= 1 {
         return 0;
     }
-    if work.len() <= base {
+    if work.len() <= p.work {
         return 0;
     }
-    guess_at(work, base + segment::wide(row) / 4 * 4)
+    guess_at(work, p.work + segment::wide(row) / 4 * 4)
 }
 
 // ---- the rows
@@ -147,26 +135,23 @@ fn write_rows(
     class: u32,
     to: u32,
     addresses: &[[u32; 2]],
-    places: &[[usize; 8]],
-    sources: &[[usize; 3]],
+    stands: &[StandNumbers],
     ids: &[u32],
     offsets: &[u32],
     values: &[u64],
     map: &[u32],
-    bases: &[usize],
     work: &[u8],
     out_ids: &mut [u32],
     out_offsets: &mut [u32],
     out_values: &mut [u64],
 )
-    requires { ⌜ length (now bases) ≡ 256 ⌝ }
-    requires { ⌜ Ordered to (now addresses) (now places) (now sources) (now ids) (now offsets) (now values) (now map) ⌝ }
-    requires { ⌜ RoomIf (not (eqb class 0)) 0 (length (idsOf 0 (widths (now places) (now ids) (now offsets) (now addresses)))) (length (now «out_ids»)) ⌝ }
-    requires { ⌜ RoomIf (eqb class 2) 0 (length (0 ∷ totalsOf 0 (widths (now places) (now ids) (now offsets) (now addresses)))) (length (now «out_offsets»)) ⌝ }
-    requires { ⌜ length (orderedWords to (now places) (now sources) (now ids) (now offsets) (now values) (now map) (now addresses)) ≤ length (now «out_values») ⌝ }
-    ensures { λ _. ⌜ now («out_ids» .exit) ≡ putIf (not (eqb class 0)) 0 (idsOf 0 (widths (now (places .entry)) (now (ids .entry)) (now (offsets .entry)) (now (addresses .entry)))) (now («out_ids» .entry)) ⌝ }
-    ensures { λ _. ⌜ now («out_offsets» .exit) ≡ putIf (eqb class 2) 0 (0 ∷ totalsOf 0 (widths (now (places .entry)) (now (ids .entry)) (now (offsets .entry)) (now (addresses .entry)))) (now («out_offsets» .entry)) ⌝ }
-    ensures { λ _. ⌜ now («out_values» .exit) ≡ put 0 (orderedWords to (now (places .entry)) (now (sources .entry)) (now (ids .entry)) (now (offsets .entry)) (now (values .entry)) (now (map .entry)) (now (addresses .entry))) (now («out_values» .entry)) ⌝ }
+    requires { ⌜ Ordered to (now addresses) (now stands) (now ids) (now offsets) (now values) (now map) ⌝ }
+    requires { ⌜ RoomIf (not (eqb class 0)) 0 (length (idsOf 0 (widths (now stands) (now ids) (now offsets) (now addresses)))) (length (now «out_ids»)) ⌝ }
+    requires { ⌜ RoomIf (eqb class 2) 0 (length (0 ∷ totalsOf 0 (widths (now stands) (now ids) (now offsets) (now addresses)))) (length (now «out_offsets»)) ⌝ }
+    requires { ⌜ length (orderedWords to (now stands) (now ids) (now offsets) (now values) (now map) (now addresses)) ≤ length (now «out_values») ⌝ }
+    ensures { λ _. ⌜ now («out_ids» .exit) ≡ putIf (not (eqb class 0)) 0 (idsOf 0 (widths (now (stands .entry)) (now (ids .entry)) (now (offsets .entry)) (now (addresses .entry)))) (now («out_ids» .entry)) ⌝ }
+    ensures { λ _. ⌜ now («out_offsets» .exit) ≡ putIf (eqb class 2) 0 (0 ∷ totalsOf 0 (widths (now (stands .entry)) (now (ids .entry)) (now (offsets .entry)) (now (addresses .entry)))) (now («out_offsets» .entry)) ⌝ }
+    ensures { λ _. ⌜ now («out_values» .exit) ≡ put 0 (orderedWords to (now (stands .entry)) (now (ids .entry)) (now (offsets .entry)) (now (values .entry)) (now (map .entry)) (now (addresses .entry))) (now («out_values» .entry)) ⌝ }
 {
     put_part(class == 2, 1, 0, out_offsets, 0);
     let mut j: usize = 0;
@@ -175,14 +160,14 @@ fn write_rows(
     while j < addresses.len() {
         let a = addresses[j];
         let s = segment::wide(a[0]);
-        let p = places[s];
-        let near = guess(p, bases[s % 256], a[1], work);
-        let g = places::range_in(p, ids, offsets, a[1], near);
+        let p = stands::stand_at(stands, s);
+        let near = guess(p, a[1], work);
+        let g = stands::range_in(p, ids, offsets, a[1], near);
         let w = g.end - g.start;
-        v = column_values_merge::append_row(to, sources[s], p[6], g, values, map, out_values, v);
+        v = column_values_merge::append_row(to, p, g, values, map, out_values, v);
         put_part(class != 0, w, j as u32, out_ids, n);
         put_part(class == 2, w, v as u32, out_offsets, n + 1);
-        n = count_on(n, w);
+        n += stands::one_if(w);
         j += 1;
     }
 }
@@ -192,8 +177,7 @@ pub fn ordered_rows(
     class: u32,
     to: u32,
     addresses: &[[u32; 2]],
-    places: &[[usize; 8]],
-    sources: &[[usize; 3]],
+    stands: &[StandNumbers],
     ids: &[u32],
     offsets: &[u32],
     values: &[u64],
@@ -203,28 +187,25 @@ pub fn ordered_rows(
     out_offsets: &mut [u32],
     out_values: &mut [u64],
 )
-    requires { ⌜ Ordered to (now addresses) (now places) (now sources) (now ids) (now offsets) (now values) (now map) ⌝ }
-    requires { ⌜ RoomIf (not (eqb class 0)) 0 (length (idsOf 0 (widths (now places) (now ids) (now offsets) (now addresses)))) (length (now «out_ids»)) ⌝ }
-    requires { ⌜ RoomIf (eqb class 2) 0 (length (0 ∷ totalsOf 0 (widths (now places) (now ids) (now offsets) (now addresses)))) (length (now «out_offsets»)) ⌝ }
-    requires { ⌜ length (orderedWords to (now places) (now sources) (now ids) (now offsets) (now values) (now map) (now addresses)) ≤ length (now «out_values») ⌝ }
-    ensures { λ _. ⌜ now («out_ids» .exit) ≡ putIf (not (eqb class 0)) 0 (idsOf 0 (widths (now (places .entry)) (now (ids .entry)) (now (offsets .entry)) (now (addresses .entry)))) (now («out_ids» .entry)) ⌝ }
-    ensures { λ _. ⌜ now («out_offsets» .exit) ≡ putIf (eqb class 2) 0 (0 ∷ totalsOf 0 (widths (now (places .entry)) (now (ids .entry)) (now (offsets .entry)) (now (addresses .entry)))) (now («out_offsets» .entry)) ⌝ }
-    ensures { λ _. ⌜ now («out_values» .exit) ≡ put 0 (orderedWords to (now (places .entry)) (now (sources .entry)) (now (ids .entry)) (now (offsets .entry)) (now (values .entry)) (now (map .entry)) (now (addresses .entry))) (now («out_values» .entry)) ⌝ }
+    requires { ⌜ Ordered to (now addresses) (now stands) (now ids) (now offsets) (now values) (now map) ⌝ }
+    requires { ⌜ RoomIf (not (eqb class 0)) 0 (length (idsOf 0 (widths (now stands) (now ids) (now offsets) (now addresses)))) (length (now «out_ids»)) ⌝ }
+    requires { ⌜ RoomIf (eqb class 2) 0 (length (0 ∷ totalsOf 0 (widths (now stands) (now ids) (now offsets) (now addresses)))) (length (now «out_offsets»)) ⌝ }
+    requires { ⌜ length (orderedWords to (now stands) (now ids) (now offsets) (now values) (now map) (now addresses)) ≤ length (now «out_values») ⌝ }
+    ensures { λ _. ⌜ now («out_ids» .exit) ≡ putIf (not (eqb class 0)) 0 (idsOf 0 (widths (now (stands .entry)) (now (ids .entry)) (now (offsets .entry)) (now (addresses .entry)))) (now («out_ids» .entry)) ⌝ }
+    ensures { λ _. ⌜ now («out_offsets» .exit) ≡ putIf (eqb class 2) 0 (0 ∷ totalsOf 0 (widths (now (stands .entry)) (now (ids .entry)) (now (offsets .entry)) (now (addresses .entry)))) (now («out_offsets» .entry)) ⌝ }
+    ensures { λ _. ⌜ now («out_values» .exit) ≡ put 0 (orderedWords to (now (stands .entry)) (now (ids .entry)) (now (offsets .entry)) (now (values .entry)) (now (map .entry)) (now (addresses .entry))) (now («out_values» .entry)) ⌝ }
     ensures { λ _. ⌜ now (work .exit) ≡ replicate (length (now (work .entry))) 0 ⌝ }
 {
-    let mut bases = [0usize; 256];
-    fill_guesses(places, ids, &mut bases, work);
+    fill_guesses(stands, ids, work);
     write_rows(
         class,
         to,
         addresses,
-        places,
-        sources,
+        stands,
         ids,
         offsets,
         values,
         map,
-        &bases,
         work,
         out_ids,
         out_offsets,

@@ -1,12 +1,12 @@
--- What a stacked join takes as given of the placed segments. Assumes nothing.
+-- What a stacked join takes as given of the segments. Assumes nothing.
 use Prim.Native.Nat.{ℕ, _<_}
 use mathlib.Core.List.{List}
 use Rattle.definitions.specs.Lists.{sum}
-use Rattle.places.specs.Stack.{stackedWidths, allRows, AllSound}
+use Rattle.stands.specs.Stack.{stackedWidths, allRows, AllSound}
 use Rattle.column_values_merge.specs.Stack.{AllWorded}
 
-pub record Stacked (places sources : List (List ℕ)) (ids offsets values table : List ℕ) : Type 0 where
-  pub sound : AllSound places ids offsets
-  pub worded : AllWorded places sources values table
-  pub rows : allRows places < 4294967296
-  pub count : sum (stackedWidths places ids offsets) < 4294967295
+pub record Stacked (stands : List (List ℕ)) (ids offsets values table : List ℕ) : Type 0 where
+  pub sound : AllSound stands ids offsets
+  pub worded : AllWorded stands values table
+  pub rows : allRows stands < 4294967296
+  pub count : sum (stackedWidths stands ids offsets) < 4294967295

@@ -1,13 +1,14 @@
--- A segment's stored words as the joined column has them. A source has three numbers: the segment's type, then start and end of its part of the map from old
--- ordinals to new ones. Assumes nothing.
-use Prim.Native.Nat.{ℕ, _≤_, _<_}
+-- A segment's stored words as the joined column has them. Assumes nothing.
+use Prim.Native.Nat.{ℕ, _<_}
 use mathlib.Core.Path.{_≡_}
 use mathlib.Core.List.{List, map}
 use mathlib.Core.Bool.{true, cond}
-use lib.ListN.{length, getD}
+use lib.ListN.{length}
 use Rattle.definitions.specs.Types.{hasTerms, integerOf, doubleOf, coerced}
 use Rattle.runs.specs.Put.{looked, Below}
-use Rattle.places.specs.Place.{run}
+use Rattle.stands.specs.declared.Span.{Span}
+use Rattle.stands.specs.declared.Stand.{Stand}
+use Rattle.stands.specs.Stand.{part, Lies}
 
 -- integers of type t as doubles
 unfoldable pub doubles : ℕ → List ℕ → List ℕ
@@ -17,17 +18,23 @@ doubles t vs = map (λ w. doubleOf (integerOf t w)) vs
 unfoldable pub coercedAll : ℕ → ℕ → List ℕ → List ℕ
 coercedAll t u vs = map (coerced t u) vs
 
--- a segment's part of the map
-abbrev pub mapAt : List ℕ → List ℕ → List ℕ
-mapAt source table = run (getD source 1 0) (getD source 2 0) table
-
 -- an ordinal is looked up in the segment's part of the map, any other word coerced to the joined type
-unfoldable pub newWords : ℕ → List ℕ → List ℕ → List ℕ → List ℕ
-newWords to source table vs = cond (hasTerms (getD source 0 0)) (looked (mapAt source table) vs) (coercedAll (getD source 0 0) to vs)
+unfoldable pub wordsBy : ℕ → ℕ → Span → List ℕ → List ℕ → List ℕ
+wordsBy to type w table vs = cond (hasTerms type) (looked (part w table) vs) (coercedAll type to vs)
 
 -- the ordinals lie within the segment's part of the map
-pub record Worded (source table vs : List ℕ) : Type 0 where
-  pub code : getD source 0 0 < 4294967296
-  pub map-run : getD source 1 0 ≤ getD source 2 0
-  pub map-end : getD source 2 0 ≤ length table
-  pub ordinals : hasTerms (getD source 0 0) ≡ true → Below (length (mapAt source table)) vs
+pub record Words (type : ℕ) (w : Span) (table vs : List ℕ) : Type 0 where
+  pub code : type < 4294967296
+  pub map-lies : Lies w table
+  pub ordinals : hasTerms type ≡ true → Below (length (part w table)) vs
+
+-- ---- of the segment at p
+
+abbrev pub mapAt : Stand → List ℕ → List ℕ
+mapAt p table = part (p .map) table
+
+abbrev pub newWords : ℕ → Stand → List ℕ → List ℕ → List ℕ
+newWords to p table vs = wordsBy to (p .typ) (p .map) table vs
+
+abbrev pub Worded : Stand → List ℕ → List ℕ → Type 0
+Worded p table vs = Words (p .typ) (p .map) table vs

@@ -4,9 +4,12 @@ ghost use mathlib.Core.List.{[], _∷_};
 ghost use Prim.Native.Nat.{_<_, _≤_, _+_, _-_};
 ghost use lib.ListN.{length};
 ghost use Rattle.runs.specs.Put.{put};
-ghost use Rattle.places.specs.Place.{run};
-ghost use Rattle.column_values_merge.specs.Word.{doubles, coercedAll, newWords, Worded};
+ghost use Rattle.stands.specs.Stand.{run};
+ghost use Rattle.column_values_merge.specs.Word.{doubles, coercedAll, wordsBy, Words, newWords, Worded};
 ghost use Rattle.column_values_merge.specs.Stack.{stackedWords, AllWorded};
+use stands::Span;
+use stands::Stand;
+use stands::StandNumbers;
 
 // Writes the double nearest to each integer of type t.
 fn append_doubles(t: u32, vs: &[u64], out: &mut [u64], at: usize)
@@ -37,23 +40,23 @@ fn append_coerced(t: u32, u: u32, vs: &[u64], out: &mut [u64], at: usize)
 }
 
 // Writes a run of a segment's words as the joined column of type `to` has them.
-// The source has the segment's type, then start and end of its part of the map.
 pub fn append_words(
     to: u32,
-    source: [usize; 3],
+    typ: usize,
+    part: Span,
     vs: &[u64],
     map: &[u32],
     out: &mut [u64],
     at: usize,
 )
-    requires { ⌜ Worded source (now map) (now vs) ⌝ }
+    requires { ⌜ Words typ part (now map) (now vs) ⌝ }
     requires { ⌜ at + length (now vs) ≤ length (now out) ⌝ }
-    ensures { λ _. ⌜ now (out .exit) ≡ put at (newWords to source (now (map .entry)) (now (vs .entry))) (now (out .entry)) ⌝ }
+    ensures { λ _. ⌜ now (out .exit) ≡ put at (wordsBy to typ part (now (map .entry)) (now (vs .entry))) (now (out .entry)) ⌝ }
 {
-    let t = source[0] as u32;
+    let t = typ as u32;
     if column_type::has_terms(t) {
-        let a = source[1];
-        let b = source[2];
+        let a = part.from;
+        let b = part.to;
         runs::append_mapped(vs, &map[a..b], out, at);
         return;
     }
@@ -61,13 +64,13 @@ pub fn append_words(
 }
 
 // The same as append_words for a run of one word.
-fn new_word(to: u32, source: [usize; 3], word: u64, map: &[u32]) -> u64
-    requires { ⌜ Worded source (now map) (word ∷ []) ⌝ }
-    ensures { λ r. ⌜ r ∷ [] ≡ newWords to source (now (map .entry)) (word ∷ []) ⌝ }
+fn new_word(to: u32, typ: usize, part: Span, word: u64, map: &[u32]) -> u64
+    requires { ⌜ Words typ part (now map) (word ∷ []) ⌝ }
+    ensures { λ r. ⌜ r ∷ [] ≡ wordsBy to typ part (now (map .entry)) (word ∷ []) ⌝ }
 {
-    let t = source[0] as u32;
+    let t = typ as u32;
     if column_type::has_terms(t) {
-        let k = source[1] + (word as usize);
+        let k = part.from + (word as usize);
         return segment::wide(map[k]) as u64;
     }
     numerical::coerce(t, to, word)
@@ -76,8 +79,7 @@ fn new_word(to: u32, source: [usize; 3], word: u64, map: &[u32]) -> u64
 // Writes the words of one row, which stand from g.start to g.end behind the segment's first value; returns the index after them.
 pub fn append_row(
     to: u32,
-    source: [usize; 3],
-    base: usize,
+    p: Stand,
     g: column_index::Range,
     values: &[u64],
     map: &[u32],
@@ -85,47 +87,46 @@ pub fn append_row(
     at: usize,
 ) -> usize
     requires { ⌜ g .start ≤ g .end ⌝ }
-    requires { ⌜ base + g .end ≤ length (now values) ⌝ }
-    requires { ⌜ Worded source (now map) (run (base + g .start) (base + g .end) (now values)) ⌝ }
+    requires { ⌜ p .values .from + g .end ≤ length (now values) ⌝ }
+    requires { ⌜ Worded p (now map) (run (p .values .from + g .start) (p .values .from + g .end) (now values)) ⌝ }
     requires { ⌜ at + (g .end - g .start) ≤ length (now out) ⌝ }
     ensures { λ e. ⌜ e ≡ at + (g .end - g .start) ⌝ }
-    ensures { λ _. ⌜ now (out .exit) ≡ put at (newWords to source (now (map .entry)) (run (base + g .start) (base + g .end) (now (values .entry)))) (now (out .entry)) ⌝ }
+    ensures { λ _. ⌜ now (out .exit) ≡ put at (newWords to p (now (map .entry)) (run (p .values .from + g .start) (p .values .from + g .end) (now (values .entry)))) (now (out .entry)) ⌝ }
 {
     let w = g.end - g.start;
     if w == 0 {
         return at;
     }
-    let start = base + g.start;
+    let start = p.values.from + g.start;
     if w == 1 {
-        out[at] = new_word(to, source, values[start], map);
+        out[at] = new_word(to, p.typ, p.map, values[start], map);
         return at + 1;
     }
-    let end = base + g.end;
-    append_words(to, source, &values[start..end], map, out, at);
+    let end = p.values.from + g.end;
+    append_words(to, p.typ, p.map, &values[start..end], map, out, at);
     at + w
 }
 
 // The segments' values, one segment after another; returns their number.
 pub fn stacked_values(
     to: u32,
-    places: &[[usize; 8]],
-    sources: &[[usize; 3]],
+    stands: &[StandNumbers],
     values: &[u64],
     map: &[u32],
     out: &mut [u64],
 ) -> usize
-    requires { ⌜ AllWorded (now places) (now sources) (now values) (now map) ⌝ }
-    requires { ⌜ length (stackedWords to (now places) (now sources) (now values) (now map)) ≤ length (now out) ⌝ }
-    ensures { λ n. ⌜ n ≡ length (stackedWords to (now (places .entry)) (now (sources .entry)) (now (values .entry)) (now (map .entry))) ⌝ }
-    ensures { λ _. ⌜ now (out .exit) ≡ put 0 (stackedWords to (now (places .entry)) (now (sources .entry)) (now (values .entry)) (now (map .entry))) (now (out .entry)) ⌝ }
+    requires { ⌜ AllWorded (now stands) (now values) (now map) ⌝ }
+    requires { ⌜ length (stackedWords to (now stands) (now values) (now map)) ≤ length (now out) ⌝ }
+    ensures { λ n. ⌜ n ≡ length (stackedWords to (now (stands .entry)) (now (values .entry)) (now (map .entry))) ⌝ }
+    ensures { λ _. ⌜ now (out .exit) ≡ put 0 (stackedWords to (now (stands .entry)) (now (values .entry)) (now (map .entry))) (now (out .entry)) ⌝ }
 {
     let mut s: usize = 0;
     let mut at: usize = 0;
-    while s < places.len() {
-        let p = places[s];
-        let a = p[6];
-        let b = p[7];
-        append_words(to, sources[s], &values[a..b], map, out, at);
+    while s < stands.len() {
+        let p = stands::stand_at(stands, s);
+        let a = p.values.from;
+        let b = p.values.to;
+        append_words(to, p.typ, p.map, &values[a..b], map, out, at);
         at += b - a;
         s += 1;
     }

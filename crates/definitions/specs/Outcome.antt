@@ -69,7 +69,7 @@ pub record Lent : Type 0 where
   pub addresses : List Address
   pub buffers : Buffers
 
--- mode, required type, records of eight numbers, the six sections, addresses of two numbers, and the memory
+-- mode, required type, records as their numbers, the six sections, addresses of two numbers, and the memory
 abbrev pub lentOf : ℕ → ℕ → List (List ℕ) → List ℕ → List ℕ → List ℕ → List ℕ → List ℕ → List ℕ → List (List ℕ) → Buffers → Lent
 lentOf mode required records ids offsets values termLengths termBytes alive addresses buffers =
     record {

@@ -6,6 +6,7 @@ use mathlib.Core.Bool.{Bool, _&&_, cond}
 use lib.ListN.{length, getD, take, drop, replicate}
 use lib.Dec.{eqb, leb}
 use Rattle.definitions.specs.Lists.{allBelow}
+use Rattle.definitions.specs.Segment.{recordWidth}
 use Rattle.definitions.specs.Outcome.{Buffers, Lent, lentOf}
 
 -- ---- words
@@ -28,7 +29,7 @@ wordsOf bytes = wordsIn (length bytes / 8) bytes
 
 -- how many words an element has: mode and required type, records, row ids, offsets, values, term lengths, term bytes, alive words, addresses
 abbrev pub elementWords : List ℕ
-elementWords = 1 ∷ 8 ∷ 1 ∷ 1 ∷ 1 ∷ 1 ∷ 1 ∷ 1 ∷ 2 ∷ []
+elementWords = 1 ∷ recordWidth ∷ 1 ∷ 1 ∷ 1 ∷ 1 ∷ 1 ∷ 1 ∷ 2 ∷ []
 
 -- the sections' words without the counts. The list breaks off at a section that is cut
 unfoldable pub sectionsBy : List ℕ → List ℕ → List (List ℕ)
@@ -87,7 +88,7 @@ grouped e zero words = []
 grouped e (suc n) words = take e words ∷ grouped e n (drop e words)
 
 unfoldable pub recordGroups : List (List ℕ) → List (List ℕ)
-recordGroups ss = grouped 8 (length (sectionAt ss 1) / 8) (sectionAt ss 1)
+recordGroups ss = grouped recordWidth (length (sectionAt ss 1) / recordWidth) (sectionAt ss 1)
 
 unfoldable pub addressGroups : List (List ℕ) → List (List ℕ)
 addressGroups ss = grouped 2 (length (sectionAt ss 8) / 2) (sectionAt ss 8)

@@ -35,7 +35,7 @@ fn numbers_of(n: merge::Numbers) -> [u64; 10]
 pub extern "C" fn jadmirus_join(
     mode: u32,
     required: u32,
-    records: &[[u32; 8]],
+    records: &[segment::RecordNumbers],
     ids: &[u32],
     offsets: &[u32],
     values: &[u64],
@@ -87,7 +87,7 @@ pub extern "C" fn jadmirus_join(
 // Returns the answer's number. The number of addresses that comes with acceptance is written to `out_count`, which a refusal leaves as it was.
 #[no_mangle]
 pub extern "C" fn jadmirus_time_order(
-    records: &[[u32; 8]],
+    records: &[segment::RecordNumbers],
     ids: &[u32],
     offsets: &[u32],
     values: &[u64],
@@ -124,7 +124,7 @@ pub extern "C" fn jadmirus_time_order(
 // Returns the answer's number. The new record that comes with acceptance is written to `out_record`, which a refusal leaves as it was.
 #[no_mangle]
 pub extern "C" fn jadmirus_convert(
-    record: &[u32; 8],
+    record: &segment::RecordNumbers,
     ids: &[u32],
     offsets: &[u32],
     values: &[u64],
@@ -133,7 +133,7 @@ pub extern "C" fn jadmirus_convert(
     alive: &[u64],
     out_ids: &mut [u32],
     out_offsets: &mut [u32],
-    out_record: &mut [u32; 8],
+    out_record: &mut segment::RecordNumbers,
 ) -> u32
     ensures { λ r. ⌜ r ≡ convertNumberOf (convertOutcome (lentConvert (recordFrom (now («record» .entry))) (now (ids .entry)) (now (offsets .entry)) (now (values .entry)) (now (lengths .entry)) (now (bytes .entry)) (now (alive .entry)) (length (now («out_ids» .entry))) (length (now («out_offsets» .entry)))) (now («out_ids» .entry)) (now («out_offsets» .entry)) .answer) ⌝ }
     ensures { λ _. ⌜ now («out_ids» .exit) ≡ convertOutcome (lentConvert (recordFrom (now («record» .entry))) (now (ids .entry)) (now (offsets .entry)) (now (values .entry)) (now (lengths .entry)) (now (bytes .entry)) (now (alive .entry)) (length (now («out_ids» .entry))) (length (now («out_offsets» .entry)))) (now («out_ids» .entry)) (now («out_offsets» .entry)) .ids ⌝ }

@@ -4,3 +4,4 @@ pub mod Lists
 pub mod Parts
 pub mod Sums
 pub mod Cuts
+pub mod Distinct

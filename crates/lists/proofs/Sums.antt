@@ -52,6 +52,10 @@ below-more g s (suc d) = let e : s + suc d ≡ suc (s + d) = omega arith in let 
 pub below-mono : (g : ℕ → ℕ) (s t : ℕ) → s ≤ t → sumBelow g s ≤ sumBelow g t
 below-mono g s t h = let e : t ≡ s + (t - s) = omega arith in rw e (below-more g s (t - s))
 
+pub below-same : (f g : ℕ → ℕ) (n : ℕ) → ((j : ℕ) → j < n → f j ≡ g j) → sumBelow f n ≡ sumBelow g n
+below-same f g zero e = refl
+below-same f g (suc n) e = ap₂ (λ (a b : ℕ). a + b) (below-same f g n (λ j h. e j (omega arith))) (e n (omega arith))
+
 -- one over a list
 pub sums-are : {A : Type 0} (g : ℕ → ℕ) (p : A → ℕ) (l : List A) (d : A) → ((j : ℕ) → j < length l → g j ≡ p (getD l j d)) → (k : ℕ) → k ≤ length l → sumBelow g k ≡ sum (map p (take k l))
 sums-are g p l d e zero h = refl

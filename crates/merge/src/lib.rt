@@ -9,7 +9,7 @@ pub use merge_checked::Numbers;
 pub fn join(
     mode: u32,
     required: u32,
-    records: &[[u32; 8]],
+    records: &[segment::RecordNumbers],
     ids: &[u32],
     offsets: &[u32],
     values: &[u64],

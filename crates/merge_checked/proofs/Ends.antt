@@ -1,36 +1,39 @@
 -- What a join that has passed the checks up to 9 ends with: the refusals 10 and 11, and acceptance. Assumes nothing.
-use Prim.Native.Nat.{ℕ, _≤_}
+use Prim.Native.Nat.{ℕ, _+_, _≤_, zero-le}
 use native.Mathlib.Omega.{arith}
 use mathlib.Core.Path.{_≡_, refl, sym, ap, _∙_, subst}
-use mathlib.Core.List.{List, _∷_, map}
+use mathlib.Core.List.{List, [], _∷_, map}
 use mathlib.Core.Bool.{Bool, true, false, not, cond, _||_, false≢true}
 use lib.ListN.{length}
 use lib.Dec.{eqb, ltb}
 use borrow.Author.Tests.{ltb-false}
 use Rattle.definitions.specs.Segment.{Segment, segmentsOf}
-use Rattle.definitions.specs.Row.{heldOf}
-use Rattle.definitions.specs.Join.{Column, rowOrder, encode, joinedColumn, joinRules}
+use Rattle.definitions.specs.Lists.{filter}
+use Rattle.definitions.specs.Row.{isHeld, heldOf}
+use Rattle.definitions.specs.Join.{Column, rowOrder, encode, termsOf, mapOf, joinedColumn, joinRules}
 use Rattle.definitions.specs.Answer.{answer, sumOver, termsIn, bytesIn, typesWrong, outputTooShort}
 use Rattle.definitions.specs.Outcome as Outcome
 use Rattle.definitions.specs.Outcome.{Buffers, Lent, accepted, refused, spaceOf, inputOf, numbersOf, refusedBuffers, acceptedBuffers, joinOutcome, lentOf}
 use Rattle.runs.specs.Put.{put, putIf}
-use Rattle.places.specs.Width.{idsOf, totalsOf}
-use Rattle.merge_column.proofs.Joined.{mapped}
+use Rattle.stands.specs.Width.{idsOf, totalsOf}
+use Rattle.merge_column.proofs.Joined.{mapped, filling, ids-are, offsets-are, values-are}
 use Rattle.merge_column.specs.declared.Shape.{Shape}
 use Rattle.merge_column.specs.declared.Plan.{Plan}
 use Rattle.merge_column.specs.declared.Plan.the-variants.{Refused, Column as Planned}
-use Rattle.merge_column.specs.Plan.{Prepared, widthsFor, joinedWords, planFor, Filling}
+use Rattle.census.specs.declared.Tally.{Tally}
+use Rattle.merge_column.specs.Plan.{widthsFor, joinedWords, planFor, Filling}
 use Rattle.merge_column.specs.Mapped.{Mapped}
-use Rattle.merge_dict_column.specs.Stands.{Joins}
-use Rattle.merge_dict_column.specs.Fill.{DictionaryGiven}
+use Rattle.term_walk.specs.Walk.{Merged}
+use Rattle.merge_dict_column.specs.Dict.{Dictionary}
+use Rattle.merge_dict_column.specs.Fill.{marksOf, DictionaryGiven}
+use Rattle.merge_dict_column.proofs.Given.{joins}
 use Rattle.segment.specs.Records.{segmentsIn}
 use Rattle.segment.specs.Lent.{addressesOf}
 use Rattle.merge_checked.specs.declared.Answer.the-variants as A
 use Rattle.merge_checked.specs.Call.{AfterNine, outcomeOf, buffersOf}
 use Rattle.merge_checked.proofs.Given.{checked, alone, marks-room}
-use Rattle.merge_checked.proofs.Parts.{flags, held-long}
-use Rattle.merge_checked.proofs.Planned.{shape, plan-is, map-count}
-use Rattle.merge_checked.proofs.Filled.{filling, ids-are, offsets-are, values-are}
+use Rattle.merge_checked.proofs.Planned.{Prepared, table, rows, shape, plan-is, map-count}
+use Rattle.segment.proofs.Lent.{sums-low}
 use Rattle.merge_checked.proofs.Leaves.{left-refused, left-accepted, late}
 use Rattle.lists.proofs.Tests.{neither}
 
@@ -89,9 +92,22 @@ six a b c d e f a′ b′ c′ d′ e′ f′ h =
       map = ltb-false f f′ (h5 .1);
     }
 
+-- the held columns' sum is no more than that of all
+filter-sum : (h : Segment → ℕ) (l : List Segment) → sumOver h (filter isHeld l) ≤ sumOver h l
+filter-sum h [] = zero-le
+filter-sum h (x ∷ xs) = go (isHeld x) (filter-sum h xs)
+  where
+    go : (b : Bool) → sumOver h (filter isHeld xs) ≤ sumOver h xs → sumOver h (cond b (x ∷ filter isHeld xs) (filter isHeld xs)) ≤ h x + sumOver h xs
+    go true q = omega arith
+    go false q = omega arith
+
+held-filter : (h : Segment → ℕ) (l : List Segment) → sumOver h (heldOf l) ≤ sumOver h l
+unfolding heldOf
+held-filter h l = filter-sum h l
+
 module _ {mode required : ℕ} {records : List (List ℕ)} {ids offsets values lengths bytes words : List ℕ} {addresses : List (List ℕ)} {work : List ℕ}
     (p : AfterNine mode required records ids offsets values lengths bytes words addresses work)
-    {places alives : List (List ℕ)} {held : List ℕ} {sources : List (List ℕ)} (r : Prepared records ids offsets words places alives held sources)
+    {stands : List (List ℕ)} {tally : Tally} (r : Prepared records ids offsets lengths words stands tally)
     (outIds outOffsets outValues lens outs ords : List ℕ) where
   abbrev ss : List Segment
   ss = segmentsIn records ids offsets values lengths bytes words
@@ -107,7 +123,7 @@ module _ {mode required : ℕ} {records : List (List ℕ)} {ids offsets values l
 
   abbrev plan : Plan
   plan =
-      planFor mode required records ids offsets values lengths words addresses places alives held
+      planFor mode required stands values (length addresses) tally
       (record { ids = length outIds; offsets = length outOffsets; values = length outValues; lengths = length lens; bytes = length outs; map = length ords })
 
   -- ---- a refusal
@@ -129,35 +145,38 @@ module _ {mode required : ℕ} {records : List (List ℕ)} {ids offsets values l
     unfolding outputTooShort inputOf spaceOf segmentsOf joinRules
     room = six _ _ _ _ _ _ _ _ _ _ _ _ (c .short)
 
-    pub dictionary-given : DictionaryGiven mode records held ids offsets values lengths bytes words work lens outs ords
+    pub dictionary-given : DictionaryGiven mode stands ids offsets values lengths bytes words work lens outs ords
     dictionary-given =
         record {
-          checked = checked p;
-          flags = held-long p r;
-          flagged = flags p r;
+          ss = ss;
+          table = table p r;
           alone = alone p;
           clean = p .clean;
           room = marks-room p;
           terms = room .terms;
           texts = room .texts;
           map = room .map;
+          narrow = let a = held-filter bytesIn ss in let b = sums-low (checked p) .2 in omega arith;
         }
 
     -- ---- after the dictionary
-    module _ {n m k : ℕ} {lens′ outs′ ords′ : List ℕ} (d : Joins ss lens outs ords n m k lens′ outs′ ords′) where
+    module _ {n m k : ℕ} {lens′ outs′ ords′ : List ℕ} (g : Dictionary stands lengths bytes (marksOf mode stands ids offsets values words lengths) (eqb mode 0) lens outs ords n m k lens′ outs′ ords′) where
+      d : Merged (termsOf ss) (mapOf ss) lens outs ords n m k lens′ outs′ ords′
+      d = joins (table p r) mode (alone p) g
+
       map-stands : Mapped ords′ ss
       map-stands = subst (λ (o : List ℕ). Mapped o ss) (sym (d .map-out)) (mapped ss ords (let k = map-count ss in let h = room .map in omega arith))
 
-      pub rows-given : Filling mode (x .class) (x .typ) addresses places sources ids offsets values ords′ outIds outOffsets outValues
+      pub rows-given : Filling mode (x .class) (x .typ) addresses stands ids offsets values ords′ outIds outOffsets outValues
       unfolding shape
       rows-given =
-          subst (λ (s : Shape). Filling mode (s .class) (s .typ) addresses places sources ids offsets values ords′ outIds outOffsets outValues) (sym (c .is))
-          (filling p r map-stands outIds outOffsets outValues (room .ids) (room .offsets) (room .values))
+          subst (λ (s : Shape). Filling mode (s .class) (s .typ) addresses stands ids offsets values ords′ outIds outOffsets outValues) (sym (c .is))
+          (filling (table p r) (rows p r) required map-stands outIds outOffsets outValues (room .ids) (room .offsets) (room .values))
 
       pub accepted-end : (ids′ offsets′ values′ work′ : List ℕ)
-          → ids′ ≡ putIf (not (eqb (x .class) 0)) 0 (idsOf 0 (widthsFor mode addresses places ids offsets)) outIds
-          → offsets′ ≡ putIf (eqb (x .class) 2) 0 (0 ∷ totalsOf 0 (widthsFor mode addresses places ids offsets)) outOffsets
-          → values′ ≡ put 0 (joinedWords mode (x .typ) addresses places sources ids offsets values ords′) outValues
+          → ids′ ≡ putIf (not (eqb (x .class) 0)) 0 (idsOf 0 (widthsFor mode addresses stands ids offsets)) outIds
+          → offsets′ ≡ putIf (eqb (x .class) 2) 0 (0 ∷ totalsOf 0 (widthsFor mode addresses stands ids offsets)) outOffsets
+          → values′ ≡ put 0 (joinedWords mode (x .typ) addresses stands ids offsets values ords′) outValues
           → work′ ≡ work
           → outcomeOf
           (A.Accepted
@@ -188,9 +207,9 @@ module _ {mode required : ℕ} {records : List (List ℕ)} {ids offsets values l
                 });
             buffers =
                 buffersOf
-                ((ei ∙ ap (λ (s : Shape). putIf (not (eqb (s .class) 0)) 0 (idsOf 0 (widthsFor mode addresses places ids offsets)) outIds) (c .is) ∙ ids-are p r map-stands outIds) j)
-                ((eo ∙ ap (λ (s : Shape). putIf (eqb (s .class) 2) 0 (0 ∷ totalsOf 0 (widthsFor mode addresses places ids offsets)) outOffsets) (c .is) ∙ offsets-are p r map-stands outOffsets) j)
-                ((ev ∙ ap (λ (s : Shape). put 0 (joinedWords mode (s .typ) addresses places sources ids offsets values ords′) outValues) (c .is) ∙ values-are p r map-stands outValues) j)
+                ((ei ∙ ap (λ (s : Shape). putIf (not (eqb (s .class) 0)) 0 (idsOf 0 (widthsFor mode addresses stands ids offsets)) outIds) (c .is) ∙ ids-are (table p r) (rows p r) required map-stands outIds) j)
+                ((eo ∙ ap (λ (s : Shape). putIf (eqb (s .class) 2) 0 (0 ∷ totalsOf 0 (widthsFor mode addresses stands ids offsets)) outOffsets) (c .is) ∙ offsets-are (table p r) (rows p r) required map-stands outOffsets) j)
+                ((ev ∙ ap (λ (s : Shape). put 0 (joinedWords mode (s .typ) addresses stands ids offsets values ords′) outValues) (c .is) ∙ values-are (table p r) (rows p r) required map-stands outValues) j)
                 (d .lengths-out j)
                 (d .texts-out j)
                 (d .map-out j)

@@ -1,49 +1,44 @@
 -- What `measure` says of an input that has passed the checks up to 9: 10, 11, or the joined column's own numbers. Assumes nothing.
-use Prim.Native.Nat.{ℕ, _+_, _<_}
+use Prim.Native.Nat.{ℕ, _+_, _≤_, _<_}
 use native.Mathlib.Omega.{arith}
-use mathlib.Core.Path.{_≡_, refl, sym, ap, ap₂, _∙_}
-use mathlib.Core.List.{List, [], _∷_, _++_, map, append-nil}
+use mathlib.Core.Path.{_≡_, refl, sym, ap, ap₂, _∙_, subst}
+use mathlib.Core.List.{List, [], _∷_, _++_, map}
 use mathlib.Core.Bool.{Bool, true, false, not, cond, _||_}
-use lib.ListN.{length, getD, length-map, length-append}
-use lib.Seq.{ext-getD}
+use lib.ListN.{length, getD, take, drop, length-map, length-append}
 use lib.Dec.{eqb, ltb}
+use lib.Seq.{take-at, length-take-le}
 use Rattle.definitions.specs.Lists.{sum, concat}
-use Rattle.definitions.specs.Segment.{Segment, SegmentRecord, Input, Space, segmentsOf}
-use Rattle.definitions.specs.Row.{isHeld, heldOf}
-use Rattle.definitions.specs.Join.{Column, absent, rowOrder, termsOf, ordinalOf, mapOf, joinedType, joinedClass, joinedColumn, joinRules}
-use Rattle.definitions.specs.Answer.{total, sumOver, termsIn, bytesIn, typesWrong, outputTooShort}
+use Rattle.definitions.specs.Segment.{Segment, Input, segmentsOf}
+use Rattle.definitions.specs.Row.{noType, heldOf}
+use Rattle.definitions.specs.Join.{Column, absent, stackedFrom, rowOrder, cellAt, termsOf, ordinalOf, mapOf, joinedType, joinedClass, joinedCells, encode, joinedColumn, joinRules}
+use Rattle.definitions.specs.Answer.{sumOver, termsIn, bytesIn, typesWrong, outputTooShort}
 use Rattle.definitions.specs.Outcome.{Buffers, spaceOf, inputOf, lentOf}
-use Rattle.segment.specs.Records.{recordsOf, sectionsIn, segmentsIn}
+use Rattle.definitions.proofs.Group.{effective-held}
+use Rattle.segment.specs.Records.{segmentsIn}
 use Rattle.segment.specs.Lent.{addressesOf}
-use Rattle.places.specs.Width.{idsOf}
-use Rattle.column_index_merge.specs.Held.{byteOf}
-use Rattle.column_index_merge.specs.Class.{greatestIn}
-use Rattle.column_index_merge.proofs.Held.{flag-none}
-use Rattle.term_cursors.specs.Runs.{toAt, textAt}
+use Rattle.lists.proofs.Numbers.{not-ltb}
+use Rattle.stands.specs.Width.{idsOf}
+use Rattle.census.specs.declared.Tally.{Tally}
+use Rattle.census.specs.Settled.{noTally, tallyFrom}
+use Rattle.census.specs.Table.{Table}
+use Rattle.census.specs.Census.{countedAll}
+use Rattle.census.proofs.Settled.{tally-is as counted-is}
+use Rattle.census.proofs.Rows.{count-sum, count-is}
+use Rattle.census.proofs.Table.{Tallied, tallied}
 use Rattle.merge_type.specs.declared.TypeAnswer.{TypeAnswer}
 use Rattle.merge_type.specs.declared.TypeAnswer.the-variants.{Wrong, Joined}
-use Rattle.merge_type.specs.Parts.{partsFrom, typeAnswer}
-use Rattle.merge_type.proofs.Rules.{heldFlag, answer-of-input}
-use Rattle.merge_column.proofs.Stand.{count-is}
-use Rattle.merge_dict_column.specs.Stands.{Flags}
-use Rattle.merge_dict_column.proofs.Given.{stands-ordered}
-use Rattle.merge_dict_column.proofs.Bridge.{terms-sum, texts-sum}
+use Rattle.merge_type.specs.Parts.{Lent, typeAnswer, partsIn}
+use Rattle.merge_type.proofs.Rules.{answer-is}
+use Rattle.merge_column.proofs.Index.{stacked-length}
+use Rattle.merge_column.proofs.Stand.{table-of}
+use Rattle.merge_column.proofs.Joined.{Rows, few-values, ids-number, offsets-number, values-count}
 use Rattle.merge_column.specs.declared.Shape.{Shape}
 use Rattle.merge_column.specs.declared.Space as Place
 use Rattle.merge_column.specs.declared.Plan.{Plan}
 use Rattle.merge_column.specs.declared.Plan.the-variants.{Refused, Column as Planned}
-use Rattle.merge_column.specs.Plan.{Prepared, classFor, widthsFor, idsFor, offsetsFor, enoughFor, shapeOf, planOf, planBy, planFor}
+use Rattle.merge_column.specs.Plan.{classFor, idsFor, offsetsFor, enoughFor, settledOf, shapeOf, planOf, planBy, planFor}
 use Rattle.merge_checked.specs.Call.{AfterNine}
-use Rattle.merge_checked.proofs.Given.{checked}
-use Rattle.merge_checked.proofs.Parts.{flags, held-long, terms-inside, texts-inside, class-is, ids-number, offsets-number, values-number, rows-number}
-use Rattle.lists.proofs.Numbers.{not-ltb}
-use Rattle.definitions.proofs.Lists.{getD-in}
-
--- ---- the flags
-
-byte-flag : (s : Segment) → byteOf (isHeld s) ≡ heldFlag s
-unfolding byteOf
-byte-flag s = refl
+use Rattle.merge_checked.proofs.Given.{checked, alone, order}
 
 -- ---- sums
 
@@ -71,36 +66,90 @@ not-cond : (b : Bool) (x y : Plan) → cond (not b) x y ≡ cond b y x
 not-cond true x y = refl
 not-cond false x y = refl
 
+-- the table and the tally that `prepare` leaves
+pub record Prepared (records : List (List ℕ)) (ids offsets lengths words : List ℕ) (stands : List (List ℕ)) (tally : Tally) : Type 0 where
+  pub stands-are : stands ≡ settledOf records ids offsets lengths words
+  pub tally-is : tally ≡ tallyFrom noTally stands ids offsets words
+
+-- in the first n elements of a longer table
+front : (n : ℕ) (m z : List (List ℕ)) → n ≤ length z → length m ≡ length (take n z) → take n (m ++ drop n z) ≡ m
+front n m z h l = take-at m (drop n z) n (l ∙ length-take-le n z h)
+
+pub front-in : (n : ℕ) (m z : List (List ℕ)) → n ≤ length z → length m ≡ length (take n z) → n ≤ length (m ++ drop n z)
+front-in n m z h l = let a = length-append m (drop n z) in let b = length-take-le n z h in omega arith
+
+pub front-long : (n : ℕ) (m z : List (List ℕ)) → n ≤ length z → length m ≡ length (take n z) → n ≡ length (take n (m ++ drop n z))
+front-long n m z h l = sym (ap length (front n m z h l) ∙ l ∙ length-take-le n z h)
+
+pub prepared-of : (records : List (List ℕ)) (ids offsets lengths words : List ℕ) (n : ℕ) (m z : List (List ℕ)) {tally : Tally} → n ≤ length z → length m ≡ length (take n z)
+    → tally ≡ tallyFrom noTally m ids offsets words → m ≡ settledOf records ids offsets lengths words → Prepared records ids offsets lengths words (take n (m ++ drop n z)) tally
+prepared-of records ids offsets lengths words n m z h l e f =
+    record { stands-are = front n m z h l ∙ f; tally-is = e ∙ ap (λ (y : List (List ℕ)). tallyFrom noTally y ids offsets words) (sym (front n m z h l)) }
+
 module _ {mode required : ℕ} {records : List (List ℕ)} {ids offsets values lengths bytes words : List ℕ} {addresses : List (List ℕ)} {work : List ℕ}
-    (p : AfterNine mode required records ids offsets values lengths bytes words addresses work)
-    {places alives : List (List ℕ)} {held : List ℕ} {sources : List (List ℕ)} (r : Prepared records ids offsets words places alives held sources) where
+    (p : AfterNine mode required records ids offsets values lengths bytes words addresses work) {stands : List (List ℕ)} {tally : Tally} (q : Prepared records ids offsets lengths words stands tally) where
   abbrev ss : List Segment
   ss = segmentsIn records ids offsets values lengths bytes words
+
+  pub table : Table stands ids offsets values lengths bytes words ss
+  table = subst (λ (l : List (List ℕ)). Table l ids offsets values lengths bytes words ss) (sym (q .stands-are)) (table-of (checked p))
+
+  pub rows : Rows mode addresses ss
+  rows = record { alone = alone p; order = order p }
 
   abbrev col : Column
   col = joinedColumn required ss (rowOrder mode ss (addressesOf addresses))
 
-  pub dict-flags : Flags ss held
-  dict-flags = record { flag = λ s h. flag-none (isHeld (getD ss s absent)) (getD held s 0) (flags p r .each s h) }
+  -- what `measure` asks
+  pub types-lent : Lent stands values
+  types-lent =
+      record {
+        codes = record { each = λ k h. table .small k (subst (λ (n : ℕ). k < n) (table .size) h) };
+        lie = λ k h. table .each k (subst (λ (n : ℕ). k < n) (table .size) h) .values-lie;
+      }
 
-  held-is : held ≡ map heldFlag ss ++ []
-  held-is =
-      ext-getD 0 held (map heldFlag ss) (held-long p r ∙ sym (length-map ss heldFlag ∙ count-is (checked p)))
-      (λ k h.
-      let l : k < length ss = omega (arith, held-long p r, count-is (checked p)) in
-      flags p r .each k l ∙ byte-flag (getD ss k absent) ∙ sym (getD-in heldFlag ss k 0 absent l))
-      ∙ sym (append-nil (map heldFlag ss))
-
-  type-is : typeAnswer required (partsFrom records values held) ≡ cond (typesWrong required ss) Wrong (Joined (joinedType required ss))
+  type-is : typeAnswer required (partsIn stands values) ≡ cond (typesWrong required ss) Wrong (Joined (joinedType required ss))
   type-is =
-      ap (λ (l : List ℕ). typeAnswer required (partsFrom records values l)) held-is
-      ∙ answer-of-input required records (sectionsIn ids offsets values lengths bytes words) []
+      answer-is required
+      (record {
+        many = table .size;
+        type = table .type;
+        held = table .held;
+        values-are = λ k h e. table .each k h .values-are ∙ ap (λ (s : Segment). s .values) (effective-held (getD ss k absent) e);
+      })
 
-  terms-held : toAt records held (length records) ≡ sumOver termsIn (heldOf ss)
-  terms-held = terms-sum (stands-ordered records held ids offsets values lengths bytes words dict-flags) (terms-inside p r) (texts-inside p r)
+  sums : Tallied tally ss
+  sums = subst (λ (y : Tally). Tallied y ss) (sym (q .tally-is)) (tallied table)
 
-  texts-held : textAt records held lengths (length records) ≡ sumOver bytesIn (heldOf ss)
-  texts-held = texts-sum (stands-ordered records held ids offsets values lengths bytes words dict-flags) (terms-inside p r) (texts-inside p r)
+  counts : (tally .listed ≡ length (idsOf 0 (countedAll stands ids offsets words))) × (tally .values ≡ sum (countedAll stands ids offsets words))
+  counts =
+      let a = counted-is noTally stands ids offsets words in
+      let x = ap (λ (y : Tally). y .listed) (q .tally-is) in
+      let y = ap (λ (y : Tally). y .values) (q .tally-is) in
+      (omega (arith, a .1), omega (arith, a .2))
+
+  values-are : tally .values ≡ length (col .values)
+  values-are = counts .1 ∙ values-count table rows required
+
+  pub listed-low : tally .listed < 18446744073709551615
+  listed-low =
+      let b = count-sum (countedAll stands ids offsets words) in
+      let d = count-is (countedAll stands ids offsets words) in
+      let e = values-count table rows required in
+      let f = few-values table rows required in
+      omega (arith, counts .0)
+
+  class-is : classFor (joinedType required ss) (tally .class) ≡ joinedClass required ss
+  unfolding classFor joinedClass
+  class-is = ap (λ (n : ℕ). cond (eqb (joinedType required ss) noType) 0 n) (sums .class)
+
+  rows-number : cond (eqb mode 0) (tally .rows) (length addresses) ≡ col .rows
+  unfolding rowOrder joinedColumn encode joinedCells
+  rows-number = go (eqb mode 0)
+    where
+      go : (b : Bool) → cond b (tally .rows) (length addresses) ≡ length (map (cellAt (joinedType required ss) (termsOf ss) ss) (cond b (stackedFrom 0 ss) (addressesOf addresses)))
+      go true = sums .rows ∙ sym (length-map (stackedFrom 0 ss) _ ∙ stacked-length 0 ss)
+      go false = sym (length-map (addressesOf addresses) _ ∙ length-map addresses _)
 
   -- the joined column's own numbers
   unfoldable pub shape : Shape
@@ -116,21 +165,18 @@ module _ {mode required : ℕ} {records : List (List ℕ)} {ids offsets values l
       }
 
   -- the shape as `measure` finds it
-  shape-is : shapeOf (joinedType required ss) (classFor (joinedType required ss) (greatestIn places alives ids offsets words))
-      (cond (eqb mode 0) (total (λ (x : SegmentRecord). x .rows) (recordsOf records)) (length addresses))
-      (length (idsOf 0 (widthsFor mode addresses places ids offsets))) (sum (widthsFor mode addresses places ids offsets)) (toAt records held (length records))
-      ≡ shape
-  unfolding shape
+  shape-is : shapeOf (joinedType required ss) (cond (eqb mode 0) (tally .rows) (length addresses)) tally ≡ shape
+  unfolding shape shapeOf
   shape-is =
       λ j.
       record {
         typ = joinedType required ss;
-        class = class-is p r j;
-        rows = sym (rows-number p r) j;
-        ids = (ap (λ (n : ℕ). idsFor n (length (idsOf 0 (widthsFor mode addresses places ids offsets)))) (class-is p r) ∙ sym (ids-number p r)) j;
-        offsets = (ap (λ (n : ℕ). offsetsFor n (length (idsOf 0 (widthsFor mode addresses places ids offsets)))) (class-is p r) ∙ sym (offsets-number p r)) j;
-        values = sym (values-number p r) j;
-        map = terms-held j;
+        class = class-is j;
+        rows = rows-number j;
+        ids = ((λ i. idsFor (class-is i) (counts .0 i)) ∙ ids-number table rows required) j;
+        offsets = ((λ i. offsetsFor (class-is i) (counts .0 i)) ∙ offsets-number table rows required) j;
+        values = values-are j;
+        map = sums .terms j;
       }
 
   module _ (b : Buffers) where
@@ -161,20 +207,20 @@ module _ {mode required : ℕ} {records : List (List ℕ)} {ids offsets values l
         ∙ six-or (ltb (length (b .ids)) (length (col .ids))) (ltb (length (b .offsets)) (length (col .offsets))) (ltb (length (b .values)) (length (col .values)))
         (ltb (length (b .termLengths)) (sumOver termsIn (heldOf ss))) (ltb (length (b .termBytes)) (sumOver bytesIn (heldOf ss))) (ltb (length (b .map)) (sumOver termsIn (heldOf ss)))
 
-    pub plan-is : planFor mode required records ids offsets values lengths words addresses places alives held space
+    pub plan-is : planFor mode required stands values (length addresses) tally space
         ≡ cond (typesWrong required ss) (Refused 10) (cond (outputTooShort i) (Refused 11) (Planned shape))
     unfolding planFor planOf
     plan-is =
-        ap (λ (t : TypeAnswer). planBy t mode records ids offsets lengths words addresses places alives held space) type-is
+        ap (λ (y : TypeAnswer). planBy y (cond (eqb mode 0) (tally .rows) (length addresses)) tally space) type-is
         ∙ go (typesWrong required ss)
       where
-        column : planBy (Joined (joinedType required ss)) mode records ids offsets lengths words addresses places alives held space ≡ cond (outputTooShort i) (Refused 11) (Planned shape)
+        column : planBy (Joined (joinedType required ss)) (cond (eqb mode 0) (tally .rows) (length addresses)) tally space ≡ cond (outputTooShort i) (Refused 11) (Planned shape)
         column =
-            (λ j. cond (enoughFor (shape-is j) (texts-held j) space) (Planned (shape-is j)) (Refused 11))
+            (λ j. cond (enoughFor (shape-is j) (sums .bytes j) space) (Planned (shape-is j)) (Refused 11))
             ∙ ap (λ (x : Bool). cond x (Planned shape) (Refused 11)) enough-is
             ∙ not-cond (outputTooShort i) (Planned shape) (Refused 11)
 
-        go : (t : Bool) → planBy (cond t Wrong (Joined (joinedType required ss))) mode records ids offsets lengths words addresses places alives held space
+        go : (t : Bool) → planBy (cond t Wrong (Joined (joinedType required ss))) (cond (eqb mode 0) (tally .rows) (length addresses)) tally space
             ≡ cond t (Refused 10) (cond (outputTooShort i) (Refused 11) (Planned shape))
         go true = refl
         go false = column

@@ -46,10 +46,3 @@ outcomeOf a b = record { answer = answerOf a; buffers = b }
 pub record AfterNine (mode required : ℕ) (records : List (List ℕ)) (ids offsets values lengths bytes alive : List ℕ) (addresses : List (List ℕ)) (work : List ℕ) : Type 0 where
   pub nine : answerToNine (lentInput mode required records ids offsets values lengths bytes alive addresses (length work)) ≡ 0
   pub clean : work ≡ replicate (length work) 0
-
--- an element for each record in each table
-pub record Tables (records places alives : List (List ℕ)) (held : List ℕ) (sources : List (List ℕ)) : Type 0 where
-  pub places-long : length places ≡ length records
-  pub alives-long : length alives ≡ length records
-  pub held-long : length held ≡ length records
-  pub sources-long : length sources ≡ length records

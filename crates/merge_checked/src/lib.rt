@@ -1,7 +1,7 @@
 // The join of an input that has passed the checks up to 9 (columnar/merge/mod.rs, `merge_column`).
 ghost use mathlib.Core.Path.{_≡_};
 ghost use Rattle.definitions.specs.Outcome.{lentOf, joinOutcome};
-ghost use Rattle.merge_checked.specs.Call.{outcomeOf, buffersOf, AfterNine, Tables};
+ghost use Rattle.merge_checked.specs.Call.{outcomeOf, buffersOf, AfterNine};
 
 // What comes with acceptance: type, class and rows, the number of elements of each list, and how many term bytes were copied.
 pub struct Numbers {
@@ -22,11 +22,11 @@ pub enum Answer {
     Refused(u32),
 }
 
-// The join with its tables: an element of each for each record.
-fn join_tables(
+// The join of an input that has passed the checks up to 9, whose working bytes are zero.
+pub fn join_checked(
     mode: u32,
     required: u32,
-    records: &[[u32; 8]],
+    records: &[segment::RecordNumbers],
     ids: &[u32],
     offsets: &[u32],
     values: &[u64],
@@ -41,16 +41,13 @@ fn join_tables(
     out_lengths: &mut [u32],
     out_bytes: &mut [u8],
     out_map: &mut [u32],
-    places: &mut [[usize; 8]],
-    alives: &mut [[usize; 3]],
-    held: &mut [u8],
-    sources: &mut [[usize; 3]],
 ) -> Answer
     requires { ⌜ AfterNine mode required (now records) (now ids) (now offsets) (now values) (now lengths) (now bytes) (now alive) (now addresses) (now work) ⌝ }
-    requires { ⌜ Tables (now records) (now places) (now alives) (now held) (now sources) ⌝ }
     ensures { λ r. ⌜ outcomeOf r (buffersOf (now («out_ids» .exit)) (now («out_offsets» .exit)) (now («out_values» .exit)) (now («out_lengths» .exit)) (now («out_bytes» .exit)) (now («out_map» .exit)) (now (work .exit))) ≡ joinOutcome (lentOf mode required (now (records .entry)) (now (ids .entry)) (now (offsets .entry)) (now (values .entry)) (now (lengths .entry)) (now (bytes .entry)) (now (alive .entry)) (now (addresses .entry)) (buffersOf (now («out_ids» .entry)) (now («out_offsets» .entry)) (now («out_values» .entry)) (now («out_lengths» .entry)) (now («out_bytes» .entry)) (now («out_map» .entry)) (now (work .entry)))) ⌝ }
 {
-    merge_column::prepare(records, ids, offsets, alive, places, alives, held, sources);
+    let n = records.len();
+    let mut stands = [[0usize; stands::NUMBERS]; 256];
+    let t = merge_column::prepare(records, ids, offsets, lengths, alive, &mut stands[..n]);
     let space = merge_column::Space {
         ids: out_ids.len(),
         offsets: out_offsets.len(),
@@ -62,16 +59,10 @@ fn join_tables(
     let p = merge_column::measure(
         mode,
         required,
-        records,
-        ids,
-        offsets,
+        &stands[..n],
         values,
-        lengths,
-        alive,
-        addresses,
-        places,
-        alives,
-        held,
+        addresses.len(),
+        t,
         space,
     );
     match p {
@@ -79,8 +70,7 @@ fn join_tables(
         merge_column::Plan::Column(x) => {
             let c = merge_dict_column::fill_dictionary(
                 mode,
-                records,
-                held,
+                &stands[..n],
                 ids,
                 offsets,
                 values,
@@ -97,8 +87,7 @@ fn join_tables(
                 x.class,
                 x.typ,
                 addresses,
-                places,
-                sources,
+                &stands[..n],
                 ids,
                 offsets,
                 values,
@@ -122,57 +111,4 @@ fn join_tables(
             })
         }
     }
-}
-
-// The join of an input that has passed the checks up to 9, whose working bytes are zero.
-pub fn join_checked(
-    mode: u32,
-    required: u32,
-    records: &[[u32; 8]],
-    ids: &[u32],
-    offsets: &[u32],
-    values: &[u64],
-    lengths: &[u32],
-    bytes: &[u8],
-    alive: &[u64],
-    addresses: &[[u32; 2]],
-    work: &mut [u8],
-    out_ids: &mut [u32],
-    out_offsets: &mut [u32],
-    out_values: &mut [u64],
-    out_lengths: &mut [u32],
-    out_bytes: &mut [u8],
-    out_map: &mut [u32],
-) -> Answer
-    requires { ⌜ AfterNine mode required (now records) (now ids) (now offsets) (now values) (now lengths) (now bytes) (now alive) (now addresses) (now work) ⌝ }
-    ensures { λ r. ⌜ outcomeOf r (buffersOf (now («out_ids» .exit)) (now («out_offsets» .exit)) (now («out_values» .exit)) (now («out_lengths» .exit)) (now («out_bytes» .exit)) (now («out_map» .exit)) (now (work .exit))) ≡ joinOutcome (lentOf mode required (now (records .entry)) (now (ids .entry)) (now (offsets .entry)) (now (values .entry)) (now (lengths .entry)) (now (bytes .entry)) (now (alive .entry)) (now (addresses .entry)) (buffersOf (now («out_ids» .entry)) (now («out_offsets» .entry)) (now («out_values» .entry)) (now («out_lengths» .entry)) (now («out_bytes» .entry)) (now («out_map» .entry)) (now (work .entry)))) ⌝ }
-{
-    let n = records.len();
-    let mut places = [[0usize; 8]; 256];
-    let mut alives = [[0usize; 3]; 256];
-    let mut held = [0u8; 256];
-    let mut sources = [[0usize; 3]; 256];
-    join_tables(
-        mode,
-        required,
-        records,
-        ids,
-        offsets,
-        values,
-        lengths,
-        bytes,
-        alive,
-        addresses,
-        work,
-        out_ids,
-        out_offsets,
-        out_values,
-        out_lengths,
-        out_bytes,
-        out_map,
-        &mut places[..n],
-        &mut alives[..n],
-        &mut held[..n],
-        &mut sources[..n],
-    )
 }

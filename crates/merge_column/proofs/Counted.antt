@@ -2,36 +2,33 @@
 use Prim.Native.Nat.{ℕ, zero, suc, _+_, _<_, zero-le, suc-le-suc}
 use native.Mathlib.Nat.{le-antisymm, zero-add, add-zero}
 use native.Mathlib.Omega.{arith}
-use mathlib.Core.Path.{_≡_, refl, sym, ap, ap₂, _∙_}
+use mathlib.Core.Path.{_≡_, refl, sym, ap, ap₂, _∙_, subst}
 use mathlib.Core.List.{List, [], _∷_, map, List·Memᴰ, map-append, map-map, map-id}
 use mathlib.Core.Bool.{Bool, true, false, cond}
 use lib.ListN.{length, getD}
 use lib.Dec.{T, eqb}
-use borrow.Author.Tests.{lt-ltb}
+use borrow.Author.Tests.{lt-ltb, eqb-false}
 use Rattle.definitions.specs.Lists.{sum, upFrom, upTo, filter}
 use Rattle.definitions.specs.Segment.{Segment, Address, addressFrom, address}
-use Rattle.definitions.specs.Row.{bitAt, hasAliveSet, isAlive}
+use Rattle.definitions.specs.Row.{bitAt, hasAliveSet, isAlive, isHeld, asEmpty, effective}
 use Rattle.definitions.specs.Join.{absent, rowsOf, stackedFrom}
 use Rattle.definitions.specs.Answer.{isAliveAt, aliveAddresses, listsAliveRows}
 use Rattle.definitions.proofs.Accept.{lists-ordered, mem-stacked}
 use Rattle.definitions.proofs.TimeOrder.{alive-back, alive-at, alive-distinct}
-use Rattle.segment.specs.Records.{segmentsIn}
 use Rattle.segment.specs.Lent.{addressesOf}
-use Rattle.places.specs.Width.{idPart, idsOf}
-use Rattle.places.specs.Place.{run, rowsAt, widthIn, widths}
-use Rattle.places.specs.Places.{aliveAt, placesOf, alivesOf}
-use Rattle.places.specs.Stack.{segmentWidths}
-use Rattle.places.proofs.Fill.{table-length, table-at}
-use Rattle.segment.specs.Lent.{Checked}
-use Rattle.column_index_merge.specs.Counted.{aliveWidth, countedIn, countedAll}
-use Rattle.column_index_merge.proofs.Count.{countOf, count-nil, count-cons, count-is}
-use Rattle.column_index_merge.specs.Held.{Flagged}
-use Rattle.merge_column.proofs.Stand.{count-is as segments-are, places-length, stands, alive-flag, alive-run}
+use Rattle.stands.specs.Width.{idPart, idsOf}
+use Rattle.stands.specs.Stack.{segmentWidths, stackedWidths}
+use Rattle.stands.specs.declared.Stand.{Stand}
+use Rattle.stands.specs.Stand.{standOf, standAt}
+use Rattle.stands.specs.Look.{wordsAt, widthIn, widths}
+use Rattle.census.specs.Census.{aliveWidth, countedIn, countedAll}
+use Rattle.census.specs.Table.{Table}
+use Rattle.census.proofs.Rows.{countOf, count-nil, count-cons, count-is, counted-stacked}
 use Rattle.merge_column.proofs.Index.{not-repeated}
-use Rattle.merge_column.proofs.Distinct.{sum-distinct}
+use Rattle.lists.proofs.Distinct.{sum-distinct}
 use Rattle.definitions.proofs.Lists.{mem-filter, filter-back}
 use Rattle.lists.proofs.Sums.{sum-append}
-use Rattle.definitions.proofs.Cell.{effective-rows}
+use Rattle.definitions.proofs.Cell.{either, effective-rows}
 
 -- ---- sums over lists
 
@@ -72,97 +69,108 @@ module _ (ss : List Segment) (order : List Address) (o : T (listsAliveRows ss or
 -- ---- segment by segment
 
 module _ (h : Address → ℕ) (φ : ℕ → ℕ) (ids offsets words : List ℕ) where
-  stack-sum : (n : ℕ) (rest : List Segment) (ps qs : List (List ℕ)) → length ps ≡ length rest → length qs ≡ length rest
-      → ((k : ℕ) → k < length rest → sum (map h (rowsOf (n + k) (getD rest k absent))) ≡ sum (map φ (countedIn (getD ps k []) (getD qs k []) ids offsets words)))
-      → sum (map h (stackedFrom n rest)) ≡ sum (map φ (countedAll ps qs ids offsets words))
+  stack-sum : (n : ℕ) (rest : List Segment) (rs : List (List ℕ)) → length rs ≡ length rest
+      → ((k : ℕ) → k < length rest → sum (map h (rowsOf (n + k) (getD rest k absent))) ≡ sum (map φ (countedIn (standAt rs k) ids offsets words)))
+      → sum (map h (stackedFrom n rest)) ≡ sum (map φ (countedAll rs ids offsets words))
   unfolding countedAll
-  stack-sum n [] [] qs a b e = refl
-  stack-sum n [] (p ∷ ps) qs a b e = absurd (omega arith)
-  stack-sum n (s ∷ rest) [] qs a b e = absurd (omega arith)
-  stack-sum n (s ∷ rest) (p ∷ ps) [] a b e = absurd (omega arith)
-  stack-sum n (s ∷ rest) (p ∷ ps) (q ∷ qs) a b e =
+  stack-sum n [] [] a e = refl
+  stack-sum n [] (r ∷ rs) a e = absurd (omega arith)
+  stack-sum n (s ∷ rest) [] a e = absurd (omega arith)
+  stack-sum n (s ∷ rest) (r ∷ rs) a e =
       ap sum (map-append h (rowsOf n s) (stackedFrom (suc n) rest)) ∙ sum-append (map h (rowsOf n s)) (map h (stackedFrom (suc n) rest))
       ∙ ap₂ (λ (x y : ℕ). x + y)
       (ap (λ (m : ℕ). sum (map h (rowsOf m s))) (sym (add-zero n)) ∙ e 0 (suc-le-suc zero-le))
-      (stack-sum (suc n) rest ps qs (omega arith) (omega arith)
+      (stack-sum (suc n) rest rs (omega arith)
       (λ k l. ap (λ (m : ℕ). sum (map h (rowsOf m (getD rest k absent)))) (let z : suc n + k ≡ n + suc k = omega arith in z) ∙ e (suc k) (suc-le-suc l)))
-      ∙ sym (ap sum (map-append φ (countedIn p q ids offsets words) (countedAll ps qs ids offsets words)) ∙ sum-append (map φ (countedIn p q ids offsets words)) (map φ (countedAll ps qs ids offsets words)))
+      ∙ sym (ap sum (map-append φ (countedIn (standOf r) ids offsets words) (countedAll rs ids offsets words)) ∙ sum-append (map φ (countedIn (standOf r) ids offsets words)) (map φ (countedAll rs ids offsets words)))
 
-module _ {records : List (List ℕ)} {ids offsets values lengths bytes words : List ℕ} (c : Checked records ids offsets values lengths bytes words) {held : List ℕ}
-    (f : Flagged held (segmentsIn records ids offsets values lengths bytes words)) (addresses : List (List ℕ))
-    (o : T (listsAliveRows (segmentsIn records ids offsets values lengths bytes words) (addressesOf addresses))) where
-  abbrev ss : List Segment
-  ss = segmentsIn records ids offsets values lengths bytes words
+effective-flag : (s : Segment) → effective s .flag ≡ s .flag
+unfolding effective asEmpty
+effective-flag s = either (λ (t : Segment). t .flag ≡ s .flag) (isHeld s) s (asEmpty s) refl refl
 
-  abbrev places : List (List ℕ)
-  places = placesOf records held
+effective-alive : (s : Segment) → effective s .alive ≡ s .alive
+unfolding effective asEmpty
+effective-alive s = either (λ (t : Segment). t .alive ≡ s .alive) (isHeld s) s (asEmpty s) refl refl
 
-  abbrev width : Address → ℕ
-  width a = widthIn (getD places (a .segment) []) ids offsets (a .row)
+module _ {stands : List (List ℕ)} {ids offsets values lengths bytes words : List ℕ} {ss : List Segment} (t : Table stands ids offsets values lengths bytes words ss) where
+  -- without an alive set every row counts
+  pub all-counted : ((k : ℕ) → k < length ss → hasAliveSet (getD ss k absent) ≡ false) → stackedWidths stands ids offsets ≡ countedAll stands ids offsets words
+  all-counted none =
+      counted-stacked stands ids offsets words
+      (λ k h q.
+      let l : k < length ss = subst (λ (n : ℕ). k < n) (t .size) h in
+      eqb-false (getD ss k absent .flag) 1 (none k l) (sym (t .each k l .flag ∙ effective-flag (getD ss k absent)) ∙ q))
 
-  widths-are : (l : List (List ℕ)) → widths places ids offsets l ≡ map width (addressesOf l)
-  unfolding widths
-  widths-are [] = refl
-  widths-are (a ∷ rest) = ap (λ (ws : List ℕ). width (addressFrom a) ∷ ws) (widths-are rest)
+  module _ (addresses : List (List ℕ)) (o : T (listsAliveRows ss (addressesOf addresses))) where
+    abbrev width : Address → ℕ
+    width a = widthIn (standAt stands (a .segment)) ids offsets (a .row)
 
-  module _ (φ : ℕ → ℕ) (z : φ 0 ≡ 0) where
-    abbrev h : Address → ℕ
-    h a = cond (isAliveAt ss a) (φ (width a)) 0
+    widths-are : (l : List (List ℕ)) → widths stands ids offsets l ≡ map width (addressesOf l)
+    unfolding widths
+    widths-are [] = refl
+    widths-are (a ∷ rest) = ap (λ (ws : List ℕ). width (addressFrom a) ∷ ws) (widths-are rest)
 
-    one-segment : (k : ℕ) → k < length ss → sum (map h (rowsOf k (getD ss k absent))) ≡ sum (map φ (countedIn (getD places k []) (aliveAt records k) ids offsets words))
-    unfolding countedIn segmentWidths isAliveAt isAlive aliveWidth
-    one-segment k l =
-        let q : k < length records = omega (arith, segments-are c) in
-        ap sum (map-map h (address k) (upTo (getD ss k absent .rows))) ∙ go q (hasAliveSet (getD ss k absent)) refl
+    module _ (φ : ℕ → ℕ) (z : φ 0 ≡ 0) where
+      abbrev h : Address → ℕ
+      h a = cond (isAliveAt ss a) (φ (width a)) 0
+
+      one-segment : (k : ℕ) → k < length ss → sum (map h (rowsOf k (getD ss k absent))) ≡ sum (map φ (countedIn (standAt stands k) ids offsets words))
+      unfolding countedIn segmentWidths isAliveAt isAlive aliveWidth
+      one-segment k l = ap sum (map-map h (address k) (upTo (getD ss k absent .rows))) ∙ go (hasAliveSet (getD ss k absent)) refl
+        where
+          p : Stand
+          p = standAt stands k
+
+          rows : standAt stands k .rows ≡ getD ss k absent .rows
+          rows = t .each k l .rows ∙ effective-rows (getD ss k absent)
+
+          set : wordsAt (standAt stands k) words ≡ getD ss k absent .alive
+          set = t .each k l .words-are ∙ effective-alive (getD ss k absent)
+
+          flag : eqb (standAt stands k .flag) 1 ≡ hasAliveSet (getD ss k absent)
+          flag = ap (λ (n : ℕ). eqb n 1) (t .each k l .flag ∙ effective-flag (getD ss k absent))
+
+          living : (r : ℕ) → r < 0 + getD ss k absent .rows → h (address k r) ≡ cond (isAlive (getD ss k absent) r) (φ (widthIn (standAt stands k) ids offsets r)) 0
+          living r m = rw (lt-ltb k (length ss) l, lt-ltb r (getD ss k absent .rows) (let n : r < getD ss k absent .rows = omega arith in n)) refl
+
+          dead : (b : Bool) (w : ℕ) → cond b (φ w) 0 ≡ φ (cond b w 0)
+          dead true w = refl
+          dead false w = sym z
+
+          go : (b : Bool) → hasAliveSet (getD ss k absent) ≡ b
+              → sum (map (λ r. h (address k r)) (upTo (getD ss k absent .rows)))
+              ≡ sum (map φ (cond (eqb (standAt stands k .flag) 1) (map (aliveWidth (standAt stands k) ids offsets (wordsAt (standAt stands k) words)) (upFrom 0 (standAt stands k .rows))) (map (widthIn (standAt stands k) ids offsets) (upTo (standAt stands k .rows)))))
+          go true e =
+              sum-same (λ r. h (address k r)) (λ r. φ (cond (bitAt (getD ss k absent .alive) r) (widthIn (standAt stands k) ids offsets r) 0)) 0 (getD ss k absent .rows)
+              (λ r m. living r m ∙ ap (λ (b : Bool). cond (cond b (bitAt (getD ss k absent .alive) r) true) (φ (widthIn (standAt stands k) ids offsets r)) 0) e ∙ dead (bitAt (getD ss k absent .alive) r) (widthIn (standAt stands k) ids offsets r))
+              ∙ sym (ap sum (map-map φ (λ r. cond (bitAt (getD ss k absent .alive) r) (widthIn (standAt stands k) ids offsets r) 0) (upFrom 0 (getD ss k absent .rows))))
+              ∙ sym (ap₂ (λ (ws : List ℕ) (n : ℕ). sum (map φ (map (λ r. cond (bitAt ws r) (widthIn (standAt stands k) ids offsets r) 0) (upFrom 0 n)))) set rows)
+              ∙ sym (ap (λ (b : Bool). sum (map φ (cond b (map (aliveWidth (standAt stands k) ids offsets (wordsAt (standAt stands k) words)) (upFrom 0 (standAt stands k .rows))) (map (widthIn (standAt stands k) ids offsets) (upTo (standAt stands k .rows)))))) (flag ∙ e))
+          go false e =
+              sum-same (λ r. h (address k r)) (λ r. φ (widthIn (standAt stands k) ids offsets r)) 0 (getD ss k absent .rows)
+              (λ r m. living r m ∙ ap (λ (b : Bool). cond (cond b (bitAt (getD ss k absent .alive) r) true) (φ (widthIn (standAt stands k) ids offsets r)) 0) e)
+              ∙ sym (ap sum (map-map φ (widthIn (standAt stands k) ids offsets) (upFrom 0 (getD ss k absent .rows))))
+              ∙ sym (ap (λ (n : ℕ). sum (map φ (map (widthIn (standAt stands k) ids offsets) (upFrom 0 n)))) rows)
+              ∙ sym (ap (λ (b : Bool). sum (map φ (cond b (map (aliveWidth (standAt stands k) ids offsets (wordsAt (standAt stands k) words)) (upFrom 0 (standAt stands k .rows))) (map (widthIn (standAt stands k) ids offsets) (upTo (standAt stands k .rows)))))) (flag ∙ e))
+
+      same : sum (map φ (widths stands ids offsets addresses)) ≡ sum (map φ (countedAll stands ids offsets words))
+      same =
+          ap (λ (ws : List ℕ). sum (map φ ws)) (widths-are addresses)
+          ∙ ap sum (map-map φ width (addressesOf addresses))
+          ∙ listed-sum ss (addressesOf addresses) o (λ a. φ (width a))
+          ∙ stack-sum h φ ids offsets words 0 ss stands (t .size) (λ k l. ap (λ (m : ℕ). sum (map h (rowsOf m (getD ss k absent)))) (zero-add k) ∙ one-segment k l)
+
+    -- as many values
+    pub values-same : sum (widths stands ids offsets addresses) ≡ sum (countedAll stands ids offsets words)
+    values-same = sym (ap sum (map-id (widths stands ids offsets addresses))) ∙ same (λ n. n) refl ∙ ap sum (map-id (countedAll stands ids offsets words))
+
+    -- as many rows with a value
+    pub listed-same : length (idsOf 0 (widths stands ids offsets addresses)) ≡ length (idsOf 0 (countedAll stands ids offsets words))
+    listed-same =
+        sym (count-is (widths stands ids offsets addresses)) ∙ ones (widths stands ids offsets addresses)
+        ∙ same (λ w. length (idPart 0 w)) refl
+        ∙ sym (ones (countedAll stands ids offsets words)) ∙ count-is (countedAll stands ids offsets words)
       where
-        rows : rowsAt (getD places k []) ≡ getD ss k absent .rows
-        rows = stands c f k l .0 .rows ∙ effective-rows (getD ss k absent)
-
-        living : (r : ℕ) → r < 0 + getD ss k absent .rows → h (address k r) ≡ cond (isAlive (getD ss k absent) r) (φ (widthIn (getD places k []) ids offsets r)) 0
-        living r m = rw (lt-ltb k (length ss) l, lt-ltb r (getD ss k absent .rows) (let n : r < getD ss k absent .rows = omega arith in n)) refl
-
-        dead : (b : Bool) (w : ℕ) → cond b (φ w) 0 ≡ φ (cond b w 0)
-        dead true w = refl
-        dead false w = sym z
-
-        go : k < length records → (b : Bool) → hasAliveSet (getD ss k absent) ≡ b
-            → sum (map (λ r. h (address k r)) (upTo (getD ss k absent .rows)))
-            ≡ sum (map φ (cond (eqb (getD (aliveAt records k) 0 0) 1) (map (aliveWidth (getD places k []) ids offsets (run (getD (aliveAt records k) 1 0) (getD (aliveAt records k) 2 0) words)) (upFrom 0 (rowsAt (getD places k [])))) (map (widthIn (getD places k []) ids offsets) (upTo (rowsAt (getD places k []))))))
-        go q true e =
-            sum-same (λ r. h (address k r)) (λ r. φ (cond (bitAt (getD ss k absent .alive) r) (widthIn (getD places k []) ids offsets r) 0)) 0 (getD ss k absent .rows)
-            (λ r m. living r m ∙ ap (λ (b : Bool). cond (cond b (bitAt (getD ss k absent .alive) r) true) (φ (widthIn (getD places k []) ids offsets r)) 0) e ∙ dead (bitAt (getD ss k absent .alive) r) (widthIn (getD places k []) ids offsets r))
-            ∙ sym (ap sum (map-map φ (λ r. cond (bitAt (getD ss k absent .alive) r) (widthIn (getD places k []) ids offsets r) 0) (upFrom 0 (getD ss k absent .rows))))
-            ∙ sym (ap₂ (λ (ws : List ℕ) (n : ℕ). sum (map φ (map (λ r. cond (bitAt ws r) (widthIn (getD places k []) ids offsets r) 0) (upFrom 0 n)))) (alive-run c k q) rows)
-            ∙ sym (ap (λ (b : Bool). sum (map φ (cond b (map (aliveWidth (getD places k []) ids offsets (run (getD (aliveAt records k) 1 0) (getD (aliveAt records k) 2 0) words)) (upFrom 0 (rowsAt (getD places k [])))) (map (widthIn (getD places k []) ids offsets) (upTo (rowsAt (getD places k []))))))) (ap (λ (n : ℕ). eqb n 1) (alive-flag c k q) ∙ e))
-        go q false e =
-            sum-same (λ r. h (address k r)) (λ r. φ (widthIn (getD places k []) ids offsets r)) 0 (getD ss k absent .rows)
-            (λ r m. living r m ∙ ap (λ (b : Bool). cond (cond b (bitAt (getD ss k absent .alive) r) true) (φ (widthIn (getD places k []) ids offsets r)) 0) e)
-            ∙ sym (ap sum (map-map φ (widthIn (getD places k []) ids offsets) (upFrom 0 (getD ss k absent .rows))))
-            ∙ sym (ap (λ (n : ℕ). sum (map φ (map (widthIn (getD places k []) ids offsets) (upFrom 0 n)))) rows)
-            ∙ sym (ap (λ (b : Bool). sum (map φ (cond b (map (aliveWidth (getD places k []) ids offsets (run (getD (aliveAt records k) 1 0) (getD (aliveAt records k) 2 0) words)) (upFrom 0 (rowsAt (getD places k [])))) (map (widthIn (getD places k []) ids offsets) (upTo (rowsAt (getD places k []))))))) (ap (λ (n : ℕ). eqb n 1) (alive-flag c k q) ∙ e))
-
-    same : sum (map φ (widths places ids offsets addresses)) ≡ sum (map φ (countedAll places (alivesOf records) ids offsets words))
-    same =
-        ap (λ (ws : List ℕ). sum (map φ ws)) (widths-are addresses)
-        ∙ ap sum (map-map φ width (addressesOf addresses))
-        ∙ listed-sum ss (addressesOf addresses) o (λ a. φ (width a))
-        ∙ stack-sum h φ ids offsets words 0 ss places (alivesOf records) (places-length c f) (table-length (aliveAt records) (length records) ∙ sym (segments-are c))
-        (λ k l.
-        ap (λ (m : ℕ). sum (map h (rowsOf m (getD ss k absent)))) (zero-add k)
-        ∙ one-segment k l
-        ∙ ap (λ (q : List ℕ). sum (map φ (countedIn (getD places k []) q ids offsets words))) (sym (table-at (aliveAt records) [] (length records) k (omega (arith, segments-are c)))))
-
-  -- as many values
-  pub values-same : sum (widths places ids offsets addresses) ≡ sum (countedAll places (alivesOf records) ids offsets words)
-  values-same = sym (ap sum (map-id (widths places ids offsets addresses))) ∙ same (λ n. n) refl ∙ ap sum (map-id (countedAll places (alivesOf records) ids offsets words))
-
-  -- as many rows with a value
-  pub listed-same : length (idsOf 0 (widths places ids offsets addresses)) ≡ length (idsOf 0 (countedAll places (alivesOf records) ids offsets words))
-  listed-same =
-      sym (count-is (widths places ids offsets addresses)) ∙ ones (widths places ids offsets addresses)
-      ∙ same (λ w. length (idPart 0 w)) refl
-      ∙ sym (ones (countedAll places (alivesOf records) ids offsets words)) ∙ count-is (countedAll places (alivesOf records) ids offsets words)
-    where
-      ones : (l : List ℕ) → countOf l ≡ sum (map (λ w. length (idPart 0 w)) l)
-      ones [] = count-nil
-      ones (x ∷ xs) = count-cons x xs ∙ ap (λ (n : ℕ). length (idPart 0 x) + n) (ones xs)
+        ones : (l : List ℕ) → countOf l ≡ sum (map (λ w. length (idPart 0 w)) l)
+        ones [] = count-nil
+        ones (x ∷ xs) = count-cons x xs ∙ ap (λ (n : ℕ). length (idPart 0 x) + n) (ones xs)

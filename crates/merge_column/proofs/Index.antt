@@ -12,21 +12,17 @@ use Rattle.definitions.specs.Lists.{sum, all, upFrom, upTo}
 use Rattle.definitions.specs.Segment.{Segment, Address, addressFrom, address}
 use Rattle.definitions.specs.Row.{isHeld, asEmpty, effective}
 use Rattle.definitions.specs.Join.{absent, newWord, cellOf, cellAt, rowsOf, stackedFrom, joinedType, termsOf, joinedCells}
-use Rattle.definitions.specs.Answer.{sumOver, greatestSum, isListed, isRepeated, isAliveAt, aliveAddresses, listsAliveRows}
-use Rattle.definitions.proofs.Cell.{either, effective-rows}
+use Rattle.definitions.specs.Answer.{sumOver, indexFits, isListed, isRepeated, isAliveAt, aliveAddresses, listsAliveRows}
+use Rattle.definitions.proofs.Cell.{either, effective-rows, effective-fits}
 use Rattle.definitions.proofs.Accept.{lists-ordered, mem-stacked}
-use Rattle.segment.specs.Records.{segmentsIn}
 use Rattle.segment.specs.Lent.{addressesOf}
-use Rattle.places.specs.Place.{rowsAt, widthIn, widths, placeAt, rowOf, Inside}
-use Rattle.places.specs.Stack.{segmentWidths, stackedWidths, allRows}
-use Rattle.places.proofs.Bulk.{seg-sum}
-use Rattle.places.proofs.Bridge.{count-stands, inside-stands, width-stands, sound-stands}
-use Rattle.places.specs.Places.{placesOf}
-use Rattle.segment.specs.Lent.{Checked}
-use Rattle.segment.proofs.Lent.{sums-low}
-use Rattle.merge_column.proofs.Stand.{places-length, stands}
-use Rattle.merge_column.proofs.Distinct.{sum-distinct}
-use Rattle.column_index_merge.specs.Held.{Flagged}
+use Rattle.stands.specs.Stand.{standAt}
+use Rattle.stands.specs.Look.{Stands, widthIn, widths, addressed, rowOf, Inside}
+use Rattle.stands.specs.Stack.{segmentWidths, stackedWidths, allRows}
+use Rattle.stands.proofs.Bulk.{seg-sum}
+use Rattle.stands.proofs.Bridge.{count-stands, inside-stands, width-stands, sound-stands}
+use Rattle.census.specs.Table.{Table}
+use Rattle.lists.proofs.Distinct.{sum-distinct}
 use Rattle.definitions.proofs.Lists.{and3, up-length}
 use Rattle.lists.proofs.Sums.{sum-append}
 
@@ -51,56 +47,53 @@ not-repeated ss order h = go (isRepeated order) (and3 (all (isAliveAt ss) order)
     go true k = absurd k
     go false k = refl
 
-module _ {records : List (List ℕ)} {ids offsets values lengths bytes words : List ℕ} (c : Checked records ids offsets values lengths bytes words) {held : List ℕ}
-    (f : Flagged held (segmentsIn records ids offsets values lengths bytes words)) where
-  abbrev ss : List Segment
-  ss = segmentsIn records ids offsets values lengths bytes words
-
-  abbrev places : List (List ℕ)
-  places = placesOf records held
+module _ {stands : List (List ℕ)} {ids offsets values lengths bytes words : List ℕ} {ss : List Segment} (t : Table stands ids offsets values lengths bytes words ss) where
+  -- where segment k stands, as it counts
+  pub there : (k : ℕ) → k < length ss → Stands (standAt stands k) ids offsets values words (effective (getD ss k absent)) × T (indexFits (effective (getD ss k absent)))
+  there k h = (t .each k h, effective-fits (getD ss k absent) (t .fits k h))
 
   -- a row's values as the joined column has them
   abbrev cell : ℕ → Address → List ℕ
   cell required a = cellAt (joinedType required ss) (termsOf ss) ss a
 
-  row-width : (required n r : ℕ) → n < length ss → r < getD ss n absent .rows → widthIn (getD places n []) ids offsets r ≡ length (cell required (address n r))
+  row-width : (required n r : ℕ) → n < length ss → r < getD ss n absent .rows → widthIn (standAt stands n) ids offsets r ≡ length (cell required (address n r))
   unfolding cellOf
   row-width required n r h l =
-      let t = stands c f n h in
+      let st = there n h in
       let q : r < effective (getD ss n absent) .rows = rw (effective-rows (getD ss n absent)) l in
-      width-stands (t .0) (t .1) r q (newWord (joinedType required ss) (termsOf ss) (effective (getD ss n absent)))
+      width-stands (st .0) (st .1) r q (newWord (joinedType required ss) (termsOf ss) (effective (getD ss n absent)))
 
   -- ---- stacked
 
   rows-widths : (required n : ℕ) → n < length ss → (a m : ℕ) → a + m ≤ getD ss n absent .rows
-      → map (widthIn (getD places n []) ids offsets) (upFrom a m) ≡ map length (map (cell required) (map (address n) (upFrom a m)))
+      → map (widthIn (standAt stands n) ids offsets) (upFrom a m) ≡ map length (map (cell required) (map (address n) (upFrom a m)))
   rows-widths required n h a zero l = refl
   rows-widths required n h a (suc m) l = ap₂ (λ (x : ℕ) (xs : List ℕ). x ∷ xs) (row-width required n a h (omega arith)) (rows-widths required n h (suc a) m (omega arith))
 
-  rows-are : (n : ℕ) → n < length ss → rowsAt (getD places n []) ≡ getD ss n absent .rows
-  rows-are n h = stands c f n h .0 .rows ∙ effective-rows (getD ss n absent)
+  rows-are : (n : ℕ) → n < length ss → standAt stands n .rows ≡ getD ss n absent .rows
+  rows-are n h = there n h .0 .rows ∙ effective-rows (getD ss n absent)
 
-  segment-widths : (required n : ℕ) → n < length ss → segmentWidths (getD places n []) ids offsets ≡ map length (map (cell required) (rowsOf n (getD ss n absent)))
+  segment-widths : (required n : ℕ) → n < length ss → segmentWidths (standAt stands n) ids offsets ≡ map length (map (cell required) (rowsOf n (getD ss n absent)))
   unfolding segmentWidths
   segment-widths required n h =
-      ap (λ (k : ℕ). map (widthIn (getD places n []) ids offsets) (upTo k)) (rows-are n h) ∙ rows-widths required n h 0 (getD ss n absent .rows) (omega arith)
+      ap (λ (k : ℕ). map (widthIn (standAt stands n) ids offsets) (upTo k)) (rows-are n h) ∙ rows-widths required n h 0 (getD ss n absent .rows) (omega arith)
 
-  widths-from : (required m n : ℕ) → n + m ≡ length ss → stackedWidths (drop n places) ids offsets ≡ map length (map (cell required) (stackedFrom n (drop n ss)))
+  widths-from : (required m n : ℕ) → n + m ≡ length ss → stackedWidths (drop n stands) ids offsets ≡ map length (map (cell required) (stackedFrom n (drop n ss)))
   unfolding stackedWidths
   widths-from required zero n e =
-      let a : length places ≤ n = omega (arith, places-length c f) in
+      let a : length stands ≤ n = omega (arith, t .size) in
       let b : length ss ≤ n = omega arith in
-      ap (λ (l : List (List ℕ)). stackedWidths l ids offsets) (drop-of-length-le places a) ∙ ap (λ (l : List Segment). map length (map (cell required) (stackedFrom n l))) (sym (drop-of-length-le ss b))
+      ap (λ (l : List (List ℕ)). stackedWidths l ids offsets) (drop-of-length-le stands a) ∙ ap (λ (l : List Segment). map length (map (cell required) (stackedFrom n l))) (sym (drop-of-length-le ss b))
   widths-from required (suc m) n e =
-      let a : n < length places = omega (arith, places-length c f) in
+      let a : n < length stands = omega (arith, t .size) in
       let b : n < length ss = omega arith in
-      ap (λ (l : List (List ℕ)). stackedWidths l ids offsets) (drop-cons places n [] a)
+      ap (λ (l : List (List ℕ)). stackedWidths l ids offsets) (drop-cons stands n [] a)
       ∙ ap₂ (λ (x y : List ℕ). x ++ y) (segment-widths required n b) (widths-from required m (suc n) (omega arith))
       ∙ sym (map-append length (map (cell required) (rowsOf n (getD ss n absent))) (map (cell required) (stackedFrom (suc n) (drop (suc n) ss))))
       ∙ ap (map length) (sym (map-append (cell required) (rowsOf n (getD ss n absent)) (stackedFrom (suc n) (drop (suc n) ss))))
       ∙ ap (λ (l : List Segment). map length (map (cell required) (stackedFrom n l))) (sym (drop-cons ss n absent b))
 
-  pub stacked-widths : (required : ℕ) → stackedWidths places ids offsets ≡ map length (joinedCells required ss (stackedFrom 0 ss))
+  pub stacked-widths : (required : ℕ) → stackedWidths stands ids offsets ≡ map length (joinedCells required ss (stackedFrom 0 ss))
   unfolding joinedCells
   stacked-widths required = widths-from required (length ss) 0 (zero-add (length ss))
 
@@ -109,7 +102,7 @@ module _ {records : List (List ℕ)} {ids offsets values lengths bytes words : L
   abbrev Known : List (List ℕ) → Type 0
   Known addresses = (a : Address) → List·Memᴰ a (addressesOf addresses) → (a .segment < length ss) × (a .row < getD ss (a .segment) absent .rows)
 
-  widths-at : (required : ℕ) (addresses : List (List ℕ)) → Known addresses → widths places ids offsets addresses ≡ map length (map (cell required) (addressesOf addresses))
+  widths-at : (required : ℕ) (addresses : List (List ℕ)) → Known addresses → widths stands ids offsets addresses ≡ map length (map (cell required) (addressesOf addresses))
   unfolding widths
   widths-at required [] known = refl
   widths-at required (a ∷ rest) known =
@@ -120,27 +113,24 @@ module _ {records : List (List ℕ)} {ids offsets values lengths bytes words : L
     pub known-rows : (a : Address) → List·Memᴰ a (addressesOf addresses) → (a .segment < length ss) × (a .row < getD ss (a .segment) absent .rows)
     known-rows a m = let t = lists-ordered ss (addressesOf addresses) o .alive a m in (t .0, t .1)
 
-    pub ordered-widths : (required : ℕ) → widths places ids offsets addresses ≡ map length (joinedCells required ss (addressesOf addresses))
+    pub ordered-widths : (required : ℕ) → widths stands ids offsets addresses ≡ map length (joinedCells required ss (addressesOf addresses))
     unfolding joinedCells
     ordered-widths required = widths-at required addresses known-rows
 
     in-stack : (a : Address) → List·Memᴰ a (addressesOf addresses) → List·Memᴰ a (stackedFrom 0 ss)
     in-stack a m =
-        let t = known-rows a m in
-        mem-stacked ss (a .segment) (a .row) (t .0) (t .1)
+        let k = known-rows a m in
+        mem-stacked ss (a .segment) (a .row) (k .0) (k .1)
 
     -- ---- bounds
 
-    pub ordered-fewer : (required : ℕ) → sum (widths places ids offsets addresses) ≤ sum (stackedWidths places ids offsets)
+    pub ordered-fewer : (required : ℕ) → sum (widths stands ids offsets addresses) ≤ sum (stackedWidths stands ids offsets)
     unfolding joinedCells
     ordered-fewer required =
         let a = sum-distinct (λ (b : Address). length (cell required b)) (addressesOf addresses) (stackedFrom 0 ss) (not-repeated ss (addressesOf addresses) o) in-stack in
-        let p : sum (widths places ids offsets addresses) ≡ sum (map (λ (b : Address). length (cell required b)) (addressesOf addresses)) = ap sum (ordered-widths required ∙ map-map length (cell required) (addressesOf addresses)) in
-        let q : sum (stackedWidths places ids offsets) ≡ sum (map (λ (b : Address). length (cell required b)) (stackedFrom 0 ss)) = ap sum (stacked-widths required ∙ map-map length (cell required) (stackedFrom 0 ss)) in
+        let p : sum (widths stands ids offsets addresses) ≡ sum (map (λ (b : Address). length (cell required b)) (addressesOf addresses)) = ap sum (ordered-widths required ∙ map-map length (cell required) (addressesOf addresses)) in
+        let q : sum (stackedWidths stands ids offsets) ≡ sum (map (λ (b : Address). length (cell required b)) (stackedFrom 0 ss)) = ap sum (stacked-widths required ∙ map-map length (cell required) (stackedFrom 0 ss)) in
         omega arith
-
-  sums-fit : (sumOver (λ (s : Segment). s .rows) ss ≤ greatestSum) × (sumOver (λ (s : Segment). length (s .values)) ss ≤ greatestSum)
-  sums-fit = let b = sums-low c in (b .0, b .1)
 
   pub ordered-rows-fit : (addresses : List (List ℕ)) → T (listsAliveRows ss (addressesOf addresses)) → length addresses ≤ 4294967294
   ordered-rows-fit addresses o =
@@ -148,59 +138,59 @@ module _ {records : List (List ℕ)} {ids offsets values lengths bytes words : L
       let p = sum-ones (addressesOf addresses) in
       let q = sum-ones (stackedFrom 0 ss) in
       let r = stacked-length 0 ss in
-      let t = sums-fit .0 in
+      let z = t .rows in
       let u : length (addressesOf addresses) ≡ length addresses = length-map addresses addressFrom in
       omega arith
 
-  values-from : (m n : ℕ) → n + m ≡ length ss → sum (stackedWidths (drop n places) ids offsets) ≤ sumOver (λ (s : Segment). length (s .values)) (drop n ss)
+  values-from : (m n : ℕ) → n + m ≡ length ss → sum (stackedWidths (drop n stands) ids offsets) ≤ sumOver (λ (s : Segment). length (s .values)) (drop n ss)
   unfolding stackedWidths
   values-from zero n e =
-      let a : length places ≤ n = omega (arith, places-length c f) in
-      rw (drop-of-length-le places a) zero-le
+      let a : length stands ≤ n = omega (arith, t .size) in
+      rw (drop-of-length-le stands a) zero-le
   values-from (suc m) n e =
-      let a : n < length places = omega (arith, places-length c f) in
+      let a : n < length stands = omega (arith, t .size) in
       let b : n < length ss = omega arith in
-      let t = stands c f n b in
-      let p = seg-sum (sound-stands (t .0) (t .1)) in
-      let q = count-stands (t .0) in
+      let st = there n b in
+      let p = seg-sum (sound-stands (st .0) (st .1)) in
+      let q = count-stands (st .0) in
       let r = fewer-values (getD ss n absent) in
       let z = values-from m (suc n) (omega arith) in
-      let x : sum (stackedWidths (drop n places) ids offsets) ≡ sum (segmentWidths (getD places n []) ids offsets) + sum (stackedWidths (drop (suc n) places) ids offsets)
-      = ap (λ (l : List (List ℕ)). sum (stackedWidths l ids offsets)) (drop-cons places n [] a) ∙ sum-append (segmentWidths (getD places n []) ids offsets) (stackedWidths (drop (suc n) places) ids offsets) in
+      let x : sum (stackedWidths (drop n stands) ids offsets) ≡ sum (segmentWidths (standAt stands n) ids offsets) + sum (stackedWidths (drop (suc n) stands) ids offsets)
+      = ap (λ (l : List (List ℕ)). sum (stackedWidths l ids offsets)) (drop-cons stands n [] a) ∙ sum-append (segmentWidths (standAt stands n) ids offsets) (stackedWidths (drop (suc n) stands) ids offsets) in
       let y : sumOver (λ (s : Segment). length (s .values)) (drop n ss) ≡ length (getD ss n absent .values) + sumOver (λ (s : Segment). length (s .values)) (drop (suc n) ss)
       = ap (λ (l : List Segment). sumOver (λ (s : Segment). length (s .values)) l) (drop-cons ss n absent b) in
       omega arith
 
-  pub stacked-values-fit : sum (stackedWidths places ids offsets) ≤ 4294967294
-  stacked-values-fit = le-trans (values-from (length ss) 0 (zero-add (length ss))) (sums-fit .1)
+  pub stacked-values-fit : sum (stackedWidths stands ids offsets) ≤ 4294967294
+  stacked-values-fit = le-trans (values-from (length ss) 0 (zero-add (length ss))) (t .values-low)
 
-  rows-from : (m n : ℕ) → n + m ≡ length ss → allRows (drop n places) ≡ sumOver (λ (s : Segment). s .rows) (drop n ss)
+  rows-from : (m n : ℕ) → n + m ≡ length ss → allRows (drop n stands) ≡ sumOver (λ (s : Segment). s .rows) (drop n ss)
   unfolding allRows
   rows-from zero n e =
-      let a : length places ≤ n = omega (arith, places-length c f) in
+      let a : length stands ≤ n = omega (arith, t .size) in
       let b : length ss ≤ n = omega arith in
-      ap allRows (drop-of-length-le places a) ∙ ap (λ (l : List Segment). sumOver (λ (s : Segment). s .rows) l) (sym (drop-of-length-le ss b))
+      ap allRows (drop-of-length-le stands a) ∙ ap (λ (l : List Segment). sumOver (λ (s : Segment). s .rows) l) (sym (drop-of-length-le ss b))
   rows-from (suc m) n e =
-      let a : n < length places = omega (arith, places-length c f) in
+      let a : n < length stands = omega (arith, t .size) in
       let b : n < length ss = omega arith in
-      ap allRows (drop-cons places n [] a)
+      ap allRows (drop-cons stands n [] a)
       ∙ ap₂ (λ (x y : ℕ). x + y) (rows-are n b) (rows-from m (suc n) (omega arith))
       ∙ ap (λ (l : List Segment). sumOver (λ (s : Segment). s .rows) l) (sym (drop-cons ss n absent b))
 
-  pub stacked-rows-fit : allRows places ≤ 4294967294
-  stacked-rows-fit = le-trans (subst (λ (n : ℕ). allRows places ≤ n) (rows-from (length ss) 0 (zero-add (length ss))) (le-refl (allRows places))) (sums-fit .0)
+  pub stacked-rows-fit : allRows stands ≤ 4294967294
+  stacked-rows-fit = le-trans (subst (λ (n : ℕ). allRows stands ≤ n) (rows-from (length ss) 0 (zero-add (length ss))) (le-refl (allRows stands))) (t .rows)
 
   -- ---- the rows of the addresses can be looked up
 
   inside-at : (k : ℕ) (addresses : List (List ℕ)) → Known addresses → k < length addresses
-      → (getD (getD addresses k []) 0 0 < length places) × Inside (placeAt places (getD addresses k [])) ids offsets values (rowOf (getD addresses k []))
+      → (getD (getD addresses k []) 0 0 < length stands) × Inside (addressed stands (getD addresses k [])) ids offsets values (rowOf (getD addresses k []))
   inside-at k [] known h = absurd (not-suc-le-zero h)
   inside-at zero (a ∷ rest) known h =
       let q = known (addressFrom a) (List·Memᴰ·head refl) in
-      let t = stands c f (getD a 0 0) (q .0) in
-      (subst (λ (n : ℕ). getD a 0 0 < n) (sym (places-length c f)) (q .0), inside-stands (t .0) (t .1) (getD a 1 0) (rw (effective-rows (getD ss (getD a 0 0) absent)) (q .1)))
+      let st = there (getD a 0 0) (q .0) in
+      (subst (λ (n : ℕ). getD a 0 0 < n) (sym (t .size)) (q .0), inside-stands (st .0) (st .1) (getD a 1 0) (rw (effective-rows (getD ss (getD a 0 0) absent)) (q .1)))
   inside-at (suc k) (a ∷ rest) known h = inside-at k rest (λ b m. known b (List·Memᴰ·tail m)) (le-of-suc-le-suc h)
 
   module _ (addresses : List (List ℕ)) (o : T (listsAliveRows ss (addressesOf addresses))) (k : ℕ) (h : k < length addresses) where
-    pub ordered-inside : (getD (getD addresses k []) 0 0 < length places) × Inside (placeAt places (getD addresses k [])) ids offsets values (rowOf (getD addresses k []))
+    pub ordered-inside : (getD (getD addresses k []) 0 0 < length stands) × Inside (addressed stands (getD addresses k [])) ids offsets values (rowOf (getD addresses k []))
     ordered-inside = inside-at k addresses (known-rows addresses o) h

@@ -1,36 +1,39 @@
--- What a join cites: the premises of stacked_rows, ordered_rows and the counts, and their outcomes as the lists of the joined column. Assumes nothing.
-use Prim.Native.Nat.{ℕ, zero, suc, _+_, _≤_}
+-- What a join cites: the premises of the fills, the numbers of elements of its lists, and their outcomes as the lists of the joined column. Assumes nothing.
+use Prim.Native.Nat.{ℕ, zero, suc, _+_, _≤_, _<_}
 use native.Mathlib.Omega.{arith}
 use mathlib.Core.Path.{_≡_, refl, sym, ap, _∙_, subst}
 use mathlib.Core.List.{List, [], _∷_, map}
 use mathlib.Core.Bool.{Bool, true, false, not, cond, false≢true}
-use lib.ListN.{length, drop, length-append}
+use lib.ListN.{length, getD, drop, length-append}
 use lib.Seq.{take-at}
 use lib.Dec.{T, eqb}
+use borrow.Author.Tests.{eqb-true, eqb-false}
 use Rattle.definitions.specs.Lists.{sum, concat}
-use Rattle.definitions.specs.Segment.{Segment}
-use Rattle.definitions.specs.Join.{mapOf, stackedFrom, idsFrom, totalsFrom, encode, joinedType, joinedClass, joinedCells, joinedColumn}
+use Rattle.definitions.specs.Segment.{Segment, Address}
+use Rattle.definitions.specs.Row.{hasAliveSet}
+use Rattle.definitions.specs.Join.{Column, absent, mapOf, stackedFrom, rowOrder, idsFrom, totalsFrom, encode, joinedType, joinedClass, joinedCells, joinedColumn}
 use Rattle.definitions.specs.Answer.{listsAliveRows}
 use Rattle.definitions.specs.Outcome.{written}
+use Rattle.definitions.proofs.Lists.{length-concat}
 use Rattle.runs.specs.Put.{put, putIf, RoomIf}
-use Rattle.places.specs.Width.{idsOf, totalsOf}
-use Rattle.places.specs.Place.{widths}
-use Rattle.places.specs.Stack.{stackedWidths}
-use Rattle.places.proofs.Cells.{ids-widths, totals-widths}
+use Rattle.lists.proofs.Tests.{past-code}
+use Rattle.runs.proofs.Written.{put-written}
+use Rattle.segment.specs.Lent.{addressesOf}
+use Rattle.stands.specs.Width.{idsOf, totalsOf}
+use Rattle.stands.specs.Look.{widths}
+use Rattle.stands.specs.Stack.{stackedWidths}
+use Rattle.stands.proofs.Bridge.{sound-stands}
+use Rattle.stands.proofs.Cells.{ids-widths, totals-widths}
+use Rattle.census.specs.Census.{countedAll}
+use Rattle.census.specs.Table.{Table}
 use Rattle.column_values_merge.specs.Stack.{stackedWords}
 use Rattle.column_index_stacked.specs.Stacked.{Stacked}
 use Rattle.column_index_shuffled.specs.Order.{orderedWords, Ordered}
-use Rattle.places.specs.Places.{placesOf, sourcesOf}
-use Rattle.segment.specs.Lent.{Checked}
-use Rattle.merge_column.proofs.Stand.{all-sound}
-use Rattle.merge_column.proofs.Index.{stacked-widths, ordered-widths, stacked-rows-fit, stacked-values-fit, ordered-rows-fit, ordered-fewer, ordered-inside}
-use Rattle.merge_column.proofs.Values.{stacked-words, all-worded, ordered-words, ordered-worded}
-use Rattle.segment.specs.Records.{segmentsIn}
-use Rattle.segment.specs.Lent.{addressesOf}
-use Rattle.column_index_merge.specs.Held.{Flagged}
 use Rattle.merge_column.specs.Mapped.{Mapped}
-use Rattle.runs.proofs.Written.{put-written}
-use Rattle.definitions.proofs.Lists.{length-concat}
+use Rattle.merge_column.specs.Plan.{widthsFor, joinedWords, idsFor, offsetsFor, Filling}
+use Rattle.merge_column.proofs.Index.{there, stacked-widths, ordered-widths, stacked-rows-fit, stacked-values-fit, ordered-rows-fit, ordered-fewer, ordered-inside}
+use Rattle.merge_column.proofs.Values.{stacked-words, all-worded, ordered-words, ordered-worded}
+use Rattle.merge_column.proofs.Counted.{all-counted, values-same, listed-same}
 
 -- the map as the dictionary's merge leaves it
 pub mapped : (ss : List Segment) (old : List ℕ) → length (mapOf ss) ≤ length old → Mapped (written (mapOf ss) old) ss
@@ -49,24 +52,24 @@ totals-count s t (zero ∷ ws) = totals-count (suc s) t ws
 totals-count s t (suc w ∷ ws) = ap suc (totals-count (suc s) (t + suc w) ws)
 
 module _ (class : ℕ) (ws : List ℕ) (cells : List (List ℕ)) (e : ws ≡ map length cells) where
-  ids-are : idsOf 0 ws ≡ idsFrom 0 cells
-  ids-are = ap (idsOf 0) e ∙ sym (ids-widths 0 cells)
+  ids-by : idsOf 0 ws ≡ idsFrom 0 cells
+  ids-by = ap (idsOf 0) e ∙ sym (ids-widths 0 cells)
 
-  totals-are : totalsOf 0 ws ≡ totalsFrom 0 cells
-  totals-are = ap (totalsOf 0) e ∙ sym (totals-widths 0 cells)
+  totals-by : totalsOf 0 ws ≡ totalsFrom 0 cells
+  totals-by = ap (totalsOf 0) e ∙ sym (totals-widths 0 cells)
 
   room-ids : (n : ℕ) → length (cond (eqb class 0) [] (idsFrom 0 cells)) ≤ n → RoomIf (not (eqb class 0)) 0 (length (idsOf 0 ws)) n
   room-ids n h = go (eqb class 0) h
     where
       go : (b : Bool) → length (cond b [] (idsFrom 0 cells)) ≤ n → RoomIf (not b) 0 (length (idsOf 0 ws)) n
       go true k = record { room = λ q. absurd (false≢true q) }
-      go false k = record { room = λ q. let z = ap length ids-are in omega arith }
+      go false k = record { room = λ q. let z = ap length ids-by in omega arith }
 
   room-offsets : (n : ℕ) → length (cond (eqb class 2) (0 ∷ totalsFrom 0 cells) []) ≤ n → RoomIf (eqb class 2) 0 (length (0 ∷ totalsOf 0 ws)) n
   room-offsets n h = go (eqb class 2) h
     where
       go : (b : Bool) → length (cond b (0 ∷ totalsFrom 0 cells) []) ≤ n → RoomIf b 0 (length (0 ∷ totalsOf 0 ws)) n
-      go true k = record { room = λ q. let z = ap length totals-are in omega arith }
+      go true k = record { room = λ q. let z = ap length totals-by in omega arith }
       go false k = record { room = λ q. absurd (false≢true q) }
 
   wrote-ids : (old : List ℕ) → putIf (not (eqb class 0)) 0 (idsOf 0 ws) old ≡ written (cond (eqb class 0) [] (idsFrom 0 cells)) old
@@ -75,14 +78,14 @@ module _ (class : ℕ) (ws : List ℕ) (cells : List (List ℕ)) (e : ws ≡ map
     where
       go : (b : Bool) → cond (not b) (put 0 (idsOf 0 ws) old) old ≡ written (cond b [] (idsFrom 0 cells)) old
       go true = refl
-      go false = ap (λ (l : List ℕ). put 0 l old) ids-are ∙ put-written (idsFrom 0 cells) old
+      go false = ap (λ (l : List ℕ). put 0 l old) ids-by ∙ put-written (idsFrom 0 cells) old
 
   wrote-offsets : (old : List ℕ) → putIf (eqb class 2) 0 (0 ∷ totalsOf 0 ws) old ≡ written (cond (eqb class 2) (0 ∷ totalsFrom 0 cells) []) old
   unfolding putIf
   wrote-offsets old = go (eqb class 2)
     where
       go : (b : Bool) → cond b (put 0 (0 ∷ totalsOf 0 ws) old) old ≡ written (cond b (0 ∷ totalsFrom 0 cells) []) old
-      go true = ap (λ (l : List ℕ). put 0 (0 ∷ l) old) totals-are ∙ put-written (0 ∷ totalsFrom 0 cells) old
+      go true = ap (λ (l : List ℕ). put 0 (0 ∷ l) old) totals-by ∙ put-written (0 ∷ totalsFrom 0 cells) old
       go false = refl
 
   count-ids : length (cond (eqb class 0) [] (idsFrom 0 cells)) ≡ cond (eqb class 0) 0 (length (idsOf 0 ws))
@@ -90,132 +93,143 @@ module _ (class : ℕ) (ws : List ℕ) (cells : List (List ℕ)) (e : ws ≡ map
     where
       go : (b : Bool) → length (cond b [] (idsFrom 0 cells)) ≡ cond b 0 (length (idsOf 0 ws))
       go true = refl
-      go false = ap length (sym ids-are)
+      go false = ap length (sym ids-by)
 
   count-offsets : length (cond (eqb class 2) (0 ∷ totalsFrom 0 cells) []) ≡ cond (eqb class 2) (suc (length (idsOf 0 ws))) 0
   count-offsets = go (eqb class 2)
     where
       go : (b : Bool) → length (cond b (0 ∷ totalsFrom 0 cells) []) ≡ cond b (suc (length (idsOf 0 ws))) 0
-      go true = ap suc (ap length (sym totals-are) ∙ totals-count 0 0 ws)
+      go true = ap suc (ap length (sym totals-by) ∙ totals-count 0 0 ws)
       go false = refl
 
   count-values : length (concat cells) ≡ sum ws
   count-values = length-concat cells ∙ ap sum (sym e)
 
-module _ {records : List (List ℕ)} {ids offsets values lengths bytes words : List ℕ} (c : Checked records ids offsets values lengths bytes words) {held : List ℕ}
-    (f : Flagged held (segmentsIn records ids offsets values lengths bytes words)) (required : ℕ) where
-  abbrev ss : List Segment
-  ss = segmentsIn records ids offsets values lengths bytes words
+-- the rows of a join: a stacked one has no alive set, an ordered one lists each alive row once
+pub record Rows (mode : ℕ) (addresses : List (List ℕ)) (ss : List Segment) : Type 0 where
+  pub alone : mode ≡ 0 → (k : ℕ) → k < length ss → hasAliveSet (getD ss k absent) ≡ false
+  pub order : (mode ≡ 0 → ⊥) → T (listsAliveRows ss (addressesOf addresses))
 
-  abbrev places : List (List ℕ)
-  places = placesOf records held
+module _ {stands : List (List ℕ)} {ids offsets values lengths bytes words : List ℕ} {ss : List Segment} (t : Table stands ids offsets values lengths bytes words ss) {mode : ℕ} {addresses : List (List ℕ)}
+    (r : Rows mode addresses ss) (required : ℕ) where
+  abbrev order : List Address
+  order = rowOrder mode ss (addressesOf addresses)
 
-  -- ---- the lengths of all lists, before anything is written
+  abbrev cells : List (List ℕ)
+  cells = joinedCells required ss order
 
-  -- stacked
-  pub stacked-ids-length : length (joinedColumn required ss (stackedFrom 0 ss) .ids) ≡ cond (eqb (joinedClass required ss) 0) 0 (length (idsOf 0 (stackedWidths places ids offsets)))
+  abbrev col : Column
+  col = joinedColumn required ss order
+
+  abbrev ws : List ℕ
+  ws = widthsFor mode addresses stands ids offsets
+
+  -- how many values each new row has
+  widths-are : ws ≡ map length cells
+  unfolding widthsFor rowOrder
+  widths-are = go (eqb mode 0) refl
+    where
+      go : (b : Bool) → eqb mode 0 ≡ b → cond b (stackedWidths stands ids offsets) (widths stands ids offsets addresses) ≡ map length (joinedCells required ss (cond b (stackedFrom 0 ss) (addressesOf addresses)))
+      go true e = stacked-widths t required
+      go false e = ordered-widths t addresses (r .order (eqb-false mode 0 e)) required
+
+  few-widths : sum ws ≤ 4294967294
+  unfolding widthsFor
+  few-widths = go (eqb mode 0) refl
+    where
+      go : (b : Bool) → eqb mode 0 ≡ b → sum (cond b (stackedWidths stands ids offsets) (widths stands ids offsets addresses)) ≤ 4294967294
+      go true e = stacked-values-fit t
+      go false e = let a = ordered-fewer t addresses (r .order (eqb-false mode 0 e)) required in let b = stacked-values-fit t in omega arith
+
+  -- ---- the counts: all rows when stacked, where no segment has an alive set, and each alive one when ordered
+
+  listed-count : length (idsOf 0 (countedAll stands ids offsets words)) ≡ length (idsOf 0 ws)
+  unfolding widthsFor
+  listed-count = go (eqb mode 0) refl
+    where
+      go : (b : Bool) → eqb mode 0 ≡ b → length (idsOf 0 (countedAll stands ids offsets words)) ≡ length (idsOf 0 (cond b (stackedWidths stands ids offsets) (widths stands ids offsets addresses)))
+      go true e = sym (ap (λ (l : List ℕ). length (idsOf 0 l)) (all-counted t (r .alone (eqb-true mode 0 e))))
+      go false e = sym (listed-same t addresses (r .order (eqb-false mode 0 e)))
+
+  pub values-count : sum (countedAll stands ids offsets words) ≡ length (col .values)
+  unfolding joinedColumn encode widthsFor
+  values-count = same ∙ sym (count-values 0 ws cells widths-are)
+    where
+      same : sum (countedAll stands ids offsets words) ≡ sum ws
+      same = go (eqb mode 0) refl
+        where
+          go : (b : Bool) → eqb mode 0 ≡ b → sum (countedAll stands ids offsets words) ≡ sum (cond b (stackedWidths stands ids offsets) (widths stands ids offsets addresses))
+          go true e = sym (ap sum (all-counted t (r .alone (eqb-true mode 0 e))))
+          go false e = sym (values-same t addresses (r .order (eqb-false mode 0 e)))
+
+  pub few-values : length (col .values) ≤ 4294967294
   unfolding joinedColumn encode
-  stacked-ids-length = count-ids (joinedClass required ss) (stackedWidths places ids offsets) (joinedCells required ss (stackedFrom 0 ss)) (stacked-widths c f required)
+  few-values = let a = few-widths in let b = count-values 0 ws cells widths-are in omega arith
 
-  pub stacked-offsets-length : length (joinedColumn required ss (stackedFrom 0 ss) .offsets) ≡ cond (eqb (joinedClass required ss) 2) (suc (length (idsOf 0 (stackedWidths places ids offsets)))) 0
-  unfolding joinedColumn encode
-  stacked-offsets-length = count-offsets (joinedClass required ss) (stackedWidths places ids offsets) (joinedCells required ss (stackedFrom 0 ss)) (stacked-widths c f required)
+  pub ids-number : idsFor (joinedClass required ss) (length (idsOf 0 (countedAll stands ids offsets words))) ≡ length (col .ids)
+  unfolding joinedColumn encode idsFor
+  ids-number = ap (λ (n : ℕ). cond (eqb (joinedClass required ss) 0) 0 n) listed-count ∙ sym (count-ids (joinedClass required ss) ws cells widths-are)
 
-  pub stacked-values-length : length (joinedColumn required ss (stackedFrom 0 ss) .values) ≡ sum (stackedWidths places ids offsets)
-  unfolding joinedColumn encode
-  stacked-values-length = count-values 0 (stackedWidths places ids offsets) (joinedCells required ss (stackedFrom 0 ss)) (stacked-widths c f required)
+  pub offsets-number : offsetsFor (joinedClass required ss) (length (idsOf 0 (countedAll stands ids offsets words))) ≡ length (col .offsets)
+  unfolding joinedColumn encode offsetsFor
+  offsets-number = ap (λ (n : ℕ). cond (eqb (joinedClass required ss) 2) (suc n) 0) listed-count ∙ sym (count-offsets (joinedClass required ss) ws cells widths-are)
 
-  module _ (addresses : List (List ℕ)) (o : T (listsAliveRows ss (addressesOf addresses))) where
-    -- ordered
-    pub ordered-ids-length : length (joinedColumn required ss (addressesOf addresses) .ids) ≡ cond (eqb (joinedClass required ss) 0) 0 (length (idsOf 0 (widths places ids offsets addresses)))
-    unfolding joinedColumn encode
-    ordered-ids-length = count-ids (joinedClass required ss) (widths places ids offsets addresses) (joinedCells required ss (addressesOf addresses)) (ordered-widths c f addresses o required)
-
-    pub ordered-offsets-length : length (joinedColumn required ss (addressesOf addresses) .offsets) ≡ cond (eqb (joinedClass required ss) 2) (suc (length (idsOf 0 (widths places ids offsets addresses)))) 0
-    unfolding joinedColumn encode
-    ordered-offsets-length = count-offsets (joinedClass required ss) (widths places ids offsets addresses) (joinedCells required ss (addressesOf addresses)) (ordered-widths c f addresses o required)
-
-    pub ordered-values-length : length (joinedColumn required ss (addressesOf addresses) .values) ≡ sum (widths places ids offsets addresses)
-    unfolding joinedColumn encode
-    ordered-values-length = count-values 0 (widths places ids offsets addresses) (joinedCells required ss (addressesOf addresses)) (ordered-widths c f addresses o required)
-
-    pub ordered-sum-fits : sum (widths places ids offsets addresses) ≤ 4294967294
-    ordered-sum-fits = let a = ordered-fewer c f addresses o required in let b = stacked-values-fit c f in omega arith
-
-  -- ---- stacked_rows
+  -- ---- the fills
 
   module _ {map′ : List ℕ} (m : Mapped map′ ss) where
-    abbrev sources : List (List ℕ)
-    sources = sourcesOf records held
+    words-are : joinedWords mode (joinedType required ss) addresses stands ids offsets values map′ ≡ col .values
+    unfolding joinedWords rowOrder joinedColumn encode
+    words-are = go (eqb mode 0) refl
+      where
+        go : (b : Bool) → eqb mode 0 ≡ b → cond b (stackedWords (joinedType required ss) stands values map′) (orderedWords (joinedType required ss) stands ids offsets values map′ addresses)
+            ≡ concat (joinedCells required ss (cond b (stackedFrom 0 ss) (addressesOf addresses)))
+        go true e = stacked-words t m required
+        go false e = ordered-words t m addresses (r .order (eqb-false mode 0 e)) required
 
-    pub stacked-given : Stacked places sources ids offsets values map′
+    stacked-given : Stacked stands ids offsets values map′
     stacked-given =
         record {
-          sound = all-sound c f;
-          worded = all-worded c f m;
-          rows = let a = stacked-rows-fit c f in omega arith;
-          count = let a = stacked-values-fit c f in omega arith;
+          sound = record { each = λ k h. let st = there t k (subst (λ (n : ℕ). k < n) (t .size) h) in sound-stands (st .0) (st .1) };
+          worded = all-worded t m;
+          rows = let a = stacked-rows-fit t in omega arith;
+          count = let a = stacked-values-fit t in omega arith;
         }
 
-    pub stacked-ids-room : (n : ℕ) → length (joinedColumn required ss (stackedFrom 0 ss) .ids) ≤ n → RoomIf (not (eqb (joinedClass required ss) 0)) 0 (length (idsOf 0 (stackedWidths places ids offsets))) n
+    ordered-given : T (listsAliveRows ss (addressesOf addresses)) → length (orderedWords (joinedType required ss) stands ids offsets values map′ addresses) ≤ 4294967294 → Ordered (joinedType required ss) addresses stands ids offsets values map′
+    ordered-given o few =
+        record {
+          rows = let a = ordered-rows-fit t addresses o in omega arith;
+          count = omega arith;
+          each = λ k h. let p = ordered-inside t addresses o k h in (p .0, p .1, ordered-worded t m addresses o k h);
+        }
+
+    pub filling : (outIds outOffsets outValues : List ℕ) → length (col .ids) ≤ length outIds → length (col .offsets) ≤ length outOffsets → length (col .values) ≤ length outValues
+        → Filling mode (joinedClass required ss) (joinedType required ss) addresses stands ids offsets values map′ outIds outOffsets outValues
+    unfolding joinedColumn encode joinedWords
+    filling outIds outOffsets outValues hi ho hv =
+        record {
+          stacked = λ e. stacked-given;
+          ordered = λ n. ordered-given (r .order n) (few n);
+          ids-room = room-ids (joinedClass required ss) ws cells widths-are (length outIds) hi;
+          offsets-room = room-offsets (joinedClass required ss) ws cells widths-are (length outOffsets) ho;
+          values-room = subst (λ (l : List ℕ). length l ≤ length outValues) (sym words-are) hv;
+        }
+      where
+        few : (mode ≡ 0 → ⊥) → length (orderedWords (joinedType required ss) stands ids offsets values map′ addresses) ≤ 4294967294
+        few n =
+            let a = few-widths in
+            let b : length (col .values) ≡ sum ws = count-values 0 ws cells widths-are in
+            let d = ap length words-are in
+            let e = ap length (past-code mode 0 (stackedWords (joinedType required ss) stands values map′) (orderedWords (joinedType required ss) stands ids offsets values map′ addresses) n) in
+            omega arith
+
+    pub ids-are : (old : List ℕ) → putIf (not (eqb (joinedClass required ss) 0)) 0 (idsOf 0 ws) old ≡ written (col .ids) old
     unfolding joinedColumn encode
-    stacked-ids-room n h = room-ids (joinedClass required ss) (stackedWidths places ids offsets) (joinedCells required ss (stackedFrom 0 ss)) (stacked-widths c f required) n h
+    ids-are old = wrote-ids (joinedClass required ss) ws cells widths-are old
 
-    pub stacked-offsets-room : (n : ℕ) → length (joinedColumn required ss (stackedFrom 0 ss) .offsets) ≤ n → RoomIf (eqb (joinedClass required ss) 2) 0 (length (0 ∷ totalsOf 0 (stackedWidths places ids offsets))) n
+    pub offsets-are : (old : List ℕ) → putIf (eqb (joinedClass required ss) 2) 0 (0 ∷ totalsOf 0 ws) old ≡ written (col .offsets) old
     unfolding joinedColumn encode
-    stacked-offsets-room n h = room-offsets (joinedClass required ss) (stackedWidths places ids offsets) (joinedCells required ss (stackedFrom 0 ss)) (stacked-widths c f required) n h
+    offsets-are old = wrote-offsets (joinedClass required ss) ws cells widths-are old
 
-    stacked-values-is : stackedWords (joinedType required ss) places sources values map′ ≡ joinedColumn required ss (stackedFrom 0 ss) .values
-    unfolding joinedColumn encode
-    stacked-values-is = stacked-words c f m required
-
-    pub stacked-values-room : (n : ℕ) → length (joinedColumn required ss (stackedFrom 0 ss) .values) ≤ n → length (stackedWords (joinedType required ss) places sources values map′) ≤ n
-    stacked-values-room n h = subst (λ (l : List ℕ). length l ≤ n) (sym stacked-values-is) h
-
-    pub stacked-ids-are : (old : List ℕ) → putIf (not (eqb (joinedClass required ss) 0)) 0 (idsOf 0 (stackedWidths places ids offsets)) old ≡ written (joinedColumn required ss (stackedFrom 0 ss) .ids) old
-    unfolding joinedColumn encode
-    stacked-ids-are old = wrote-ids (joinedClass required ss) (stackedWidths places ids offsets) (joinedCells required ss (stackedFrom 0 ss)) (stacked-widths c f required) old
-
-    pub stacked-offsets-are : (old : List ℕ) → putIf (eqb (joinedClass required ss) 2) 0 (0 ∷ totalsOf 0 (stackedWidths places ids offsets)) old ≡ written (joinedColumn required ss (stackedFrom 0 ss) .offsets) old
-    unfolding joinedColumn encode
-    stacked-offsets-are old = wrote-offsets (joinedClass required ss) (stackedWidths places ids offsets) (joinedCells required ss (stackedFrom 0 ss)) (stacked-widths c f required) old
-
-    pub stacked-values-are : (old : List ℕ) → put 0 (stackedWords (joinedType required ss) places sources values map′) old ≡ written (joinedColumn required ss (stackedFrom 0 ss) .values) old
-    stacked-values-are old = ap (λ (l : List ℕ). put 0 l old) stacked-values-is ∙ put-written (joinedColumn required ss (stackedFrom 0 ss) .values) old
-
-    -- ---- ordered_rows
-
-    module _ (addresses : List (List ℕ)) (o : T (listsAliveRows ss (addressesOf addresses))) where
-      ordered-values-is : orderedWords (joinedType required ss) places sources ids offsets values map′ addresses ≡ joinedColumn required ss (addressesOf addresses) .values
-      unfolding joinedColumn encode
-      ordered-values-is = ordered-words c f m addresses o required
-
-      pub ordered-given : Ordered (joinedType required ss) addresses places sources ids offsets values map′
-      ordered-given =
-          record {
-            rows = let a = ordered-rows-fit c f addresses o in omega arith;
-            count = let a = ordered-sum-fits addresses o in let b = ordered-values-length addresses o in let d = ap length ordered-values-is in omega arith;
-            each = λ k h. let p = ordered-inside c f addresses o k h in let q = ordered-worded c f m addresses o k h in (p .0, q .0, p .1, q .1);
-          }
-
-      pub ordered-ids-room : (n : ℕ) → length (joinedColumn required ss (addressesOf addresses) .ids) ≤ n → RoomIf (not (eqb (joinedClass required ss) 0)) 0 (length (idsOf 0 (widths places ids offsets addresses))) n
-      unfolding joinedColumn encode
-      ordered-ids-room n h = room-ids (joinedClass required ss) (widths places ids offsets addresses) (joinedCells required ss (addressesOf addresses)) (ordered-widths c f addresses o required) n h
-
-      pub ordered-offsets-room : (n : ℕ) → length (joinedColumn required ss (addressesOf addresses) .offsets) ≤ n → RoomIf (eqb (joinedClass required ss) 2) 0 (length (0 ∷ totalsOf 0 (widths places ids offsets addresses))) n
-      unfolding joinedColumn encode
-      ordered-offsets-room n h = room-offsets (joinedClass required ss) (widths places ids offsets addresses) (joinedCells required ss (addressesOf addresses)) (ordered-widths c f addresses o required) n h
-
-      pub ordered-values-room : (n : ℕ) → length (joinedColumn required ss (addressesOf addresses) .values) ≤ n → length (orderedWords (joinedType required ss) places sources ids offsets values map′ addresses) ≤ n
-      ordered-values-room n h = subst (λ (l : List ℕ). length l ≤ n) (sym ordered-values-is) h
-
-      pub ordered-ids-are : (old : List ℕ) → putIf (not (eqb (joinedClass required ss) 0)) 0 (idsOf 0 (widths places ids offsets addresses)) old ≡ written (joinedColumn required ss (addressesOf addresses) .ids) old
-      unfolding joinedColumn encode
-      ordered-ids-are old = wrote-ids (joinedClass required ss) (widths places ids offsets addresses) (joinedCells required ss (addressesOf addresses)) (ordered-widths c f addresses o required) old
-
-      pub ordered-offsets-are : (old : List ℕ) → putIf (eqb (joinedClass required ss) 2) 0 (0 ∷ totalsOf 0 (widths places ids offsets addresses)) old ≡ written (joinedColumn required ss (addressesOf addresses) .offsets) old
-      unfolding joinedColumn encode
-      ordered-offsets-are old = wrote-offsets (joinedClass required ss) (widths places ids offsets addresses) (joinedCells required ss (addressesOf addresses)) (ordered-widths c f addresses o required) old
-
-      pub ordered-values-are : (old : List ℕ) → put 0 (orderedWords (joinedType required ss) places sources ids offsets values map′ addresses) old ≡ written (joinedColumn required ss (addressesOf addresses) .values) old
-      ordered-values-are old = ap (λ (l : List ℕ). put 0 l old) ordered-values-is ∙ put-written (joinedColumn required ss (addressesOf addresses) .values) old
+    pub values-are : (old : List ℕ) → put 0 (joinedWords mode (joinedType required ss) addresses stands ids offsets values map′) old ≡ written (col .values) old
+    values-are old = ap (λ (l : List ℕ). put 0 l old) words-are ∙ put-written (col .values) old

@@ -8,16 +8,29 @@ use lib.ListN.{length, replicate}
 use lib.Dec.{eqb}
 use borrow.Author.Tests.{not-true, not-false}
 use Rattle.runs.specs.Put.{put, putIf, RoomIf}
-use Rattle.places.specs.Width.{idsOf, totalsOf}
-use Rattle.places.specs.Place.{widths}
-use Rattle.places.specs.Stack.{stackedWidths}
+use Rattle.stands.specs.Width.{idsOf, totalsOf}
+use Rattle.runs.proofs.Laws.{put-whole}
+use Rattle.stands.specs.Stand.{numbersOf, standIn, standsIn}
+use Rattle.stands.proofs.Fill.{table-length}
+use Rattle.stands.specs.Look.{widths}
+use Rattle.stands.specs.Stack.{stackedWidths}
 use Rattle.column_values_merge.specs.Stack.{stackedWords}
 use Rattle.column_index_shuffled.specs.Order.{orderedWords}
+use Rattle.census.specs.declared.Tally.{Tally}
+use Rattle.merge_type.specs.declared.TypeAnswer.{TypeAnswer}
+use Rattle.merge_type.specs.declared.TypeAnswer.the-variants.{Wrong, Joined}
+use Rattle.merge_type.specs.Parts.{partsIn, typeAnswer}
 use Rattle.merge_column.specs.declared.Shape.{Shape}
 use Rattle.merge_column.specs.declared.Space.{Space}
+use Rattle.merge_column.specs.declared.Plan.{Plan}
 use Rattle.merge_column.specs.declared.Plan.the-variants.{Refused, Column}
-use Rattle.merge_column.specs.Plan.{classFor, widthsFor, offsetsFor, enoughFor, joinedWords, leftFor, Filling}
+use Rattle.merge_column.specs.Plan.{classFor, idsFor, offsetsFor, shapeOf, enoughFor, planOf, planBy, planFor, widthsFor, joinedWords, leftFor, Filling}
 use Rattle.lists.proofs.Tests.{at-code, past-code}
+
+-- ---- the table of all records
+
+pub filled-raw : (records stands : List (List ℕ)) {l : List (List ℕ)} → length stands ≡ length records → l ≡ put 0 (standsIn records) stands → l ≡ standsIn records
+filled-raw records stands n e = e ∙ put-whole (standsIn records) stands (table-length (λ k. numbersOf (standIn records k)) (length records) ∙ sym n)
 
 -- ---- one choice by a code
 
@@ -39,26 +52,26 @@ offsets-none k n e = past-code k 2 (suc n) 0 e
 
 -- ---- by mode
 
-module _ (mode : ℕ) (addresses places : List (List ℕ)) (ids offsets : List ℕ) where
-  pub widths-stacked : mode ≡ 0 → stackedWidths places ids offsets ≡ widthsFor mode addresses places ids offsets
+module _ (mode : ℕ) (addresses stands : List (List ℕ)) (ids offsets : List ℕ) where
+  pub widths-stacked : mode ≡ 0 → stackedWidths stands ids offsets ≡ widthsFor mode addresses stands ids offsets
   unfolding widthsFor
-  widths-stacked e = at-code mode 0 (stackedWidths places ids offsets) (widths places ids offsets addresses) e
+  widths-stacked e = at-code mode 0 (stackedWidths stands ids offsets) (widths stands ids offsets addresses) e
 
-  pub widths-ordered : (mode ≡ 0 → ⊥) → widths places ids offsets addresses ≡ widthsFor mode addresses places ids offsets
+  pub widths-ordered : (mode ≡ 0 → ⊥) → widths stands ids offsets addresses ≡ widthsFor mode addresses stands ids offsets
   unfolding widthsFor
-  widths-ordered e = past-code mode 0 (stackedWidths places ids offsets) (widths places ids offsets addresses) e
+  widths-ordered e = past-code mode 0 (stackedWidths stands ids offsets) (widths stands ids offsets addresses) e
 
-module _ {mode class to : ℕ} {addresses places sources : List (List ℕ)} {ids offsets values map outIds outOffsets outValues : List ℕ}
-    (g : Filling mode class to addresses places sources ids offsets values map outIds outOffsets outValues) where
-  pub words-stacked : mode ≡ 0 → stackedWords to places sources values map ≡ joinedWords mode to addresses places sources ids offsets values map
+module _ {mode class to : ℕ} {addresses stands : List (List ℕ)} {ids offsets values map outIds outOffsets outValues : List ℕ}
+    (g : Filling mode class to addresses stands ids offsets values map outIds outOffsets outValues) where
+  pub words-stacked : mode ≡ 0 → stackedWords to stands values map ≡ joinedWords mode to addresses stands ids offsets values map
   unfolding joinedWords
-  words-stacked e = at-code mode 0 (stackedWords to places sources values map) (orderedWords to places sources ids offsets values map addresses) e
+  words-stacked e = at-code mode 0 (stackedWords to stands values map) (orderedWords to stands ids offsets values map addresses) e
 
-  pub words-ordered : (mode ≡ 0 → ⊥) → orderedWords to places sources ids offsets values map addresses ≡ joinedWords mode to addresses places sources ids offsets values map
+  pub words-ordered : (mode ≡ 0 → ⊥) → orderedWords to stands ids offsets values map addresses ≡ joinedWords mode to addresses stands ids offsets values map
   unfolding joinedWords
-  words-ordered e = past-code mode 0 (stackedWords to places sources values map) (orderedWords to places sources ids offsets values map addresses) e
+  words-ordered e = past-code mode 0 (stackedWords to stands values map) (orderedWords to stands ids offsets values map addresses) e
 
-  module _ (ws vs : List ℕ) (e : ws ≡ widthsFor mode addresses places ids offsets) (q : vs ≡ joinedWords mode to addresses places sources ids offsets values map) where
+  module _ (ws vs : List ℕ) (e : ws ≡ widthsFor mode addresses stands ids offsets) (q : vs ≡ joinedWords mode to addresses stands ids offsets values map) where
     pub ids-place : RoomIf (not (eqb class 0)) 0 (length (idsOf 0 ws)) (length outIds)
     ids-place = rw e (g .ids-room)
 
@@ -70,12 +83,44 @@ module _ {mode class to : ℕ} {addresses places sources : List (List ℕ)} {ids
 
 -- ---- the shape
 
-pub plan-refused : (x y : Shape) (bytes : ℕ) (space : Space) (b : Bool) → x ≡ y → b ≡ enoughFor x bytes space → not b ≡ true → Refused 11 ≡ cond (enoughFor y bytes space) (Column y) (Refused 11)
-plan-refused x y bytes space b e q n = sym (ap (λ (t : Bool). cond t (Column y) (Refused 11)) (ap (λ (z : Shape). enoughFor z bytes space) (sym e) ∙ sym q ∙ not-true b n))
+module _ (typ rows : ℕ) (t : Tally) (space : Space) {class ids offsets : ℕ} (ce : class ≡ classFor typ (t .class)) (ie : ids ≡ cond (eqb class 0) 0 (t .listed)) (oe : offsets ≡ offsetsFor class (t .listed)) where
+  abbrev made : Shape
+  made = record { typ = typ; class = class; rows = rows; ids = ids; offsets = offsets; values = t .values; map = t .terms }
 
-pub plan-column : (x y : Shape) (bytes : ℕ) (space : Space) (b : Bool) → x ≡ y → b ≡ enoughFor x bytes space → not b ≡ false → Column x ≡ cond (enoughFor y bytes space) (Column y) (Refused 11)
-plan-column x y bytes space b e q n =
-    ap Column e ∙ sym (ap (λ (t : Bool). cond t (Column y) (Refused 11)) (ap (λ (z : Shape). enoughFor z bytes space) (sym e) ∙ sym q ∙ not-false b n))
+  shape-is : made ≡ shapeOf typ rows t
+  unfolding shapeOf idsFor
+  shape-is =
+      λ i.
+      record {
+        typ = typ;
+        class = ce i;
+        rows = rows;
+        ids = (ie ∙ ap (λ (n : ℕ). cond (eqb n 0) 0 (t .listed)) ce) i;
+        offsets = (oe ∙ ap (λ (n : ℕ). offsetsFor n (t .listed)) ce) i;
+        values = t .values;
+        map = t .terms;
+      }
+
+  pub plan-refused : {b : Bool} → b ≡ enoughFor made (t .bytes) space → not b ≡ true → Refused 11 ≡ planOf typ rows t space
+  unfolding planOf
+  plan-refused {b} q n = sym (ap (λ (x : Bool). cond x (Column (shapeOf typ rows t)) (Refused 11)) (ap (λ (z : Shape). enoughFor z (t .bytes) space) (sym shape-is) ∙ sym q ∙ not-true b n))
+
+  pub plan-column : {b : Bool} → b ≡ enoughFor made (t .bytes) space → not b ≡ false → Column made ≡ planOf typ rows t space
+  unfolding planOf
+  plan-column {b} q n =
+      ap Column shape-is ∙ sym (ap (λ (x : Bool). cond x (Column (shapeOf typ rows t)) (Refused 11)) (ap (λ (z : Shape). enoughFor z (t .bytes) space) (sym shape-is) ∙ sym q ∙ not-false b n))
+
+-- ---- the plan
+
+module _ (mode required : ℕ) (stands : List (List ℕ)) (values : List ℕ) (addresses : ℕ) (t : Tally) (space : Space) {x : TypeAnswer} (e : x ≡ typeAnswer required (partsIn stands values)) where
+  pub planned-wrong : x ≡ Wrong → Refused 10 ≡ planFor mode required stands values addresses t space
+  unfolding planFor
+  planned-wrong q = sym (ap (λ (y : TypeAnswer). planBy y (cond (eqb mode 0) (t .rows) addresses) t space) (sym e ∙ q))
+
+  pub planned-column : {typ : ℕ} → x ≡ Joined typ → {r : Plan} {rows : ℕ} → rows ≡ cond (eqb mode 0) (t .rows) addresses → r ≡ planOf typ rows t space → r ≡ planFor mode required stands values addresses t space
+  unfolding planFor
+  planned-column {typ} q we re =
+      re ∙ ap (λ (n : ℕ). planOf typ n t space) we ∙ sym (ap (λ (y : TypeAnswer). planBy y (cond (eqb mode 0) (t .rows) addresses) t space) (sym e ∙ q))
 
 -- ---- what the fills leave, over the widths and the words by mode
 

@@ -1,11 +1,7 @@
 pub mod Laws
-pub mod Held
-pub mod Ready
-pub mod Measured
 pub mod Stand
-pub mod Distinct
 pub mod Index
-pub mod Counted
 pub mod Map
 pub mod Values
+pub mod Counted
 pub mod Joined

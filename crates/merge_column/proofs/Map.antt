@@ -8,36 +8,28 @@ use mathlib.Core.Bool.{Bool, true, false, _&&_, _||_, not, cond}
 use lib.ListN.{length, getD, take, drop, length-map, length-append}
 use lib.Seq.{take-at, take-take, drop-append-add, slice}
 use lib.Dec.{T, eqb, leb, ltb, ltb→lt}
-use lib.Ieee.Fits.{and-l}
-use borrow.Author.Tests.{eqb-true}
-use Rattle.definitions.specs.Lists.{sum, all, filter, concat, elem, isEmpty, termsAscending}
-use Rattle.definitions.specs.Segment.{Segment, SegmentRecord, firstSegment}
+use Rattle.definitions.specs.Lists.{sum, all, filter, concat, isEmpty, termsAscending}
+use Rattle.definitions.specs.Segment.{Segment}
 use Rattle.definitions.specs.Row.{isHeld, asEmpty, effective, heldOf}
-use Rattle.definitions.specs.Types.{isKnownType, hasTerms, coerced, BoolType}
+use Rattle.definitions.specs.Types.{hasTerms, coerced, BoolType}
 use Rattle.definitions.specs.Join.{absent, termsOf, ordinalOf, mapOf, newWord}
-use Rattle.definitions.specs.Answer.{total, codesKnown, noColumnIsBare, segmentCodesWrong, valuesFit}
-use Rattle.definitions.proofs.Accept.{not-false}
+use Rattle.definitions.specs.Answer.{valuesFit}
 use Rattle.definitions.proofs.Group.{effective-held, effective-not}
-use Rattle.segment.specs.Records.{recordsOf, segmentsIn, recordAt}
-use Rattle.segment.proofs.At.{sectionsAt, start-total, start-fits}
-use Rattle.runs.specs.Put.{looked, Below}
-use Rattle.places.specs.Place.{run, valuesAt}
-use Rattle.places.specs.Places.{table, isSet, termsIf, termsBefore, sourceAt, placesOf, sourcesOf}
-use Rattle.places.proofs.Fill.{table-at}
-use Rattle.segment.specs.Lent.{Checked}
-use Rattle.segment.proofs.Lent.{codes-right, values-fit}
-use Rattle.column_values_merge.specs.Word.{mapAt, coercedAll, newWords, Worded}
-use Rattle.merge_column.proofs.Stand.{set-byte, count-is, terms-held, segment-is, stands}
-use Rattle.column_index_merge.specs.Held.{Flagged}
-use Rattle.merge_column.specs.Mapped.{Mapped}
-use Rattle.definitions.proofs.Lists.{and3, and4, getD-in}
-use Rattle.lists.proofs.Parts.{drop-take, part-length as part-long}
+use Rattle.definitions.proofs.Decode.{slice-nil}
+use Rattle.definitions.proofs.Lists.{and4, getD-in}
+use Rattle.lists.proofs.Parts.{drop-take}
 use Rattle.lists.proofs.Sums.{sums-are}
 use Rattle.lists.proofs.Lists.{all-at}
-use Rattle.definitions.proofs.Sections.{cut-length}
+use Rattle.runs.specs.Put.{looked, Below}
 use Rattle.runs.proofs.Laws.{below-part}
-use Rattle.definitions.proofs.Decode.{slice-nil}
+use Rattle.stands.specs.declared.Span.{Span}
+use Rattle.stands.specs.declared.Stand.{Stand}
+use Rattle.stands.specs.Stand.{run, part, Lies, standAt}
+use Rattle.stands.specs.Look.{valuesAt}
+use Rattle.census.specs.Table.{counted, mapBefore, Table}
+use Rattle.column_values_merge.specs.Word.{mapAt, coercedAll, wordsBy, newWords, Worded}
 use Rattle.column_values_merge.proofs.Laws.{words-none}
+use Rattle.merge_column.specs.Mapped.{Mapped}
 
 -- ---- parts of a list of parts
 
@@ -86,29 +78,6 @@ map-below : (f g : ℕ → ℕ) (n : ℕ) (xs : List ℕ) → ((w : ℕ) → w <
 map-below f g n [] e b = refl
 map-below f g n (x ∷ xs) e b = ap₂ (λ (y : ℕ) (ys : List ℕ). y ∷ ys) (e x (b 0 (suc-le-suc zero-le))) (map-below f g n xs e (λ k h. b (suc k) (suc-le-suc h)))
 
-known-small : (t : ℕ) → T (isKnownType t) → t < 4294967296
-unfolding isKnownType
-known-small t h = go 0 1 2 3 4 5 7 255 h (omega arith) (omega arith) (omega arith) (omega arith) (omega arith) (omega arith) (omega arith) (omega arith)
-  where
-    step : (c : ℕ) (b : Bool) → T (eqb t c || b) → c < 4294967296 → (T b → t < 4294967296) → t < 4294967296
-    step c b k l next = at (eqb t c) refl k
-      where
-        at : (e : Bool) → eqb t c ≡ e → T (e || b) → t < 4294967296
-        at true q k = let z = eqb-true t c q in omega arith
-        at false q k = next k
-
-    go : (a b c d e f g i : ℕ) → T (elem t (a ∷ b ∷ c ∷ d ∷ e ∷ f ∷ g ∷ i ∷ [])) → a < 4294967296 → b < 4294967296 → c < 4294967296 → d < 4294967296 → e < 4294967296 → f < 4294967296 → g < 4294967296 → i < 4294967296
-        → t < 4294967296
-    go a b c d e f g i k la lb lc ld le lf lg li =
-        step a (elem t (b ∷ c ∷ d ∷ e ∷ f ∷ g ∷ i ∷ [])) k la
-        (λ k. step b (elem t (c ∷ d ∷ e ∷ f ∷ g ∷ i ∷ [])) k lb
-        (λ k. step c (elem t (d ∷ e ∷ f ∷ g ∷ i ∷ [])) k lc
-        (λ k. step d (elem t (e ∷ f ∷ g ∷ i ∷ [])) k ld
-        (λ k. step e (elem t (f ∷ g ∷ i ∷ [])) k le
-        (λ k. step f (elem t (g ∷ i ∷ [])) k lf
-        (λ k. step g (elem t (i ∷ [])) k lg
-        (λ k. step i false k li (λ z. absurd z))))))))
-
 -- what a run of the segment's words is known to be
 pub record Own (s : Segment) (vs : List ℕ) : Type 0 where
   pub ordinals : isHeld s ≡ true → hasTerms (s .type) ≡ true → Below (length (s .terms)) vs
@@ -121,139 +90,106 @@ own-slice {s} a b {vs} o =
       none = λ e. ap (slice a b) (o .none e) ∙ slice-nil a b;
     }
 
-module _ {records : List (List ℕ)} {ids offsets values lengths bytes words : List ℕ} (c : Checked records ids offsets values lengths bytes words) {held : List ℕ}
-    (f : Flagged held (segmentsIn records ids offsets values lengths bytes words)) where
-  abbrev ss : List Segment
-  ss = segmentsIn records ids offsets values lengths bytes words
-
+module _ {stands : List (List ℕ)} {ids offsets values lengths bytes words : List ℕ} {ss : List Segment} (t : Table stands ids offsets values lengths bytes words ss) where
   -- a segment's part of the map
-  abbrev part : Segment → List ℕ
-  part s = cond (isHeld s) (map (ordinalOf (termsOf ss)) (s .terms)) []
+  abbrev parted : Segment → List ℕ
+  parted s = map (ordinalOf (termsOf ss)) (effective s .terms)
 
-  map-is : mapOf ss ≡ concat (map part ss)
-  unfolding mapOf heldOf
-  map-is = concat-filter isHeld (λ s. map (ordinalOf (termsOf ss)) (s .terms)) ss
+  part-length : (s : Segment) → length (parted s) ≡ length (effective s .terms)
+  part-length s = length-map (effective s .terms) (ordinalOf (termsOf ss))
 
-  module _ (k : ℕ) (h : k < length ss) where
-    h′ : k < length records
-    h′ = subst (λ (n : ℕ). k < n) (count-is c) h
+  map-is : mapOf ss ≡ concat (map parted ss)
+  unfolding mapOf heldOf effective asEmpty
+  map-is = concat-filter isHeld (λ s. map (ordinalOf (termsOf ss)) (s .terms)) ss ∙ ap concat (each ss)
+    where
+      one : (s : Segment) → cond (isHeld s) (map (ordinalOf (termsOf ss)) (s .terms)) [] ≡ parted s
+      one s = go (isHeld s)
+        where
+          go : (b : Bool) → cond b (map (ordinalOf (termsOf ss)) (s .terms)) [] ≡ map (ordinalOf (termsOf ss)) (cond b s (asEmpty s) .terms)
+          go true = refl
+          go false = refl
 
-    type-is : recordAt records k .type ≡ getD ss k absent .type
-    unfolding firstSegment
-    type-is = ap (λ (s : Segment). s .type) (sym (segment-is c k h′))
+      each : (l : List Segment) → map (λ s. cond (isHeld s) (map (ordinalOf (termsOf ss)) (s .terms)) []) l ≡ map parted l
+      each [] = refl
+      each (s ∷ l) = ap₂ (λ (x : List ℕ) (xs : List (List ℕ)). x ∷ xs) (one s) (each l)
 
-    terms-length : length (getD ss k absent .terms) ≡ recordAt records k .terms
-    unfolding firstSegment sectionsAt
-    terms-length =
-        let a = start-fits (λ r. r .terms) records (length lengths) k (terms-held c) h′ in
-        let b = start-total (λ r. r .terms) records k (omega (arith, h′)) in
-        ap (λ (s : Segment). length (s .terms)) (segment-is c k h′)
-        ∙ cut-length (take (recordAt records k .terms) (drop (total (λ (r : SegmentRecord). r .terms) (take k (recordsOf records))) lengths)) _
-        ∙ part-long (recordAt records k .terms) (total (λ (r : SegmentRecord). r .terms) (take k (recordsOf records))) lengths (omega arith)
-
-    part-length : termsIf records held k ≡ length (part (getD ss k absent))
-    unfolding termsIf
-    part-length = ap (λ (b : Bool). cond b (recordAt records k .terms) 0) (ap isSet (f .each k h) ∙ set-byte (isHeld (getD ss k absent))) ∙ go (isHeld (getD ss k absent))
-      where
-        go : (b : Bool) → cond b (recordAt records k .terms) 0 ≡ length (cond b (map (ordinalOf (termsOf ss)) (getD ss k absent .terms)) [])
-        go true = sym (length-map (getD ss k absent .terms) (ordinalOf (termsOf ss)) ∙ terms-length)
-        go false = refl
-
-  before-parts : (k : ℕ) → k ≤ length ss → termsBefore records held k ≡ sum (map (λ s. length (part s)) (take k ss))
-  unfolding termsBefore
-  before-parts k h = sums-are (termsIf records held) (λ s. length (part s)) ss absent (λ j q. part-length j q) k h
+  before-parts : (k : ℕ) → k ≤ length ss → mapBefore ss k ≡ sum (map (λ s. length (parted s)) (take k ss))
+  before-parts k h = sums-are (λ j. length (counted ss j .terms)) (λ s. length (parted s)) ss absent (λ j q. sym (part-length (getD ss j absent))) k h
 
   module _ {map′ : List ℕ} (m : Mapped map′ ss) (k : ℕ) (h : k < length ss) where
-    abbrev source : List ℕ
-    source = sourceAt records held k
+    abbrev p : Stand
+    p = standAt stands k
 
-    source-end : termsBefore records held k + termsIf records held k ≤ length (mapOf ss)
-    source-end =
-        let a = part-end part ss k absent h in
+    abbrev n : ℕ
+    n = length (counted ss k .terms)
+
+    part-fits : mapBefore ss k + n ≤ length (mapOf ss)
+    part-fits =
+        let a = part-end parted ss k absent h in
         let b = before-parts k (omega arith) in
-        let d = part-length k h in
-        let e : length (mapOf ss) ≡ length (concat (map part ss)) = ap length map-is in
+        let d = part-length (getD ss k absent) in
+        let e : length (mapOf ss) ≡ length (concat (map parted ss)) = ap length map-is in
         omega arith
 
-    pub source-map : mapAt source map′ ≡ part (getD ss k absent)
-    unfolding sourceAt
-    source-map =
-        front-run (termsBefore records held k) (termsIf records held k) (length (mapOf ss)) map′ (mapOf ss) (m .front) source-end
-        ∙ (λ i. take (part-length k h i) (drop (before-parts k (le-of-lt h) i) (map-is i)))
-        ∙ part-at part ss k absent h
+    map-at : mapAt p map′ ≡ parted (getD ss k absent)
+    map-at =
+        ap (λ (w : Span). part w map′) (t .map k h)
+        ∙ front-run (mapBefore ss k) n (length (mapOf ss)) map′ (mapOf ss) (m .front) part-fits
+        ∙ (λ i. take (sym (part-length (getD ss k absent)) i) (drop (before-parts k (le-of-lt h) i) (map-is i)))
+        ∙ part-at parted ss k absent h
 
-    fits-at : T (valuesFit (getD ss k absent))
-    fits-at = all-at valuesFit ss k absent (values-fit c) h
-
-    known-at : T (isKnownType (getD ss k absent .type))
-    unfolding segmentCodesWrong codesKnown
-    known-at =
-        let s = getD ss k absent in
-        let a = all-at (λ s. codesKnown s && noColumnIsBare s) ss k absent (not-false (all (λ s. codesKnown s && noColumnIsBare s) ss) (codes-right c)) h in
-        and3 (isKnownType (s .type)) (ltb (s .kind) 5) (ltb (s .flag) 2) (and-l (codesKnown s) (noColumnIsBare s) a) .0
+    map-lies : Lies (p .map) map′
+    map-lies = subst (λ (w : Span). Lies w map′) (sym (t .map k h)) (record { rises = omega arith; ends = let a = part-fits in let b = m .room in omega arith })
 
     ordinals-at : hasTerms (getD ss k absent .type) ≡ true → Below (length (getD ss k absent .terms)) (getD ss k absent .values)
     unfolding valuesFit
     ordinals-at e =
         let s = getD ss k absent in
-        let p = and4 (not (eqb (s .type) BoolType) || all (λ w. leb w 1) (s .values)) (not (hasTerms (s .type)) || all (λ w. ltb w (length (s .terms))) (s .values)) (termsAscending (s .terms)) (isEmpty (s .terms) || (hasTerms (s .type) && not (eqb (s .kind) 0))) fits-at .1 in
+        let p = and4 (not (eqb (s .type) BoolType) || all (λ w. leb w 1) (s .values)) (not (hasTerms (s .type)) || all (λ w. ltb w (length (s .terms))) (s .values)) (termsAscending (s .terms)) (isEmpty (s .terms) || (hasTerms (s .type) && not (eqb (s .kind) 0))) (t .worded k h) .1 in
         all-below (length (s .terms)) (s .values) (subst (λ (b : Bool). T (not b || all (λ w. ltb w (length (s .terms))) (s .values))) e p)
 
-    own-effective : Own (getD ss k absent) (effective (getD ss k absent) .values)
+    own-counted : Own (getD ss k absent) (counted ss k .values)
     unfolding asEmpty
-    own-effective =
+    own-counted =
         record {
-          ordinals = λ e t. subst (λ (s : Segment). Below (length (getD ss k absent .terms)) (s .values)) (sym (effective-held (getD ss k absent) e)) (ordinals-at t);
+          ordinals = λ e q. subst (λ (s : Segment). Below (length (getD ss k absent .terms)) (s .values)) (sym (effective-held (getD ss k absent) e)) (ordinals-at q);
           none = λ e. ap (λ (s : Segment). s .values) (effective-not (getD ss k absent) e);
         }
 
-    pub own-values : Own (getD ss k absent) (valuesAt (getD (placesOf records held) k []) values)
-    own-values = subst (Own (getD ss k absent)) (sym (stands c f k h .0 .values-are)) own-effective
+    pub own-values : Own (getD ss k absent) (valuesAt p values)
+    own-values = subst (Own (getD ss k absent)) (sym (t .each k h .values-are)) own-counted
 
-    source-is : getD (sourcesOf records held) k [] ≡ source
-    source-is = table-at (sourceAt records held) [] (length records) k (subst (λ (n : ℕ). k < n) (count-is c) h)
+    held-map : isHeld (getD ss k absent) ≡ true → mapAt p map′ ≡ map (ordinalOf (termsOf ss)) (getD ss k absent .terms)
+    held-map e = map-at ∙ ap (λ (s : Segment). map (ordinalOf (termsOf ss)) (s .terms)) (effective-held (getD ss k absent) e)
 
-    map-length : isHeld (getD ss k absent) ≡ true → length (mapAt source map′) ≡ length (getD ss k absent .terms)
-    map-length e = ap length (source-map ∙ ap (λ (b : Bool). cond b (map (ordinalOf (termsOf ss)) (getD ss k absent .terms)) []) e) ∙ length-map (getD ss k absent .terms) (ordinalOf (termsOf ss))
+    map-length : isHeld (getD ss k absent) ≡ true → length (mapAt p map′) ≡ length (getD ss k absent .terms)
+    map-length e = ap length (held-map e) ∙ length-map (getD ss k absent .terms) (ordinalOf (termsOf ss))
 
-    worded-source : (vs : List ℕ) → Own (getD ss k absent) vs → Worded source map′ vs
-    unfolding sourceAt
-    worded-source vs o =
-        record {
-          code = subst (λ (t : ℕ). t < 4294967296) (sym (type-is k h)) (known-small (getD ss k absent .type) known-at);
-          map-run = omega arith;
-          map-end = let a = source-end in let b = m .room in omega arith;
-          ordinals = λ e. go (isHeld (getD ss k absent)) refl (subst (λ (t : ℕ). hasTerms t ≡ true) (type-is k h) e);
-        }
+    pub worded : (vs : List ℕ) → Own (getD ss k absent) vs → Worded p map′ vs
+    worded vs o = record { code = t .small k h; map-lies = map-lies; ordinals = λ e. go (isHeld (getD ss k absent)) refl (subst (λ (n : ℕ). hasTerms n ≡ true) (t .type k h) e) }
       where
-        go : (b : Bool) → isHeld (getD ss k absent) ≡ b → hasTerms (getD ss k absent .type) ≡ true → Below (length (mapAt source map′)) vs
-        go true q t = subst (λ (n : ℕ). Below n vs) (sym (map-length q)) (o .ordinals q t)
-        go false q t = λ j l. absurd (not-suc-le-zero (subst (λ (x : List ℕ). j < length x) (o .none q) l))
+        go : (b : Bool) → isHeld (getD ss k absent) ≡ b → hasTerms (getD ss k absent .type) ≡ true → Below (length (mapAt p map′)) vs
+        go true q x = subst (λ (n : ℕ). Below n vs) (sym (map-length q)) (o .ordinals q x)
+        go false q x = λ j l. absurd (not-suc-le-zero (subst (λ (x : List ℕ). j < length x) (o .none q) l))
 
-    pub worded : (vs : List ℕ) → Own (getD ss k absent) vs → Worded (getD (sourcesOf records held) k []) map′ vs
-    worded vs o = subst (λ (s : List ℕ). Worded s map′ vs) (sym source-is) (worded-source vs o)
-
-    words-held : (to : ℕ) (vs : List ℕ) → Own (getD ss k absent) vs → isHeld (getD ss k absent) ≡ true → newWords to source map′ vs ≡ map (newWord to (termsOf ss) (getD ss k absent)) vs
-    unfolding newWords looked coercedAll newWord sourceAt
-    words-held to vs o e = ap (λ (t : ℕ). cond (hasTerms t) (looked (mapAt source map′) vs) (coercedAll t to vs)) (type-is k h) ∙ go (hasTerms (getD ss k absent .type)) refl
+    words-held : (to : ℕ) (vs : List ℕ) → Own (getD ss k absent) vs → isHeld (getD ss k absent) ≡ true → newWords to p map′ vs ≡ map (newWord to (termsOf ss) (getD ss k absent)) vs
+    unfolding wordsBy looked coercedAll newWord
+    words-held to vs o e = ap (λ (n : ℕ). cond (hasTerms n) (looked (mapAt p map′) vs) (coercedAll n to vs)) (t .type k h) ∙ go (hasTerms (getD ss k absent .type)) refl
       where
-        s : Segment
-        s = getD ss k absent
-
         go : (b : Bool) → hasTerms (getD ss k absent .type) ≡ b
-            → cond b (map (λ x. getD (mapAt source map′) x 0) vs) (map (coerced (getD ss k absent .type) to) vs) ≡ map (λ w. cond b (ordinalOf (termsOf ss) (getD (getD ss k absent .terms) w [])) (coerced (getD ss k absent .type) to w)) vs
+            → cond b (map (λ x. getD (mapAt p map′) x 0) vs) (map (coerced (getD ss k absent .type) to) vs) ≡ map (λ w. cond b (ordinalOf (termsOf ss) (getD (getD ss k absent .terms) w [])) (coerced (getD ss k absent .type) to w)) vs
         go true q =
-            map-below (λ x. getD (mapAt source map′) x 0) (λ w. ordinalOf (termsOf ss) (getD (getD ss k absent .terms) w [])) (length (getD ss k absent .terms)) vs
-            (λ w l. ap (λ (x : List ℕ). getD x w 0) (source-map ∙ ap (λ (b : Bool). cond b (map (ordinalOf (termsOf ss)) (getD ss k absent .terms)) []) e) ∙ getD-in (ordinalOf (termsOf ss)) (getD ss k absent .terms) w 0 [] l)
+            map-below (λ x. getD (mapAt p map′) x 0) (λ w. ordinalOf (termsOf ss) (getD (getD ss k absent .terms) w [])) (length (getD ss k absent .terms)) vs
+            (λ w l. ap (λ (x : List ℕ). getD x w 0) (held-map e) ∙ getD-in (ordinalOf (termsOf ss)) (getD ss k absent .terms) w 0 [] l)
             (o .ordinals e q)
         go false q = refl
 
-    pub words-are : (to : ℕ) (vs : List ℕ) → Own (getD ss k absent) vs → newWords to (getD (sourcesOf records held) k []) map′ vs ≡ map (newWord to (termsOf ss) (effective (getD ss k absent))) vs
-    words-are to vs o = ap (λ (s : List ℕ). newWords to s map′ vs) source-is ∙ go (isHeld (getD ss k absent)) refl
+    pub words-are : (to : ℕ) (vs : List ℕ) → Own (getD ss k absent) vs → newWords to p map′ vs ≡ map (newWord to (termsOf ss) (effective (getD ss k absent))) vs
+    words-are to vs o = go (isHeld (getD ss k absent)) refl
       where
-        go : (b : Bool) → isHeld (getD ss k absent) ≡ b → newWords to source map′ vs ≡ map (newWord to (termsOf ss) (effective (getD ss k absent))) vs
+        go : (b : Bool) → isHeld (getD ss k absent) ≡ b → newWords to p map′ vs ≡ map (newWord to (termsOf ss) (effective (getD ss k absent))) vs
         go true e = words-held to vs o e ∙ ap (λ (s : Segment). map (newWord to (termsOf ss) s) vs) (sym (effective-held (getD ss k absent) e))
         go false e =
-            ap (newWords to source map′) (o .none e)
-            ∙ words-none to source map′
+            ap (newWords to p map′) (o .none e)
+            ∙ words-none to (p .typ) (p .map) map′
             ∙ ap (map (newWord to (termsOf ss) (effective (getD ss k absent)))) (sym (o .none e))

@@ -1,74 +1,85 @@
--- The places that the passes leave are where the input's segments stand, as they count in the join, and the bytes say which are held. Assumes nothing.
-use Prim.Native.Nat.{ℕ, _-_, _≤_, _<_}
-use native.Mathlib.Nat.{le-refl, le-of-eq}
+-- The table that the passes over the records leave says where the input's segments stand. Assumes nothing.
+use Prim.Native.Nat.{ℕ, zero, suc, _+_, _-_, _≤_, _<_, zero-le, suc-le-suc}
+use native.Mathlib.Nat.{le-of-eq, add-sub-cancel-left}
 use native.Mathlib.Omega.{arith}
 use mathlib.Core.Path.{_≡_, refl, sym, ap, ap₂, _∙_, subst}
-use mathlib.Core.List.{List, []}
-use mathlib.Core.Bool.{Bool, true, false, cond}
-use lib.ListN.{length, getD}
-use lib.Dec.{T}
+use mathlib.Core.List.{List, [], _∷_}
+use mathlib.Core.Bool.{Bool, true, false, _&&_, _||_}
+use lib.ListN.{length, getD, take, drop, length-append, length-drop}
+use lib.Dec.{T, eqb, ltb}
+use lib.Ieee.Fits.{and-l, and-r}
+use lib.Seq.{take-add}
 use borrow.Author.Tests.{eqb-true}
-use Rattle.definitions.specs.Segment.{Segment, SegmentRecord, Sections, aliveWords, firstSegment}
-use Rattle.definitions.specs.Row.{isHeld, asEmpty, effective}
-use Rattle.definitions.specs.Class.{greatestClass}
+use Rattle.definitions.specs.Lists.{sum, all, elem, concat, isBelow, compareBytes, termsAscending, termsAscendingFrom}
+use Rattle.definitions.specs.Segment.{Segment, SegmentRecord, Sections, cut, firstSegment}
+use Rattle.definitions.specs.Types.{isKnownType}
 use Rattle.definitions.specs.Join.{absent}
-use Rattle.definitions.specs.Answer.{total, indexFits}
-use Rattle.definitions.proofs.Cell.{either, effective-rows, effective-fits}
-use Rattle.segment.specs.Records.{recordsOf, sectionsIn, segmentsIn, recordAt}
-use Rattle.segment.proofs.At.{sectionsAt, segments-many, segment-is as at-start}
-use Rattle.runs.specs.Put.{put}
-use Rattle.runs.proofs.Laws.{put-at}
-use Rattle.places.specs.Place.{run}
-use Rattle.places.specs.Places.{table, isSet, wordsBefore, rawAt, placeIf, keptAt, aliveAt, rawPlaces, placesOf, alivesOf}
-use Rattle.places.specs.Stack.{AllSound}
-use Rattle.places.proofs.Bridge.{Stands, sound-stands}
-use Rattle.places.proofs.Raw.{Held, stands-there, flag-there, words-there, words-end}
-use Rattle.places.proofs.Fill.{table-length, table-at}
-use Rattle.segment.specs.Lent.{Checked}
-use Rattle.segment.proofs.Lent.{index-fits, sums-low}
-use Rattle.column_index_merge.specs.Class.{Classed, AllClassed, classIn, greatestIn}
-use Rattle.column_index_merge.specs.Held.{heldIn, byteOf, heldAt, Flagged}
-use Rattle.column_index_merge.proofs.Rules.{class-is, held-is, greatest-is}
+use Rattle.definitions.specs.Answer.{indexFits, valuesFit, bytesIn, codesKnown, noColumnIsBare, segmentCodesWrong}
+use Rattle.definitions.proofs.Accept.{not-false}
+use Rattle.definitions.proofs.Lists.{and3}
 use Rattle.lists.proofs.Lists.{all-at}
-use Rattle.lists.proofs.Sums.{sum-at}
-use Rattle.segment.proofs.Walk.{words-enough}
-use Rattle.sections_fit.proofs.Seven.{ready}
+use Rattle.lists.proofs.Cuts.{cut-bytes}
+use Rattle.lists.proofs.Parts.{run-length}
+use Rattle.definitions.proofs.Sections.{cut-length}
+use Rattle.lists.proofs.Sums.{sum-at, sum-append, sum-take-le}
+use Rattle.segment.specs.Records.{recordsOf, sectionsIn, segmentsIn, recordAt, startAt}
+use Rattle.segment.specs.Lent.{Checked}
+use Rattle.segment.proofs.At.{sectionsAt, segments-many, segment-is, start-total, start-mono, start-fits}
+use Rattle.segment.proofs.Lent.{few-records, index-fits, values-fit, codes-right, sums-low}
 use Rattle.sections_fit.specs.Walks.{Exact}
+use Rattle.sections_fit.proofs.Seven.{ready}
+use Rattle.stands.specs.declared.Span.{Span}
+use Rattle.stands.specs.declared.Stand.{Stand}
+use Rattle.stands.specs.Stand.{part, many, span, Lies, standOf, numbersOf, standAt, standIn, standsIn}
+use Rattle.stands.specs.Look.{Stands}
+use Rattle.stands.proofs.Bridge.{count-stands, sound-stands}
+use Rattle.stands.proofs.Fill.{table-length, table-at}
+use Rattle.stands.proofs.There.{Held, stands-there}
+use Rattle.census.specs.Settled.{AllReady}
+use Rattle.census.specs.Table.{Table}
+use Rattle.census.proofs.Table.{ascends, Raw, table-is, textBefore}
+use Rattle.merge_column.specs.Plan.{settledOf}
 
-none-of : (a : ℕ) (whole : List ℕ) → run a a whole ≡ []
-none-of a whole = let k : a - a ≡ 0 = omega arith in rw k
+known-small : (t : ℕ) → T (isKnownType t) → t < 4294967296
+unfolding isKnownType
+known-small t h = go 0 1 2 3 4 5 7 255 h (omega arith) (omega arith) (omega arith) (omega arith) (omega arith) (omega arith) (omega arith) (omega arith)
+  where
+    step : (c : ℕ) (b : Bool) → T (eqb t c || b) → c < 4294967296 → (T b → t < 4294967296) → t < 4294967296
+    step c b k l next = at (eqb t c) refl k
+      where
+        at : (e : Bool) → eqb t c ≡ e → T (e || b) → t < 4294967296
+        at true q k = let z = eqb-true t c q in omega arith
+        at false q k = next k
 
-effective-flag : (s : Segment) → effective s .flag ≡ s .flag
-unfolding effective asEmpty
-effective-flag s = either (λ (t : Segment). t .flag ≡ s .flag) (isHeld s) s (asEmpty s) refl refl
+    go : (a b c d e f g i : ℕ) → T (elem t (a ∷ b ∷ c ∷ d ∷ e ∷ f ∷ g ∷ i ∷ [])) → a < 4294967296 → b < 4294967296 → c < 4294967296 → d < 4294967296 → e < 4294967296 → f < 4294967296 → g < 4294967296 → i < 4294967296
+        → t < 4294967296
+    go a b c d e f g i k la lb lc ld le lf lg li =
+        step a (elem t (b ∷ c ∷ d ∷ e ∷ f ∷ g ∷ i ∷ [])) k la
+        (λ k. step b (elem t (c ∷ d ∷ e ∷ f ∷ g ∷ i ∷ [])) k lb
+        (λ k. step c (elem t (d ∷ e ∷ f ∷ g ∷ i ∷ [])) k lc
+        (λ k. step d (elem t (e ∷ f ∷ g ∷ i ∷ [])) k ld
+        (λ k. step e (elem t (f ∷ g ∷ i ∷ [])) k le
+        (λ k. step f (elem t (g ∷ i ∷ [])) k lf
+        (λ k. step g (elem t (i ∷ [])) k lg
+        (λ k. step i false k li (λ z. absurd z))))))))
 
-effective-alive : (s : Segment) → effective s .alive ≡ s .alive
-unfolding effective asEmpty
-effective-alive s = either (λ (t : Segment). t .alive ≡ s .alive) (isHeld s) s (asEmpty s) refl refl
+-- only the first of ascending terms may be empty
+not-empty : (t u : List ℕ) → T (isBelow (compareBytes t u)) → 1 ≤ length u
+not-empty [] [] h = absurd h
+not-empty (x ∷ t) [] h = absurd h
+not-empty t (y ∷ u) h = suc-le-suc zero-le
 
--- a place as it counts
-kept-stands : (b : Bool) {p ids offsets values : List ℕ} {s : Segment} → Stands p ids offsets values s → Stands (placeIf b p) ids offsets values (cond b s (asEmpty s))
-unfolding placeIf asEmpty
-kept-stands true st = st
-kept-stands false {p} {ids} {offsets} {values} st =
-    record {
-      kind = refl;
-      rows = st .rows;
-      ids-are = none-of (getD p 2 0) ids;
-      offsets-are = none-of (getD p 4 0) offsets;
-      values-are = none-of (getD p 6 0) values;
-      ids-run = le-refl (getD p 2 0);
-      ids-end = let a = st .ids-run in let b = st .ids-end in omega arith;
-      offsets-run = le-refl (getD p 4 0);
-      offsets-end = let a = st .offsets-run in let b = st .offsets-end in omega arith;
-      values-run = le-refl (getD p 6 0);
-      values-end = let a = st .values-run in let b = st .values-end in omega arith;
-    }
+more-bytes : (t : List ℕ) (us : List (List ℕ)) → T (termsAscendingFrom t us) → length us ≤ length (concat us)
+more-bytes t [] h = zero-le
+more-bytes t (u ∷ us) h =
+    let a = not-empty t u (and-l (isBelow (compareBytes t u)) (termsAscendingFrom u us) h) in
+    let b = more-bytes u us (and-r (isBelow (compareBytes t u)) (termsAscendingFrom u us) h) in
+    let e = length-append u (concat us) in
+    omega arith
 
-pub set-byte : (b : Bool) → isSet (byteOf b) ≡ b
-unfolding byteOf
-set-byte true = refl
-set-byte false = refl
+few-terms : (ts : List (List ℕ)) → T (termsAscending ts) → length ts ≤ suc (length (concat ts))
+few-terms [] h = zero-le
+few-terms (t ∷ ts) h = let a = more-bytes t ts h in let e = length-append t (concat ts) in omega arith
 
 module _ {records : List (List ℕ)} {ids offsets values lengths bytes words : List ℕ} (c : Checked records ids offsets values lengths bytes words) where
   abbrev ss : List Segment
@@ -77,8 +88,11 @@ module _ {records : List (List ℕ)} {ids offsets values lengths bytes words : L
   abbrev sections : Sections
   sections = sectionsIn ids offsets values lengths bytes words
 
-  pub count-is : length ss ≡ length records
-  count-is = segments-many records sections
+  abbrev terms : SegmentRecord → ℕ
+  terms r = r .terms
+
+  many-segments : length ss ≡ length records
+  many-segments = segments-many records sections
 
   -- check 2: the sections hold what the records announce
   exact : Exact (recordsOf records) sections
@@ -87,119 +101,142 @@ module _ {records : List (List ℕ)} {ids offsets values lengths bytes words : L
   runs-held : Held records ids offsets values words
   runs-held = record { ids = le-of-eq (exact .ids); offsets = le-of-eq (exact .offsets); values = le-of-eq (exact .values); words = le-of-eq (exact .alive) }
 
-  pub terms-held : total (λ (r : SegmentRecord). r .terms) (recordsOf records) ≤ length lengths
-  terms-held = le-of-eq (exact .terms)
+  module _ (k : ℕ) (h : k < length ss) where
+    inside : k < length records
+    inside = subst (λ (n : ℕ). k < n) many-segments h
 
-  module _ (k : ℕ) (h : k < length records) where
-    pub segment-is : getD ss k absent ≡ firstSegment (recordAt records k) (sectionsAt k (recordsOf records) sections)
-    segment-is = at-start records sections k h
+    there : standAt (standsIn records) k ≡ standIn records k
+    there = ap standOf (table-at (λ j. numbersOf (standIn records j)) [] (length records) k inside)
 
-    pub raw-stands : Stands (rawAt records k) ids offsets values (getD ss k absent)
-    raw-stands = stands-there records ids offsets values lengths bytes words runs-held k h
+    segment : getD ss k absent ≡ firstSegment (recordAt records k) (sectionsAt k (recordsOf records) sections)
+    segment = segment-is records sections k inside
 
-    pub fits-at : T (indexFits (getD ss k absent))
-    fits-at = all-at indexFits ss k absent (index-fits c) (omega (arith, count-is))
+    fits : T (indexFits (getD ss k absent))
+    fits = all-at indexFits ss k absent (index-fits c) h
 
-    rows-at : getD ss k absent .rows ≤ 4294967294
-    rows-at =
-        let b = sums-low c .0 in
-        let d = sum-at (λ (s : Segment). s .rows) ss k absent (omega (arith, count-is)) in
+    known : T (isKnownType (getD ss k absent .type))
+    unfolding segmentCodesWrong codesKnown
+    known =
+        let s = getD ss k absent in
+        let a = all-at (λ s. codesKnown s && noColumnIsBare s) ss k absent (not-false (all (λ s. codesKnown s && noColumnIsBare s) ss) (codes-right c)) h in
+        and3 (isKnownType (s .type)) (ltb (s .kind) 5) (ltb (s .flag) 2) (and-l (codesKnown s) (noColumnIsBare s) a) .0
+
+    rows-low : getD ss k absent .rows ≤ 4294967294
+    rows-low = let b = sums-low c .0 in let d = sum-at (λ (s : Segment). s .rows) ss k absent h in omega arith
+
+    values-low : length (getD ss k absent .values) ≤ 4294967294
+    values-low = let b = sums-low c .1 in let d = sum-at (λ (s : Segment). length (s .values)) ss k absent h in omega arith
+
+    raw-type : standIn records k .typ ≡ getD ss k absent .type
+    unfolding standIn firstSegment
+    raw-type = ap (λ (s : Segment). s .type) (sym segment)
+
+    raw-terms : standAt (standsIn records) k .terms ≡ span (startAt terms records k) (recordAt records k .terms)
+    unfolding standIn
+    raw-terms = ap (λ (p : Stand). p .terms) there
+
+    part-is : part (standAt (standsIn records) k .terms) lengths ≡ take (recordAt records k .terms) (drop (startAt terms records k) lengths)
+    part-is =
+        ap (λ (w : Span). part w lengths) raw-terms
+        ∙ ap (λ (n : ℕ). take n (drop (startAt terms records k) lengths)) (add-sub-cancel-left (startAt terms records k) (recordAt records k .terms))
+
+  abbrev text : ℕ → ℕ
+  text k = textBefore (standsIn records) lengths k
+
+  -- the term bytes of the segments before
+  text-is : (k : ℕ) → k ≤ length ss → text k ≡ sum (take (startAt terms records k) lengths)
+  text-is zero h = refl
+  text-is (suc k) h =
+      ap₂ (λ (a b : ℕ). a + b) (text-is k (omega arith)) (ap sum (part-is k h))
+      ∙ sym (ap sum (take-add (startAt terms records k) (recordAt records k .terms) lengths) ∙ sum-append (take (startAt terms records k) lengths) (take (recordAt records k .terms) (drop (startAt terms records k) lengths)))
+
+  module _ (k : ℕ) (h : k < length ss) where
+    text-in : text k + sum (part (standAt (standsIn records) k .terms) lengths) ≤ length bytes
+    text-in = omega (arith, text-is (suc k) h, sum-take-le lengths (startAt terms records (suc k)), exact .bytes)
+
+    dict : cut (part (standAt (standsIn records) k .terms) lengths) (drop (text k) bytes) ≡ getD ss k absent .terms
+    unfolding firstSegment sectionsAt
+    dict =
+        ap₂ (λ (l : List ℕ) (n : ℕ). cut l (drop n bytes)) (part-is k h) (text-is k (omega arith))
+        ∙ ap (λ (n : ℕ). cut (take (recordAt records k .terms) (drop n lengths)) (drop (sum (take n lengths)) bytes)) (start-total terms records k (let l = inside k h in omega arith))
+        ∙ ap (λ (s : Segment). s .terms) (sym (segment k h))
+
+    terms-lie : Lies (standAt (standsIn records) k .terms) lengths
+    terms-lie =
+        subst (λ (w : Span). Lies w lengths) (sym (raw-terms k h))
+        (record { rises = omega arith; ends = start-fits terms records (length lengths) k (le-of-eq (exact .terms)) (inside k h) })
+
+    stands-at : Stands (standAt (standsIn records) k) ids offsets values words (getD ss k absent)
+    stands-at = subst (λ (p : Stand). Stands p ids offsets values words (getD ss k absent)) (sym (there k h)) (stands-there records ids offsets values lengths bytes words runs-held k (inside k h))
+
+    typed : standAt (standsIn records) k .typ ≡ getD ss k absent .type
+    typed = ap (λ (p : Stand). p .typ) (there k h) ∙ raw-type k h
+
+    long : many (standAt (standsIn records) k .terms) ≡ length (getD ss k absent .terms)
+    long =
+        sym (sym (ap length (dict)) ∙ cut-length (part (standAt (standsIn records) k .terms) lengths) (drop (text k) bytes)
+        ∙ run-length (standAt (standsIn records) k .terms .from) (standAt (standsIn records) k .terms .to) lengths (terms-lie .ends))
+
+    text-low : sum (part (standAt (standsIn records) k .terms) lengths) ≤ 4294967294
+    text-low =
+        let d : length (drop (text k) bytes) ≡ length bytes - text k = length-drop (text k) bytes in
+        let e = cut-bytes (part (standAt (standsIn records) k .terms) lengths) (drop (text k) bytes) (omega (arith, text-in)) in
+        let f = ap (λ (z : List (List ℕ)). length (concat z)) dict in
+        let a = sums-low c .2 in
+        let b = sum-at bytesIn ss k absent h in
         omega arith
 
-    -- ---- the alive set
+    terms-low : many (standAt (standsIn records) k .terms) ≤ 4294967296
+    terms-low =
+        let a = sums-low c .2 in
+        let b = sum-at bytesIn ss k absent h in
+        let d = few-terms (getD ss k absent .terms) (ascends (getD ss k absent) (all-at valuesFit ss k absent (values-fit c) h)) in
+        omega (arith, long)
 
-    pub alive-flag : getD (aliveAt records k) 0 0 ≡ getD ss k absent .flag
-    alive-flag = flag-there records ids offsets values lengths bytes words runs-held k h
-
-    pub alive-run : run (getD (aliveAt records k) 1 0) (getD (aliveAt records k) 2 0) words ≡ getD ss k absent .alive
-    alive-run = words-there records ids offsets values lengths bytes words runs-held k h
-
-    classed-at : {p : List ℕ} {s : Segment} → Stands p ids offsets values s → T (indexFits s) → s .rows ≡ getD ss k absent .rows → Classed p (aliveAt records k) ids offsets words
-    unfolding rawAt aliveAt wordsBefore aliveWords
-    classed-at {p} {s} st fit e =
-        record {
-          sound = sound-stands st fit;
-          rows = let a = st .rows in let b = rows-at in omega arith;
-          words-run = omega arith;
-          words-end = words-end records ids offsets values lengths bytes words runs-held k h;
-          enough = λ q.
-              let w = words-enough (recordAt records k) (eqb-true (recordAt records k .flag) 1 q) in
-              let a = st .rows in
-              let b : getD ss k absent .rows ≡ recordAt records k .rows = sym (raw-stands .rows) in
-              omega arith;
-        }
-
-    pub held-at : heldIn (recordAt records k .type) (rawAt records k) (aliveAt records k) ids offsets words ≡ isHeld (getD ss k absent)
-    unfolding firstSegment
-    held-at =
-        ap (λ (t : ℕ). heldIn t (rawAt records k) (aliveAt records k) ids offsets words) (ap (λ (s : Segment). s .type) (sym segment-is))
-        ∙ held-is (aliveAt records k) words raw-stands fits-at alive-flag alive-run
-
-  -- ---- fill_held: what it asks, and what it leaves
-
-  pub raw-classed : AllClassed (rawPlaces records) (alivesOf records) ids offsets words
-  raw-classed =
+  raw : Raw (standsIn records) ids offsets values lengths bytes words ss
+  raw =
       record {
-        each = λ k h.
-            let q : k < length records = omega (arith, table-length (rawAt records) (length records)) in (
-              omega (arith, table-length (aliveAt records) (length records)),
-              rw (table-at (rawAt records) [] (length records) k q, table-at (aliveAt records) [] (length records) k q) (classed-at k q (raw-stands k q) (fits-at k q) refl),
-            );
+        size = table-length (λ j. numbersOf (standIn records j)) (length records) ∙ sym many-segments;
+        few = omega (arith, many-segments, few-records c);
+        fits = fits;
+        worded = λ k h. all-at valuesFit ss k absent (values-fit c) h;
+        rows = sums-low c .0;
+        values-low = sums-low c .1;
+        each = stands-at;
+        type = typed;
+        small = λ k h. subst (λ (n : ℕ). n < 4294967296) (sym (typed k h)) (known-small (getD ss k absent .type) (known k h));
+        terms-lie = terms-lie;
+        text-in = text-in;
+        dict = dict;
+        apart = λ j k l h.
+            let a = ap (λ (w : Span). w .to) (raw-terms j (omega arith)) in
+            let b = ap (λ (w : Span). w .from) (raw-terms k h) in
+            let d = start-mono terms records (suc j) k l in
+            omega arith;
       }
 
-  pub flagged : (old : List ℕ) → Flagged (put 0 (table (heldAt records (rawPlaces records) (alivesOf records) ids offsets words) (length (rawPlaces records))) old) ss
-  unfolding heldAt
-  flagged old =
+  -- what `prepare` asks, and what it leaves
+  pub all-ready : AllReady (standsIn records) ids offsets lengths words
+  all-ready =
       record {
-        each = λ k h.
-            let q : k < length records = omega (arith, count-is) in
-            let l : length (rawPlaces records) ≡ length records = table-length (rawAt records) (length records) in
-            let m : k < length (table (heldAt records (rawPlaces records) (alivesOf records) ids offsets words) (length (rawPlaces records))) = omega (arith, table-length (heldAt records (rawPlaces records) (alivesOf records) ids offsets words) (length (rawPlaces records))) in
-            put-at (table (heldAt records (rawPlaces records) (alivesOf records) ids offsets words) (length (rawPlaces records))) old k 0 m
-            ∙ table-at (heldAt records (rawPlaces records) (alivesOf records) ids offsets words) 0 (length (rawPlaces records)) k (omega arith)
-            ∙ ap₂ (λ (p a : List ℕ). byteOf (heldIn (recordAt records k .type) p a ids offsets words)) (table-at (rawAt records) [] (length records) k q) (table-at (aliveAt records) [] (length records) k q)
-            ∙ ap byteOf (held-at k q);
+        few = omega (arith, table-length (λ j. numbersOf (standIn records j)) (length records), few-records c);
+        each = λ k q.
+            let h : k < length ss = omega (arith, table-length (λ j. numbersOf (standIn records j)) (length records), many-segments) in
+            let st = stands-at k h in
+            record {
+              countable =
+                  record {
+                    sound = sound-stands st (fits k h);
+                    rows = omega (arith, st .rows, rows-low k h);
+                    few = omega (arith, count-stands st, values-low k h);
+                    words-lie = st .words-lie;
+                    enough = λ e. let a = st .enough (sym (st .flag) ∙ e) in omega (arith, st .rows);
+                  };
+              terms-lie = terms-lie k h;
+              terms-few = terms-low k h;
+              text-few = omega (arith, text-low k h);
+            };
       }
 
-  -- ---- the places as they count
-
-  module _ {held : List ℕ} (f : Flagged held ss) where
-    pub places-length : length (placesOf records held) ≡ length ss
-    places-length = table-length (keptAt held (rawPlaces records)) (length (rawPlaces records)) ∙ table-length (rawAt records) (length records) ∙ sym count-is
-
-    place-is : (k : ℕ) → k < length records → getD (placesOf records held) k [] ≡ placeIf (isHeld (getD ss k absent)) (rawAt records k)
-    unfolding keptAt
-    place-is k h =
-        table-at (keptAt held (rawPlaces records)) [] (length (rawPlaces records)) k (omega (arith, table-length (rawAt records) (length records)))
-        ∙ ap₂ placeIf (ap isSet (f .each k (omega (arith, count-is))) ∙ set-byte (isHeld (getD ss k absent))) (table-at (rawAt records) [] (length records) k h)
-
-    pub stands : (k : ℕ) → k < length ss → Stands (getD (placesOf records held) k []) ids offsets values (effective (getD ss k absent)) × T (indexFits (effective (getD ss k absent)))
-    unfolding effective
-    stands k h =
-        let q : k < length records = omega (arith, count-is) in
-        (subst (λ (p : List ℕ). Stands p ids offsets values (effective (getD ss k absent))) (sym (place-is k q)) (kept-stands (isHeld (getD ss k absent)) (raw-stands k q)), effective-fits (getD ss k absent) (fits-at k q))
-
-    -- ---- greatest_class: what it asks, and what it gives
-
-    pub classed : AllClassed (placesOf records held) (alivesOf records) ids offsets words
-    classed =
-        record {
-          each = λ k h.
-              let q : k < length records = omega (arith, places-length, count-is) in
-              let t = stands k (omega (arith, count-is)) in (
-                omega (arith, table-length (aliveAt records) (length records)),
-                rw (table-at (aliveAt records) [] (length records) k q) (classed-at k q (t .0) (t .1) (effective-rows (getD ss k absent))),
-              );
-        }
-
-    pub class-are : greatestIn (placesOf records held) (alivesOf records) ids offsets words ≡ greatestClass ss
-    class-are =
-        greatest-is (placesOf records held) (alivesOf records) ids offsets words ss places-length (table-length (aliveAt records) (length records) ∙ sym count-is)
-        (λ k h.
-        let q : k < length records = omega (arith, count-is) in
-        let t = stands k h in
-        ap (λ (a : List ℕ). classIn (getD (placesOf records held) k []) a ids offsets words) (table-at (aliveAt records) [] (length records) k q)
-        ∙ class-is (aliveAt records k) words (t .0) (t .1) (alive-flag k q ∙ sym (effective-flag (getD ss k absent))) (alive-run k q ∙ sym (effective-alive (getD ss k absent))))
-
-    pub all-sound : AllSound (placesOf records held) ids offsets
-    all-sound = record { each = λ k h. let t = stands k (omega (arith, places-length)) in sound-stands (t .0) (t .1) }
+  pub table-of : Table (settledOf records ids offsets lengths words) ids offsets values lengths bytes words ss
+  table-of = table-is raw

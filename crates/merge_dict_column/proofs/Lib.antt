@@ -1,4 +1,3 @@
 pub mod Ends
 pub mod Bridge
 pub mod Given
-pub mod Dictionary

@@ -1,36 +1,37 @@
--- The dictionaries of the held segments in the flat runs, and what is merged of them. Assumes nothing.
+-- The dictionaries of the segments, where they stand, and what is merged of them. Assumes nothing.
 use Prim.Native.Nat.{ℕ, _≤_, _<_}
+use mathlib.Core.Path.{_≡_}
 use mathlib.Core.Bool.{Bool}
 use mathlib.Core.List.{List}
 use lib.Dec.{T}
-use lib.ListN.{length, take, drop}
+use lib.ListN.{length, drop}
 use Rattle.definitions.specs.Lists.{termsAscending}
 use Rattle.definitions.specs.Segment.{cut}
-use Rattle.term_cursors.specs.Runs.{heldAt, posAt, fromAt, toAt, textAt}
+use Rattle.stands.specs.Stand.{part, standAt}
+use Rattle.term_cursors.specs.Runs.{termsBefore, textBefore}
 use Rattle.term_walk.specs.Walk.{termsTo, mapTo, Merged}
 
--- the dictionary of a held segment, nothing for another
-unfoldable pub heldDict : List (List ℕ) → List ℕ → List ℕ → List ℕ → ℕ → List (List ℕ)
-heldDict records held lengths bytes s = cut (take (heldAt records held s) (drop (posAt records s) lengths)) (drop (fromAt records lengths s) bytes)
+-- a segment's dictionary; one that is not held has none
+unfoldable pub dictAt : List (List ℕ) → List ℕ → List ℕ → ℕ → List (List ℕ)
+dictAt stands lengths bytes s = cut (part (standAt stands s .terms) lengths) (drop (standAt stands s .text .from) bytes)
 
--- the marked terms of the held segments, ascending, each once
-unfoldable pub mergedTerms : List (List ℕ) → List ℕ → List ℕ → List ℕ → List ℕ → Bool → List (List ℕ)
-mergedTerms records held lengths bytes marks all = termsTo marks all (posAt records) (heldDict records held lengths bytes) (length records)
+-- the marked terms, ascending, each once
+unfoldable pub mergedTerms : List (List ℕ) → List ℕ → List ℕ → List ℕ → Bool → List (List ℕ)
+mergedTerms stands lengths bytes marks all = termsTo marks all (λ s. standAt stands s .terms .from) (dictAt stands lengths bytes) (length stands)
 
--- each old ordinal's new one, held segment by segment
-unfoldable pub mergedMap : List (List ℕ) → List ℕ → List ℕ → List ℕ → List ℕ → Bool → List ℕ
-mergedMap records held lengths bytes marks all = mapTo (mergedTerms records held lengths bytes marks all) (heldDict records held lengths bytes) (length records)
+-- each old ordinal's new one, segment by segment
+unfoldable pub mergedMap : List (List ℕ) → List ℕ → List ℕ → List ℕ → Bool → List ℕ
+mergedMap stands lengths bytes marks all = mapTo (mergedTerms stands lengths bytes marks all) (dictAt stands lengths bytes) (length stands)
 
--- ---- what the walk needs of the texts and the outputs
+-- what the walk needs of the texts, the map and the outputs
+pub record Texts (stands : List (List ℕ)) (lengths bytes lens outs ords : List ℕ) : Type 0 where
+  pub ascending : (s : ℕ) → s < length stands → T (termsAscending (dictAt stands lengths bytes s))
+  pub starts : (s : ℕ) → s < length stands → standAt stands s .map .from ≡ termsBefore stands s
+  pub terms : termsBefore stands (length stands) ≤ length lens
+  pub places : termsBefore stands (length stands) ≤ length ords
+  pub texts : textBefore stands lengths (length stands) ≤ length outs
+  pub narrow : textBefore stands lengths (length stands) < 4294967296
 
-pub record Texts (records : List (List ℕ)) (held lengths bytes : List ℕ) (lens outs ords : List ℕ) : Type 0 where
-  pub ascending : (s : ℕ) → T (termsAscending (heldDict records held lengths bytes s))
-  pub terms : toAt records held (length records) ≤ length lens
-  pub places : toAt records held (length records) ≤ length ords
-  pub texts : textAt records held lengths (length records) ≤ length outs
-  pub narrow : textAt records held lengths (length records) < 4294967296
-
--- ---- what is left at the end
-
-abbrev pub Dictionary : List (List ℕ) → List ℕ → List ℕ → List ℕ → List ℕ → Bool → List ℕ → List ℕ → List ℕ → ℕ → ℕ → ℕ → List ℕ → List ℕ → List ℕ → Type 0
-Dictionary records held lengths bytes marks all = Merged (mergedTerms records held lengths bytes marks all) (mergedMap records held lengths bytes marks all)
+-- what is left at the end
+abbrev pub Dictionary : List (List ℕ) → List ℕ → List ℕ → List ℕ → Bool → List ℕ → List ℕ → List ℕ → ℕ → ℕ → ℕ → List ℕ → List ℕ → List ℕ → Type 0
+Dictionary stands lengths bytes marks all = Merged (mergedTerms stands lengths bytes marks all) (mergedMap stands lengths bytes marks all)

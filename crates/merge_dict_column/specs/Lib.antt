@@ -1,3 +1,2 @@
 pub mod Dict
-pub mod Stands
 pub mod Fill

@@ -1,3 +1,4 @@
 pub mod Laws
 pub mod Marks
+pub mod Stood
 pub mod Own

@@ -1,34 +1,31 @@
 -- The checks 8 and 9 as the code makes them are the definitions' own. Assumes nothing.
 use mathlib.Core.Path.{_≡_, refl, sym, ap, ap₂, _∙_}
 use mathlib.Core.Bool.{Bool, true, false, not, _&&_, _||_, cond, and-assoc}
-use mathlib.Core.List.{List, [], _∷_, _++_, map}
+use mathlib.Core.List.{List, [], _∷_, map}
 use Prim.Native.Nat.{ℕ, zero, suc, _+_, _≤_}
+use native.Mathlib.Nat.{le-refl}
 use native.Mathlib.Omega.{arith}
 use lib.Dec.{eqb, ltb}
 use lib.ListN.{length, getD, length-map}
+use lib.Seq.{take-length}
 use borrow.Author.Tests.{eq-eqb, ne-eqb, ltb-false, not-true}
-use Rattle.definitions.specs.Lists.{all, filter, upTo}
-use Rattle.definitions.specs.Segment.{SegmentRecord, Sections, Address, Input, firstSegment, afterFirst, segmentsFrom, segmentsOf, addressFrom, address}
-use Rattle.definitions.specs.Row.{isAlive}
-use Rattle.definitions.specs.Join.{absent, stackedFrom}
-use Rattle.definitions.specs.Answer.{total, isListed, isRepeated, isAliveAt, aliveAddresses, listsAliveRows, addressesWrong, workingTooSmall}
+use Rattle.definitions.specs.Lists.{sum, count, upTo}
+use Rattle.definitions.specs.Segment.{SegmentRecord, Sections, Segment, Address, Input, firstSegment, afterFirst, segmentsFrom, segmentsOf, addressFrom}
+use Rattle.definitions.specs.Row.{isAlive, aliveRows}
+use Rattle.definitions.specs.Join.{absent}
+use Rattle.definitions.specs.Answer.{total, isRepeated, isAliveAt, aliveAddresses, listsAliveRows, addressesWrong, workingTooSmall}
+use Rattle.definitions.proofs.TimeOrder.{filter-count, alive-total}
 use Rattle.segment.specs.Lent.{addressesOf}
+use Rattle.alive_set.proofs.Ones.{count-same}
 use Rattle.sections_fit.specs.Walks.{Exact}
 use Rattle.sections_fit.proofs.Own.{rows-all, terms-sum}
-use Rattle.merge_mapping.specs.Mapping.{noRecord, rowAlive, wordsOf, aliveIn, stackedRows, aliveListed, eachOnce, addressesRight, roomEnough}
+use Rattle.merge_mapping.specs.Mapping.{noRecord, rowAlive, wordsOf, aliveIn, aliveMany, eachOnce, addressesRight, roomEnough}
 use Rattle.merge_mapping.proofs.Marks.{words-after, words-first}
+use Rattle.lists.specs.Sums.{sumBelow}
+use Rattle.lists.proofs.Sums.{sums-are}
 use Rattle.lists.proofs.Lists.{empty-length, all-ext}
+use Rattle.lists.proofs.Distinct.{lists-by-count}
 use Rattle.segment.proofs.At.{segments-length}
-
--- ---- lists
-
-all-filter : {A : Type 0} (p q : A → Bool) (xs : List A) → all q (filter p xs) ≡ all (λ x. not (p x) || q x) xs
-all-filter p q [] = refl
-all-filter p q (x ∷ xs) = go (all-filter p q xs) (p x)
-  where
-    go : all q (filter p xs) ≡ all (λ y. not (p y) || q y) xs → (b : Bool) → all q (cond b (x ∷ filter p xs) (filter p xs)) ≡ (not b || q x) && all (λ y. not (p y) || q y) xs
-    go e true = ap (λ (t : Bool). q x && t) e
-    go e false = e
 
 -- ---- alive rows
 
@@ -52,22 +49,27 @@ alive-is rs s a =
 
 -- ---- 9
 
-stacked-is : (n : ℕ) (rs : List SegmentRecord) (s : Sections) → stackedFrom n (segmentsFrom rs s) ≡ stackedRows n rs
-unfolding firstSegment
-stacked-is n [] s = refl
-stacked-is n (r ∷ rs) s = ap (λ (l : List Address). map (address n) (upTo (r .rows)) ++ l) (stacked-is (suc n) rs (afterFirst r s))
-
-alive-listed : (rs : List SegmentRecord) (s : Sections) (bs : List Address) → all (λ a. isListed a bs) (aliveAddresses (segmentsFrom rs s)) ≡ aliveListed rs (s .alive) bs
-unfolding aliveAddresses aliveListed
-alive-listed rs s bs =
-    all-filter (isAliveAt (segmentsFrom rs s)) (λ a. isListed a bs) (stackedFrom 0 (segmentsFrom rs s))
-    ∙ all-ext (λ a. not (isAliveAt (segmentsFrom rs s) a) || isListed a bs) (λ a. not (aliveIn rs (s .alive) a) || isListed a bs) (stackedFrom 0 (segmentsFrom rs s)) (λ a. ap (λ (b : Bool). not b || isListed a bs) (alive-is rs s a))
-    ∙ ap (all (λ a. not (aliveIn rs (s .alive) a) || isListed a bs)) (stacked-is 0 rs s)
+alive-many : (rs : List SegmentRecord) (s : Sections) → length (aliveAddresses (segmentsFrom rs s)) ≡ aliveMany rs (s .alive)
+unfolding aliveMany aliveRows
+alive-many rs s =
+    let ss = segmentsFrom rs s in
+    alive-total ss
+    ∙ ap (λ (l : List Segment). sum (map (λ x. length (aliveRows x)) l)) (sym (take-length ss))
+    ∙ sym (sums-are (λ k. count (rowAlive (getD rs k noRecord) (wordsOf rs (s .alive) k)) (upTo (getD rs k noRecord .rows))) (λ x. length (aliveRows x)) ss absent (λ k h. sym (one k)) (length ss) (le-refl (length ss)))
+    ∙ ap (sumBelow (λ k. count (rowAlive (getD rs k noRecord) (wordsOf rs (s .alive) k)) (upTo (getD rs k noRecord .rows)))) (segments-length rs s)
+  where
+    one : (k : ℕ) → length (aliveRows (getD (segmentsFrom rs s) k absent)) ≡ count (rowAlive (getD rs k noRecord) (wordsOf rs (s .alive) k)) (upTo (getD rs k noRecord .rows))
+    one k =
+        let x = getD (segmentsFrom rs s) k absent in
+        filter-count (isAlive x) (upTo (x .rows))
+        ∙ count-same (isAlive x) (rowAlive (getD rs k noRecord) (wordsOf rs (s .alive) k)) 0 (x .rows) (λ r h. seg-alive rs s k r)
+        ∙ ap (λ (n : ℕ). count (rowAlive (getD rs k noRecord) (wordsOf rs (s .alive) k)) (upTo n)) (seg-rows rs s k)
 
 lists-alive : (rs : List SegmentRecord) (s : Sections) (bs : List Address) → listsAliveRows (segmentsFrom rs s) bs ≡ eachOnce rs (s .alive) bs
-unfolding listsAliveRows eachOnce
+unfolding eachOnce
 lists-alive rs s bs =
-    ap₂ (λ (a b : Bool). a && not (isRepeated bs) && b) (all-ext (isAliveAt (segmentsFrom rs s)) (aliveIn rs (s .alive)) bs (alive-is rs s)) (alive-listed rs s bs)
+    lists-by-count (segmentsFrom rs s) bs
+    ∙ ap₂ (λ (a : Bool) (n : ℕ). (a && not (isRepeated bs)) && eqb n (length bs)) (all-ext (isAliveAt (segmentsFrom rs s)) (aliveIn rs (s .alive)) bs (alive-is rs s)) (alive-many rs s)
 
 pub input-addresses : (i : Input) → addressesWrong i ≡ not (addressesRight (i .mode) (i .records) (i .sections .alive) (i .addresses))
 unfolding addressesWrong addressesRight segmentsOf

@@ -1,15 +1,19 @@
--- Starts of the segments' runs, marks in the working bytes, and the checks 8 and 9, each over just what it reads. proofs/Own.antt says that they are
--- the definitions' own. Assumes nothing.
-use Prim.Native.Nat.{ℕ, suc, _+_, _≤_, _<_}
+-- Alive rows, marks in the working bytes, and the checks 8 and 9, each over just what it reads: the records, or the table of where the segments stand.
+-- proofs/Own.antt says that they are the definitions' own. Assumes nothing.
+use Prim.Native.Nat.{ℕ, _+_, _*_, _≤_, _<_}
 use mathlib.Core.Path.{_≡_}
-use mathlib.Core.List.{List, [], _∷_, _++_, map}
+use mathlib.Core.List.{List, [], _∷_}
 use mathlib.Core.Bool.{Bool, true, _&&_, _||_, cond, not}
 use lib.ListN.{length, getD, take, drop, set, replicate}
 use lib.Dec.{eqb, ltb}
-use Rattle.definitions.specs.Lists.{all, upTo}
-use Rattle.definitions.specs.Segment.{SegmentRecord, Address, aliveWords, recordFrom, address}
+use Rattle.definitions.specs.Lists.{all, count, upTo}
+use Rattle.definitions.specs.Segment.{SegmentRecord, Address, aliveWords, recordFrom}
 use Rattle.definitions.specs.Row.{bitAt}
-use Rattle.definitions.specs.Answer.{total, isListed, isRepeated}
+use Rattle.definitions.specs.Answer.{total, isRepeated}
+use Rattle.lists.specs.Sums.{sumBelow}
+use Rattle.stands.specs.declared.Stand.{Stand}
+use Rattle.stands.specs.Stand.{many, Lies, standAt}
+use Rattle.stands.specs.Look.{wordsAt}
 
 -- what stands for a record that is absent
 abbrev pub noRecord : SegmentRecord
@@ -18,28 +22,18 @@ noRecord = recordFrom []
 abbrev pub rowsIn : SegmentRecord → ℕ
 rowsIn r = r .rows
 
--- ---- starts
-
--- where segment k's run begins: the sum over the segments before it
-unfoldable pub runStart : (SegmentRecord → ℕ) → List SegmentRecord → ℕ → ℕ
-runStart f rs k = total f (take k rs)
-
-unfoldable pub startsOf : (SegmentRecord → ℕ) → List SegmentRecord → List ℕ
-startsOf f rs = map (runStart f rs) (upTo (length rs))
-
--- xs begins with them
-pub record Starts (f : SegmentRecord → ℕ) (rs : List SegmentRecord) (xs : List ℕ) : Type 0 where
-  pub long : length rs ≤ length xs
-  pub at : (k : ℕ) → k < length rs → getD xs k 0 ≡ runStart f rs k
-
 -- ---- alive rows
 
+-- without an alive set every row is alive
+abbrev pub aliveBit : ℕ → List ℕ → ℕ → Bool
+aliveBit flag alive k = cond (eqb flag 1) (bitAt alive k) true
+
 unfoldable pub rowAlive : SegmentRecord → List ℕ → ℕ → Bool
-rowAlive r alive k = cond (eqb (r .flag) 1) (bitAt alive k) true
+rowAlive r alive k = aliveBit (r .flag) alive k
 
 -- segment k's alive words
 unfoldable pub wordsOf : List SegmentRecord → List ℕ → ℕ → List ℕ
-wordsOf rs alive k = take (aliveWords (getD rs k noRecord)) (drop (runStart aliveWords rs k) alive)
+wordsOf rs alive k = take (aliveWords (getD rs k noRecord)) (drop (total aliveWords (take k rs)) alive)
 
 -- the address is of an alive row
 unfoldable pub aliveIn : List SegmentRecord → List ℕ → Address → Bool
@@ -48,67 +42,70 @@ aliveIn rs alive a =
     && (ltb (a .row) (getD rs (a .segment) noRecord .rows)
     && rowAlive (getD rs (a .segment) noRecord) (wordsOf rs alive (a .segment)) (a .row))
 
--- every segment's alive words can be found
-pub record Found (rs : List SegmentRecord) (alive words : List ℕ) : Type 0 where
-  pub held : total aliveWords rs ≤ length alive
-  pub starts : Starts aliveWords rs words
+-- the same where the segments stand as the table says
+unfoldable pub aliveAt : List (List ℕ) → List ℕ → Address → Bool
+aliveAt stands alive a =
+    ltb (a .segment) (length stands)
+    && (ltb (a .row) (standAt stands (a .segment) .rows)
+    && aliveBit (standAt stands (a .segment) .flag) (wordsAt (standAt stands (a .segment)) alive) (a .row))
+
+-- a segment's alive words are there, and enough
+pub record Worded (p : Stand) (alive : List ℕ) : Type 0 where
+  pub lie : Lies (p .words) alive
+  pub enough : p .flag ≡ 1 → p .rows ≤ 64 * many (p .words)
+
+abbrev pub AllWorded : List (List ℕ) → List ℕ → Type 0
+AllWorded stands alive = (k : ℕ) → k < length stands → Worded (standAt stands k) alive
 
 -- ---- marks: a byte for each row of all segments
 
-unfoldable pub markPlace : List SegmentRecord → Address → ℕ
-markPlace rs a = runStart rowsIn rs (a .segment) + a .row
+abbrev pub markPlace : List (List ℕ) → Address → ℕ
+markPlace stands a = standAt stands (a .segment) .work + a .row
 
 -- each address is of an alive row that has no mark yet
-unfoldable pub allNew : List SegmentRecord → List ℕ → List ℕ → List Address → Bool
-allNew rs alive work [] = true
-allNew rs alive work (a ∷ bs) = aliveIn rs alive a && (eqb (getD work (markPlace rs a) 0) 0 && allNew rs alive (set work (markPlace rs a) 1) bs)
+unfoldable pub allNew : List (List ℕ) → List ℕ → List ℕ → List Address → Bool
+allNew stands alive work [] = true
+allNew stands alive work (a ∷ bs) = aliveAt stands alive a && (eqb (getD work (markPlace stands a) 0) 0 && allNew stands alive (set work (markPlace stands a) 1) bs)
 
 -- the marks, up to the first address that is not so
-unfoldable pub marked : List SegmentRecord → List ℕ → List ℕ → List Address → List ℕ
-marked rs alive work [] = work
-marked rs alive work (a ∷ bs) = cond (aliveIn rs alive a && eqb (getD work (markPlace rs a) 0) 0) (marked rs alive (set work (markPlace rs a) 1) bs) work
+unfoldable pub marked : List (List ℕ) → List ℕ → List ℕ → List Address → List ℕ
+marked stands alive work [] = work
+marked stands alive work (a ∷ bs) = cond (aliveAt stands alive a && eqb (getD work (markPlace stands a) 0) 0) (marked stands alive (set work (markPlace stands a) 1) bs) work
 
--- the marks have room, and the starts are as they should be
-pub record Markable (rs : List SegmentRecord) (alive rows words work : List ℕ) : Type 0 where
-  pub found : Found rs alive words
-  pub starts : Starts rowsIn rs rows
-  pub room : total rowsIn rs ≤ length work
+-- they have room
+abbrev pub Room : List (List ℕ) → List ℕ → Type 0
+Room stands work = (k : ℕ) → k < length stands → standAt stands k .work + standAt stands k .rows ≤ length work
 
--- a row's byte is 0 where the row is not among those seen
-abbrev pub Marks : List SegmentRecord → List Address → List ℕ → Type 0
-Marks rs seen work = (k r : ℕ) → k < length rs → r < getD rs k noRecord .rows → eqb (getD work (markPlace rs (address k r)) 0) 0 ≡ not (isListed (address k r) seen)
+-- and the segments' alive words are there
+pub record Markable (stands : List (List ℕ)) (alive work : List ℕ) : Type 0 where
+  pub words : AllWorded stands alive
+  pub room : Room stands work
 
--- ---- every alive row is marked
+-- ---- how many rows are alive
 
-unfoldable pub rowListed : SegmentRecord → List ℕ → List ℕ → ℕ → Bool
-rowListed r alive marks k = not (rowAlive r alive k) || not (eqb (getD marks k 0) 0)
+-- those of the segment at p
+abbrev pub standAlive : List ℕ → Stand → ℕ
+standAlive alive p = count (aliveBit (p .flag) (wordsAt p alive)) (upTo (p .rows))
 
-unfoldable pub rowsListed : SegmentRecord → List ℕ → List ℕ → Bool
-rowsListed r alive marks = all (rowListed r alive marks) (upTo (r .rows))
+-- those of all segments
+unfoldable pub allAlive : List (List ℕ) → List ℕ → ℕ
+allAlive stands alive = sumBelow (λ k. standAlive alive (standAt stands k)) (length stands)
 
-unfoldable pub listedFrom : List SegmentRecord → List ℕ → List ℕ → Bool
-listedFrom [] alive marks = true
-listedFrom (r ∷ rs) alive marks = rowsListed r (take (aliveWords r) alive) (take (r .rows) marks) && listedFrom rs (drop (aliveWords r) alive) (drop (r .rows) marks)
-
--- a segment's alive words and its part of the marks
-pub record Parts (r : SegmentRecord) (alive marks : List ℕ) : Type 0 where
-  pub words : length alive ≡ aliveWords r
-  pub rows : length marks ≡ r .rows
+-- so few that they can be counted
+pub record Countable (stands : List (List ℕ)) (alive : List ℕ) : Type 0 where
+  pub few : length stands ≤ 256
+  pub words : AllWorded stands alive
+  pub most : (k : ℕ) → k < length stands → standAt stands k .rows ≤ 4294967294
 
 -- ---- 9
 
--- all rows, segment after segment; the first segment has number n
-abbrev pub stackedRows : ℕ → List SegmentRecord → List Address
-stackedRows n [] = []
-stackedRows n (r ∷ rs) = map (address n) (upTo (r .rows)) ++ stackedRows (suc n) rs
+-- the alive rows of all segments
+unfoldable pub aliveMany : List SegmentRecord → List ℕ → ℕ
+aliveMany rs alive = sumBelow (λ k. count (rowAlive (getD rs k noRecord) (wordsOf rs alive k)) (upTo (getD rs k noRecord .rows))) (length rs)
 
--- every alive row is among the addresses
-unfoldable pub aliveListed : List SegmentRecord → List ℕ → List Address → Bool
-aliveListed rs alive bs = all (λ a. not (aliveIn rs alive a) || isListed a bs) (stackedRows 0 rs)
-
--- each alive row is listed once, and nothing else is
+-- alive rows, each listed once, and as many as there are: proofs/Own.antt says that each alive row is listed once then, and nothing else
 unfoldable pub eachOnce : List SegmentRecord → List ℕ → List Address → Bool
-eachOnce rs alive bs = (all (aliveIn rs alive) bs && not (isRepeated bs)) && aliveListed rs alive bs
+eachOnce rs alive bs = (all (aliveIn rs alive) bs && not (isRepeated bs)) && eqb (aliveMany rs alive) (length bs)
 
 unfoldable pub addressesRight : ℕ → List SegmentRecord → List ℕ → List Address → Bool
 addressesRight mode rs alive bs = cond (eqb mode 0) (eqb (length bs) 0) (eachOnce rs alive bs)
@@ -118,6 +115,7 @@ pub record Unmarked (rs : List SegmentRecord) (alive marks : List ℕ) : Type 0 
   pub few : length rs ≤ 256
   pub held : total aliveWords rs ≤ length alive
   pub long : length marks ≡ total rowsIn rs
+  pub most : length marks ≤ 4294967294
   pub clean : marks ≡ replicate (length marks) 0
 
 -- what the checks before 9 have established, and the working bytes are zero
@@ -125,6 +123,7 @@ pub record BeforeNine (mode rows : ℕ) (rs : List SegmentRecord) (alive work : 
   pub few : length rs ≤ 256
   pub held : total aliveWords rs ≤ length alive
   pub counted : rows ≡ total rowsIn rs
+  pub most : rows ≤ 4294967294
   pub room : (mode ≡ 0 → ⊥) → rows ≤ length work
   pub clean : work ≡ replicate (length work) 0
 

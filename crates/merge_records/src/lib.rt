@@ -8,7 +8,7 @@ ghost use Rattle.records.specs.Rows.{rowsOf, countOf};
 fn join_rows(
     mode: u32,
     required: u32,
-    table: [[u32; 8]; 257],
+    table: [segment::RecordNumbers; 257],
     n: usize,
     ids: &[u32],
     offsets: &[u32],

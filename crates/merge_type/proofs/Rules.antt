@@ -1,41 +1,28 @@
--- The answer on parts, and that it is the definitions' for the segments that the lists stand for. Assumes nothing.
+-- The answer on parts, and that it is the definitions' for the segments that the columns stand for. Assumes nothing.
 use mathlib.Core.Path.{_≡_, refl, sym, ap, _∙_}
 use mathlib.Core.Bool.{Bool, true, false, not, cond, _&&_, _||_}
-use mathlib.Core.List.{List, [], _∷_, _++_, map}
-use Prim.Native.Nat.{ℕ, _≤_}
-use native.Mathlib.Nat.{le-of-suc-le-suc, le-of-eq}
+use mathlib.Core.List.{List, [], _∷_, map}
+use Prim.Native.Nat.{ℕ, suc, _<_, zero-le, suc-le-suc}
 use native.Mathlib.Omega.{arith}
 use lib.Dec.{eqb, ltb}
-use lib.ListN.{length, take, drop}
-use borrow.Author.Tests.{eq-eqb, not-true, not-false}
+use lib.ListN.{length, getD}
+use borrow.Author.Tests.{not-true, not-false}
 use Rattle.definitions.specs.Lists.{all, any, filter}
-use Rattle.definitions.specs.Segment.{Segment, SegmentRecord, Sections, firstSegment, afterFirst, segmentsFrom, recordFrom}
+use Rattle.definitions.specs.Segment.{Segment}
 use Rattle.definitions.specs.Row.{noType, isDropped, isHeld, heldOf}
 use Rattle.definitions.specs.Types.{F64, U64, I64, isCoercible, hasType, everyValue, onlyType, numericalType, heldType, typeOf, greatestI64, isNegative}
-use Rattle.definitions.specs.Join.{joinedType}
-use Rattle.definitions.specs.Answer as Answer
-use Rattle.definitions.specs.Answer.{presentTypes, oneCategory, allCoercible, typesWrong}
-use Rattle.segment.specs.Records.{recordsOf}
+use Rattle.definitions.specs.Join.{joinedType, absent}
+use Rattle.definitions.specs.Answer.{presentTypes, allCoercible, typesWrong}
+use Rattle.stands.specs.Stand.{standOf, standAt}
+use Rattle.stands.specs.Look.{valuesAt}
 use Rattle.merge_type.specs.declared.TypeAnswer.{TypeAnswer}
 use Rattle.merge_type.specs.declared.TypeAnswer.the-variants.{Wrong, Joined}
-use Rattle.merge_type.specs.Parts.{Part, typeAt, countAt, isPart, partsFrom, Lent, asColumn, heldColumns, typesOf, recordTypes, oneAmong, typeOfParts, allBecome, typeAnswer}
+use Rattle.merge_type.specs.Parts.{isPart, partsIn, typesIn, asColumn, heldColumns, typesOf, oneAmong, typeOfParts, allBecome, typeAnswer}
 
--- ---- the parts of lent lists
-
-pub types-of : (records : List (List ℕ)) (values flags : List ℕ) → length records ≤ length flags → typesOf (partsFrom records values flags) ≡ recordTypes records
-unfolding typesOf partsFrom
-types-of [] values flags h = refl
-types-of (r ∷ rs) values [] h = absurd (omega arith)
-types-of (r ∷ rs) values (f ∷ fs) h = ap (λ (ts : List ℕ). typeAt r ∷ ts) (types-of rs (drop (countAt r) values) fs (le-of-suc-le-suc h))
-
--- a part that is held is present
-pub is-present : (t f : ℕ) → isPart t f ≡ true → t ≡ 255 → ⊥
-unfolding isPart
-is-present t f h e = go (eqb f 1) (rw (eq-eqb t 255 e) at h)
-  where
-    go : (b : Bool) → b && false ≡ true → ⊥
-    go true k = let z : _≡_ {A = Bool} false true = k in let n : _≡_ {A = ℕ} 0 1 = cc in omega arith
-    go false k = let z : _≡_ {A = Bool} false true = k in let n : _≡_ {A = ℕ} 0 1 = cc in omega arith
+types-of : (stands : List (List ℕ)) (values : List ℕ) → typesOf (partsIn stands values) ≡ typesIn stands
+unfolding typesOf partsIn typesIn
+types-of [] values = refl
+types-of (r ∷ rs) values = ap (λ (ts : List ℕ). standOf r .typ ∷ ts) (types-of rs values)
 
 -- ---- the answer, case by case
 
@@ -48,48 +35,30 @@ answer-some one become u h k = rw (h, k)
 answer-all : (one become : Bool) (u : ℕ) → one ≡ true → become ≡ true → Joined u ≡ cond (one && become) (Joined u) Wrong
 answer-all one become u h k = rw (h, k)
 
-module _ (required : ℕ) (records : List (List ℕ)) (values flags : List ℕ) (l : Lent records values flags) where
-  one-here : (b : Bool) → b ≡ oneAmong required (recordTypes records) → oneAmong required (typesOf (partsFrom records values flags)) ≡ b
-  one-here b e = ap (oneAmong required) (types-of records values flags (l .flags-fit)) ∙ sym e
+module _ (required : ℕ) (stands : List (List ℕ)) (values : List ℕ) {b : Bool} (e : b ≡ oneAmong required (typesIn stands)) where
+  one-here : oneAmong required (typesOf (partsIn stands values)) ≡ b
+  one-here = ap (oneAmong required) (types-of stands values) ∙ sym e
 
-  pub wrong-types : (b : Bool) → b ≡ oneAmong required (recordTypes records) → not b ≡ true → Wrong ≡ typeAnswer required (partsFrom records values flags)
+  pub wrong-types : not b ≡ true → Wrong ≡ typeAnswer required (partsIn stands values)
   unfolding typeAnswer
-  wrong-types b e k = answer-two _ _ _ (one-here b e ∙ not-true b k)
+  wrong-types k = answer-two _ _ _ (one-here ∙ not-true b k)
 
-  module _ (b : Bool) (e : b ≡ oneAmong required (recordTypes records)) (k : not b ≡ false) (u : ℕ) (u-is : u ≡ typeOfParts required (partsFrom records values flags)) (c : Bool) (g : c ≡ allBecome u (partsFrom records values flags)) where
-    become-is : allBecome (typeOfParts required (partsFrom records values flags)) (partsFrom records values flags) ≡ c
-    become-is = ap (λ (x : ℕ). allBecome x (partsFrom records values flags)) (sym u-is) ∙ sym g
+  module _ (k : not b ≡ false) {u : ℕ} (u-is : u ≡ typeOfParts required (partsIn stands values)) {c : Bool} (g : c ≡ allBecome u (partsIn stands values)) where
+    become-is : allBecome (typeOfParts required (partsIn stands values)) (partsIn stands values) ≡ c
+    become-is = ap (λ (x : ℕ). allBecome x (partsIn stands values)) (sym u-is) ∙ sym g
 
-    pub wrong-value : not c ≡ true → Wrong ≡ typeAnswer required (partsFrom records values flags)
+    pub wrong-value : not c ≡ true → Wrong ≡ typeAnswer required (partsIn stands values)
     unfolding typeAnswer
-    wrong-value h = answer-some _ _ _ (one-here b e ∙ not-false b k) (become-is ∙ not-true c h)
+    wrong-value h = answer-some _ _ _ (one-here ∙ not-false b k) (become-is ∙ not-true c h)
 
-    pub right-type : not c ≡ false → Joined u ≡ typeAnswer required (partsFrom records values flags)
+    pub right-type : not c ≡ false → Joined u ≡ typeAnswer required (partsIn stands values)
     unfolding typeAnswer
-    right-type h = ap Joined u-is ∙ answer-all _ _ _ (one-here b e ∙ not-false b k) (become-is ∙ not-false c h)
+    right-type h = ap Joined u-is ∙ answer-all _ _ _ (one-here ∙ not-false b k) (become-is ∙ not-false c h)
 
--- ---- from the parts to the definitions' segments
+-- ---- a segment of which only type and values are kept
 
-abbrev pub partOf : Segment → Part
-partOf s = record { type = s .type; values = s .values; held = isHeld s }
-
--- a segment of which only type and values are kept
 abbrev bare : Segment → Segment
-bare s = asColumn (partOf s)
-
-types-part : (ss : List Segment) → typesOf (map partOf ss) ≡ map (λ (s : Segment). s .type) ss
-unfolding typesOf
-types-part [] = refl
-types-part (s ∷ ss) = ap (λ (ts : List ℕ). s .type ∷ ts) (types-part ss)
-
-held-part : (ss : List Segment) → heldColumns (map partOf ss) ≡ map bare (heldOf ss)
-unfolding heldColumns heldOf
-held-part [] = refl
-held-part (s ∷ ss) = go (held-part ss) (isHeld s)
-  where
-    go : heldColumns (map partOf ss) ≡ map bare (filter isHeld ss) → (b : Bool) → heldColumns (record { type = s .type; values = s .values; held = b } ∷ map partOf ss) ≡ map bare (cond b (s ∷ filter isHeld ss) (filter isHeld ss))
-    go more true = ap (λ (hs : List Segment). asColumn (record { type = s .type; values = s .values; held = true }) ∷ hs) more
-    go more false = more
+bare s = asColumn (record { type = s .type; values = s .values; held = isHeld s })
 
 any-bare : (p : Segment → Bool) → ((s : Segment) → p (bare s) ≡ p s) → (hs : List Segment) → any p (map bare hs) ≡ any p hs
 any-bare p e [] = refl
@@ -130,68 +99,70 @@ type-bare : (required : ℕ) (hs : List Segment) → typeOf required (map bare h
 unfolding typeOf
 type-bare required hs = ap (λ (x : ℕ). cond (eqb required noType) x required) (held-bare hs)
 
-pub type-of-segments : (required : ℕ) (ss : List Segment) → typeOfParts required (map partOf ss) ≡ joinedType required ss
-unfolding typeOfParts joinedType
-type-of-segments required ss = ap (typeOf required) (held-part ss) ∙ type-bare required (heldOf ss)
+-- ---- from the parts to the definitions' segments
 
-become-part : (u : ℕ) (ss : List Segment) → allBecome u (map partOf ss) ≡ all (λ (s : Segment). isCoercible (s .type) u (s .values)) (heldOf ss)
-unfolding allBecome heldOf
-become-part u [] = refl
-become-part u (s ∷ ss) = go (become-part u ss) (isHeld s)
+-- each column has its segment's type, is held as the segment is, and then has its values
+pub record Typed (stands : List (List ℕ)) (values : List ℕ) (ss : List Segment) : Type 0 where
+  pub many : length stands ≡ length ss
+  pub type : (k : ℕ) → k < length ss → standAt stands k .typ ≡ getD ss k absent .type
+  pub held : (k : ℕ) → k < length ss → standAt stands k .held ≡ cond (isHeld (getD ss k absent)) 1 0
+  pub values-are : (k : ℕ) → k < length ss → isHeld (getD ss k absent) ≡ true → valuesAt (standAt stands k) values ≡ getD ss k absent .values
+
+module _ {r : List ℕ} {rs : List (List ℕ)} {values : List ℕ} {s : Segment} {ss : List Segment} (t : Typed (r ∷ rs) values (s ∷ ss)) where
+  typed-rest : Typed rs values ss
+  typed-rest =
+      record {
+        many = omega (arith, t .many);
+        type = λ k h. t .type (suc k) (suc-le-suc h);
+        held = λ k h. t .held (suc k) (suc-le-suc h);
+        values-are = λ k h. t .values-are (suc k) (suc-le-suc h);
+      }
+
+  type-here : standOf r .typ ≡ s .type
+  type-here = t .type 0 (suc-le-suc zero-le)
+
+  held-here : isPart (standOf r) ≡ isHeld s
+  unfolding isPart isHeld
+  held-here =
+      (λ i. eqb (t .held 0 (suc-le-suc zero-le) i) 1 && not (eqb (type-here i) noType)) ∙ go (eqb (s .type) noType) (isDropped s)
+    where
+      go : (p d : Bool) → eqb (cond (not p && not d) 1 0) 1 && not p ≡ not p && not d
+      go true d = refl
+      go false true = refl
+      go false false = refl
+
+types-typed : (stands : List (List ℕ)) (values : List ℕ) (ss : List Segment) → Typed stands values ss → typesIn stands ≡ map (λ (s : Segment). s .type) ss
+unfolding typesIn
+types-typed [] values [] t = refl
+types-typed [] values (s ∷ ss) t = absurd (omega (arith, t .many))
+types-typed (r ∷ rs) values [] t = absurd (omega (arith, t .many))
+types-typed (r ∷ rs) values (s ∷ ss) t = λ i. type-here t i ∷ types-typed rs values ss (typed-rest t) i
+
+held-typed : (stands : List (List ℕ)) (values : List ℕ) (ss : List Segment) → Typed stands values ss → heldColumns (partsIn stands values) ≡ map bare (heldOf ss)
+unfolding heldColumns heldOf partsIn
+held-typed [] values [] t = refl
+held-typed [] values (s ∷ ss) t = absurd (omega (arith, t .many))
+held-typed (r ∷ rs) values [] t = absurd (omega (arith, t .many))
+held-typed (r ∷ rs) values (s ∷ ss) t =
+    ap (λ (b : Bool). heldColumns (record { type = standOf r .typ; values = valuesAt (standOf r) values; held = b } ∷ partsIn rs values)) (held-here t)
+    ∙ go (held-typed rs values ss (typed-rest t)) (isHeld s) refl
   where
-    go : allBecome u (map partOf ss) ≡ all (λ (s : Segment). isCoercible (s .type) u (s .values)) (filter isHeld ss) → (b : Bool)
-        → (not b || isCoercible (s .type) u (s .values)) && allBecome u (map partOf ss) ≡ all (λ (s : Segment). isCoercible (s .type) u (s .values)) (cond b (s ∷ filter isHeld ss) (filter isHeld ss))
-    go more true = ap (λ (x : Bool). isCoercible (s .type) u (s .values) && x) more
-    go more false = more
+    go : heldColumns (partsIn rs values) ≡ map bare (filter isHeld ss) → (b : Bool) → isHeld s ≡ b
+        → heldColumns (record { type = standOf r .typ; values = valuesAt (standOf r) values; held = b } ∷ partsIn rs values) ≡ map bare (cond b (s ∷ filter isHeld ss) (filter isHeld ss))
+    go more true e = λ i. asColumn (record { type = type-here t i; values = t .values-are 0 (suc-le-suc zero-le) e i; held = true }) ∷ more i
+    go more false e = more
 
 cond-not : (b : Bool) (x y : TypeAnswer) → cond b x y ≡ cond (not b) y x
 cond-not true x y = refl
 cond-not false x y = refl
 
 -- the answer is 10 where the definitions say that types are wrong, and else the joined type
-pub answer-of-segments : (required : ℕ) (ss : List Segment) → typeAnswer required (map partOf ss) ≡ cond (typesWrong required ss) Wrong (Joined (joinedType required ss))
-unfolding typeAnswer oneAmong typesWrong presentTypes allCoercible
-answer-of-segments required ss =
-    let u = type-of-segments required ss in
-    let a = ap (λ (ts : List ℕ). oneCategory (filter (λ (t : ℕ). not (eqb t noType)) (required ∷ ts))) (types-part ss) in
-    let b = ap (λ (x : ℕ). allBecome x (map partOf ss)) u ∙ become-part (joinedType required ss) ss in
-    (λ i. cond (a i && b i) (Joined (u i)) Wrong)
-    ∙ cond-not (oneCategory (filter (λ (t : ℕ). not (eqb t noType)) (required ∷ map (λ (s : Segment). s .type) ss)) && all (λ (s : Segment). isCoercible (s .type) (joinedType required ss) (s .values)) (heldOf ss)) (Joined (joinedType required ss)) Wrong
-
--- ---- the lists that stand for segments
-
-abbrev pub heldFlag : Segment → ℕ
-heldFlag s = cond (isHeld s) 1 0
-
-flag-held : (s : Segment) → isPart (s .type) (heldFlag s) ≡ isHeld s
-unfolding isPart isHeld
-flag-held s = go (eqb (s .type) noType) (isDropped s)
-  where
-    go : (p d : Bool) → eqb (cond (not p && not d) 1 0) 1 && not p ≡ not p && not d
-    go true d = refl
-    go false true = refl
-    go false false = refl
-
--- flags beyond the records' are not read
-pub parts-of-segments : (rs : List (List ℕ)) (sections : Sections) (more : List ℕ)
-    → partsFrom rs (sections .values) (map heldFlag (segmentsFrom (recordsOf rs) sections) ++ more) ≡ map partOf (segmentsFrom (recordsOf rs) sections)
-unfolding partsFrom firstSegment afterFirst
-parts-of-segments [] sections more = refl
-parts-of-segments (r ∷ rs) sections more =
-    let s : Segment = firstSegment (recordFrom r) sections in
-    let rest = parts-of-segments rs (afterFirst (recordFrom r) sections) more in
-    let h = flag-held s in
-    λ i. record { type = typeAt r; values = take (countAt r) (sections .values); held = h i } ∷ rest i
-
--- ---- the whole, for the sections of an input
-
--- check 2 has passed: the values are as many as the records say, and there is a flag for each record
-pub lent-of-lengths : (rs : List (List ℕ)) (values flags : List ℕ) → Answer.total (λ (r : SegmentRecord). r .values) (recordsOf rs) ≡ length values → length rs ≤ length flags → Lent rs values flags
-lent-of-lengths rs values flags e h = record { values-fit = le-of-eq e; flags-fit = h }
-
-module _ (required : ℕ) (rs : List (List ℕ)) (sections : Sections) (more : List ℕ) where
-  abbrev pub segmentsIn : List Segment
-  segmentsIn = segmentsFrom (recordsOf rs) sections
-
-  pub answer-of-input : typeAnswer required (partsFrom rs (sections .values) (map heldFlag segmentsIn ++ more)) ≡ cond (typesWrong required segmentsIn) Wrong (Joined (joinedType required segmentsIn))
-  answer-of-input = ap (typeAnswer required) (parts-of-segments rs sections more) ∙ answer-of-segments required segmentsIn
+pub answer-is : (required : ℕ) {stands : List (List ℕ)} {values : List ℕ} {ss : List Segment} → Typed stands values ss
+    → typeAnswer required (partsIn stands values) ≡ cond (typesWrong required ss) Wrong (Joined (joinedType required ss))
+unfolding typeAnswer oneAmong typesWrong presentTypes allCoercible allBecome typeOfParts joinedType
+answer-is required {stands} {values} {ss} t =
+    let held = held-typed stands values ss t in
+    let a = ap (oneAmong required) (types-of stands values ∙ types-typed stands values ss t) in
+    let u = ap (typeOf required) held ∙ type-bare required (heldOf ss) in
+    let b = (λ i. all (λ (s : Segment). isCoercible (s .type) (u i) (s .values)) (held i)) ∙ all-bare (λ (s : Segment). isCoercible (s .type) (joinedType required ss) (s .values)) (λ s. refl) (heldOf ss) in
+    (λ i. cond (a i && b i) (Joined (u i)) Wrong) ∙ cond-not (oneAmong required (map (λ (s : Segment). s .type) ss) && all (λ (s : Segment). isCoercible (s .type) (joinedType required ss) (s .values)) (heldOf ss)) (Joined (joinedType required ss)) Wrong

@@ -1,112 +1,90 @@
--- The walk over the records: where each column's values stand, and what is left. Assumes nothing.
-use mathlib.Core.Path.{_≡_, refl, sym, ap, _∙_}
-use mathlib.Core.Bool.{Bool, true, false, not, cond, _&&_}
+-- The walk over the columns: one column, and what is left behind it. Assumes nothing.
+use mathlib.Core.Path.{_≡_, refl, sym, ap, _∙_, subst}
+use mathlib.Core.Bool.{Bool, true, false, not, cond, _&&_, _||_}
 use mathlib.Core.List.{List, [], _∷_}
-use Prim.Native.Nat.{ℕ, _+_, _≤_, _<_, zero-le}
-use native.Mathlib.Omega.{arith}
+use Prim.Native.Nat.{ℕ, suc, _+_, _≤_, _<_}
 use native.Mathlib.Numerals.{add-one}
-use lib.ListN.{length, take, drop, getD, drop-of-length-le}
-use lib.Seq.{drop-cons, drop-drop}
+use lib.ListN.{length, drop, drop-of-length-le}
+use lib.Seq.{drop-cons}
 use borrow.Author.Tests.{not-true, not-false}
-use Rattle.definitions.specs.Segment.{SegmentRecord}
-use Rattle.definitions.specs.Answer.{total}
 use Rattle.definitions.specs.Types.{isCoercible}
 use Rattle.numerical.specs.declared.Compatible.{Compatible}
 use Rattle.numerical.specs.Seen.{accepted, seenFrom}
-use Rattle.segment.specs.declared.Record.{Record}
-use Rattle.segment.specs.Records.{structOf, recordsOf}
-use Rattle.segment.proofs.Walk.{total-step}
-use Rattle.merge_type.specs.One.{seenWith, becomes}
-use Rattle.merge_type.specs.Parts.{Part, countAt, isPart, partsFrom, Lent, heldColumns, allBecome}
+use Rattle.stands.specs.declared.Stand.{Stand}
+use Rattle.stands.specs.Stand.{Lies, standAt}
+use Rattle.stands.specs.Look.{valuesAt}
+use Rattle.merge_type.specs.Parts.{Part, isPart, partOf, partsIn, Coded, Lent, heldColumns, seenWith, becomes, allBecome}
 
-pub record Walk (records : List (List ℕ)) (values flags : List ℕ) (i base : ℕ) : Type 0 where
-  pub here : i ≤ length records
-  pub fits : base + total (λ (r : SegmentRecord). r .values) (recordsOf (drop i records)) ≤ length values
-  pub flagged : length records ≤ length flags
+-- ---- one column: b is whether it is held, t its type, as the code found
 
-pub walk-start : {records : List (List ℕ)} {values flags : List ℕ} → Lent records values flags → Walk records values flags 0 0
-walk-start l = record { here = zero-le; fits = omega (arith, l .values-fit); flagged = l .flags-fit }
+module _ (p : Stand) (values : List ℕ) {b : Bool} (e : b ≡ isPart p) where
+  pub seen-out : (seen : Compatible) → not b ≡ true → seen ≡ seenWith seen (partOf values p)
+  unfolding seenWith
+  seen-out seen k = rw (← e, not-true b k)
 
-module _ {records : List (List ℕ)} {values flags : List ℕ} {i base : ℕ} (w : Walk records values flags i base) (h : i < length records) {r : Record} (e : r ≡ structOf (getD records i [])) where
-  pub walk-fits : base + r .values ≤ length values
-  walk-fits = omega (arith, w .fits, total-step records i h e (λ x. x .values))
+  pub seen-in : (seen : Compatible) {t : ℕ} {x : Compatible} → not b ≡ false → t ≡ p .typ → x ≡ accepted seen t (valuesAt p values) → x ≡ seenWith seen (partOf values p)
+  unfolding seenWith
+  seen-in seen k d q = q ∙ rw (← e, not-false b k, d)
 
-  pub walk-flag : i < length flags
-  walk-flag = omega (arith, w .flagged)
+  pub becomes-out : (u : ℕ) → not b ≡ true → true ≡ becomes u (partOf values p)
+  unfolding becomes
+  becomes-out u k = rw (← e, not-true b k)
 
-  pub walk-more : (n : ℕ) → n ≡ r .values → Walk records values flags (i + 1) (base + n)
-  walk-more n p = record { here = omega arith; fits = omega (arith, w .fits, total-step records i h e (λ x. x .values)); flagged = w .flagged }
+  pub becomes-in : (u : ℕ) {t : ℕ} {x : Bool} → not b ≡ false → t ≡ p .typ → x ≡ isCoercible t u (valuesAt p values) → x ≡ becomes u (partOf values p)
+  unfolding becomes
+  becomes-in u k d q = q ∙ rw (← e, not-false b k, d)
 
-  -- the record's values as the code lends them, and what is left behind it
-  abbrev given : List ℕ
-  given = take (r .values) (drop base values)
+seen-cons : (seen : Compatible) (q : Part) (qs : List Part) → seenFrom (seenWith seen q) (heldColumns qs) ≡ seenFrom seen (heldColumns (q ∷ qs))
+unfolding heldColumns seenWith
+seen-cons seen q qs = go (q .held)
+  where
+    go : (b : Bool) → seenFrom (cond b (accepted seen (q .type) (q .values)) seen) (heldColumns qs) ≡ seenFrom seen (heldColumns (record { type = q .type; values = q .values; held = b } ∷ qs))
+    go true = refl
+    go false = refl
 
-  abbrev rest : ℕ → List Part
-  rest n = partsFrom (drop (i + 1) records) (drop (base + n) values) (drop (i + 1) flags)
+become-cons : (u : ℕ) (q : Part) (qs : List Part) → allBecome u (q ∷ qs) ≡ becomes u q && allBecome u qs
+unfolding allBecome heldColumns becomes
+become-cons u q qs = go (q .held)
+  where
+    go : (b : Bool) → allBecome u (record { type = q .type; values = q .values; held = b } ∷ qs) ≡ (not b || isCoercible (q .type) u (q .values)) && allBecome u qs
+    go true = refl
+    go false = refl
 
-  parts-step : partsFrom (drop i records) (drop base values) (drop i flags)
-      ≡ record { type = r .typ; values = take (r .values) (drop base values); held = isPart (r .typ) (getD flags i 0) } ∷ partsFrom (drop (i + 1) records) (drop (base + r .values) values) (drop (i + 1) flags)
-  unfolding partsFrom
-  parts-step = let k : i < length flags = walk-flag in rw (e, add-one i, drop-cons records i [] h, drop-cons flags i 0 k, drop-drop (countAt (getD records i [])) base values)
+-- ---- a turn at the column s
 
-  -- ---- the running state
+pub now-code : {stands : List (List ℕ)} → Coded stands → {s : ℕ} → s < length stands → {p : Stand} → p ≡ standAt stands s → p .typ < 4294967296
+now-code l {s} h e = subst (λ (q : Stand). q .typ < 4294967296) (sym e) (l .each s h)
 
-  pub seen-next : (seen seen' : Compatible) (n : ℕ) → n ≡ r .values → seen' ≡ seenWith seen (r .typ) given (isPart (r .typ) (getD flags i 0))
-      → seenFrom seen' (heldColumns (rest n)) ≡ seenFrom seen (heldColumns (partsFrom (drop i records) (drop base values) (drop i flags)))
-  unfolding heldColumns seenWith
-  seen-next seen seen' n p q =
-      ap (λ (s : Compatible). seenFrom s (heldColumns (rest n))) q
-      ∙ ap (λ (m : ℕ). seenFrom (seenWith seen (r .typ) given (isPart (r .typ) (getD flags i 0))) (heldColumns (rest m))) p
-      ∙ go (isPart (r .typ) (getD flags i 0))
-      ∙ sym (ap (λ (ps : List Part). seenFrom seen (heldColumns ps)) parts-step)
-    where
-      go : (b : Bool) → seenFrom (cond b (accepted seen (r .typ) (take (r .values) (drop base values))) seen) (heldColumns (partsFrom (drop (i + 1) records) (drop (base + r .values) values) (drop (i + 1) flags)))
-          ≡ seenFrom seen (heldColumns (record { type = r .typ; values = take (r .values) (drop base values); held = b } ∷ partsFrom (drop (i + 1) records) (drop (base + r .values) values) (drop (i + 1) flags)))
-      go true = refl
-      go false = refl
+pub now-lies : {stands : List (List ℕ)} {values : List ℕ} → Lent stands values → {s : ℕ} → s < length stands → {p : Stand} → p ≡ standAt stands s → Lies (p .values) values
+now-lies {values = values} l {s} h e = subst (λ (q : Stand). Lies (q .values) values) (sym e) (l .lie s h)
 
-  -- ---- the scan
+module _ (stands : List (List ℕ)) (values : List ℕ) {s : ℕ} (h : s < length stands) {p : Stand} (e : p ≡ standAt stands s) where
+  abbrev left : ℕ → List Part
+  left k = partsIn (drop k stands) values
 
-  become-step : (u : ℕ) → allBecome u (partsFrom (drop i records) (drop base values) (drop i flags))
-      ≡ becomes u (r .typ) given (isPart (r .typ) (getD flags i 0)) && allBecome u (rest (r .values))
-  unfolding allBecome becomes
-  become-step u = ap (allBecome u) parts-step
+  step : left s ≡ partOf values p ∷ left (s + 1)
+  unfolding partsIn
+  step = rw (add-one s, drop-cons stands s [] h) (ap (λ (q : Stand). partOf values q ∷ partsIn (drop (suc s) stands) values) (sym e))
 
-  pub become-stop : (u : ℕ) (b : Bool) → b ≡ becomes u (r .typ) given (isPart (r .typ) (getD flags i 0)) → not b ≡ true
-      → false ≡ allBecome u (partsFrom (drop i records) (drop base values) (drop i flags))
-  become-stop u b q k = sym (become-step u ∙ ap (λ (x : Bool). x && allBecome u (rest (r .values))) (sym q ∙ not-true b k))
+  pub seen-next : (seen : Compatible) {seen' : Compatible} → seen' ≡ seenWith seen (partOf values p) → seenFrom seen' (heldColumns (left (s + 1))) ≡ seenFrom seen (heldColumns (left s))
+  seen-next seen q =
+      ap (λ (x : Compatible). seenFrom x (heldColumns (left (s + 1)))) q ∙ seen-cons seen (partOf values p) (left (s + 1)) ∙ ap (λ (ps : List Part). seenFrom seen (heldColumns ps)) (sym step)
 
-  pub become-next : (u n : ℕ) (b : Bool) → n ≡ r .values → b ≡ becomes u (r .typ) given (isPart (r .typ) (getD flags i 0)) → not b ≡ false
-      → allBecome u (rest n) ≡ allBecome u (partsFrom (drop i records) (drop base values) (drop i flags))
-  become-next u n b p q k =
-      ap (λ (m : ℕ). allBecome u (rest m)) p ∙ sym (become-step u ∙ ap (λ (x : Bool). x && allBecome u (rest (r .values))) (sym q ∙ not-false b k))
+  module _ (u : ℕ) {b : Bool} (q : b ≡ becomes u (partOf values p)) where
+    become-step : allBecome u (left s) ≡ b && allBecome u (left (s + 1))
+    become-step = ap (allBecome u) step ∙ become-cons u (partOf values p) (left (s + 1)) ∙ ap (λ (x : Bool). x && allBecome u (left (s + 1))) (sym q)
 
-none-left : (records : List (List ℕ)) (values flags : List ℕ) (i : ℕ) → length records ≤ i → partsFrom (drop i records) values flags ≡ []
-unfolding partsFrom
-none-left records values flags i h = rw (drop-of-length-le records h)
+    pub become-stop : not b ≡ true → false ≡ allBecome u (left s)
+    become-stop k = sym (become-step ∙ ap (λ (x : Bool). x && allBecome u (left (s + 1))) (not-true b k))
 
-pub seen-end : (seen : Compatible) (records : List (List ℕ)) (values flags : List ℕ) (i : ℕ) → length records ≤ i → seen ≡ seenFrom seen (heldColumns (partsFrom (drop i records) values flags))
-unfolding heldColumns
-seen-end seen records values flags i h = rw (none-left records values flags i h)
+    pub become-next : not b ≡ false → allBecome u (left (s + 1)) ≡ allBecome u (left s)
+    become-next k = sym (become-step ∙ ap (λ (x : Bool). x && allBecome u (left (s + 1))) (not-false b k))
 
-pub become-end : (u : ℕ) (records : List (List ℕ)) (values flags : List ℕ) (i : ℕ) → length records ≤ i → true ≡ allBecome u (partsFrom (drop i records) values flags)
-unfolding allBecome
-become-end u records values flags i h = rw (none-left records values flags i h)
+module _ (stands : List (List ℕ)) (values : List ℕ) (s : ℕ) (h : length stands ≤ s) where
+  pub seen-end : (seen : Compatible) → seen ≡ seenFrom seen (heldColumns (partsIn (drop s stands) values))
+  unfolding heldColumns partsIn
+  seen-end seen = rw (drop-of-length-le stands h)
 
--- ---- one column
-
-pub seen-out : (seen : Compatible) (t : ℕ) (values : List ℕ) (b c : Bool) → b ≡ c → not b ≡ true → seen ≡ seenWith seen t values c
-unfolding seenWith
-seen-out seen t values b c e k = rw (← e, not-true b k)
-
-pub seen-in : (seen s : Compatible) (t : ℕ) (given values : List ℕ) (b c : Bool) → b ≡ c → not b ≡ false → given ≡ values → s ≡ accepted seen t given → s ≡ seenWith seen t values c
-unfolding seenWith
-seen-in seen s t given values b c e k v p = p ∙ rw (← e, not-false b k, v)
-
-pub becomes-out : (u t : ℕ) (values : List ℕ) (b c : Bool) → b ≡ c → not b ≡ true → true ≡ becomes u t values c
-unfolding becomes
-becomes-out u t values b c e k = rw (← e, not-true b k)
-
-pub becomes-in : (u t : ℕ) (given values : List ℕ) (x b c : Bool) → b ≡ c → not b ≡ false → given ≡ values → x ≡ isCoercible t u given → x ≡ becomes u t values c
-unfolding becomes
-becomes-in u t given values x b c e k v p = p ∙ rw (← e, not-false b k, v)
+  pub become-end : (u : ℕ) → true ≡ allBecome u (partsIn (drop s stands) values)
+  unfolding allBecome heldColumns partsIn
+  become-end u = rw (drop-of-length-le stands h)

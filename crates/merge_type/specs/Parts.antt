@@ -1,17 +1,20 @@
--- What check 10 and the joined type read of the lent lists: each column's type, its stored values, and whether it is held. Assumes nothing.
-use Prim.Native.Nat.{ℕ, _≤_}
+-- What check 10 and the joined type read of the segments: each column's type, its stored values, and whether it is held. Assumes nothing.
+use Prim.Native.Nat.{ℕ, _<_}
 use mathlib.Core.List.{List, [], _∷_, map}
 use mathlib.Core.Bool.{Bool, true, _&&_, _||_, cond, not}
 use lib.Dec.{eqb}
-use lib.ListN.{length, take, drop}
-use Rattle.definitions.specs.Lists.{filter}
-use Rattle.definitions.specs.Segment.{Segment, SegmentRecord, recordFrom}
+use lib.ListN.{length}
+use Rattle.definitions.specs.Lists.{all, filter}
+use Rattle.definitions.specs.Segment.{Segment}
 use Rattle.definitions.specs.Row.{noType}
 use Rattle.definitions.specs.Types.{isCoercible, typeOf}
-use Rattle.definitions.specs.Answer.{total, oneCategory}
-use Rattle.segment.specs.Records.{recordsOf}
+use Rattle.definitions.specs.Answer.{oneCategory}
 use Rattle.column_type.specs.Codes.{category}
-use Rattle.numerical.specs.Seen.{firstOf}
+use Rattle.numerical.specs.declared.Compatible.{Compatible}
+use Rattle.numerical.specs.Seen.{firstOf, accepted}
+use Rattle.stands.specs.declared.Stand.{Stand}
+use Rattle.stands.specs.Stand.{Lies, standOf, standAt}
+use Rattle.stands.specs.Look.{valuesAt}
 use Rattle.merge_type.specs.declared.TypeAnswer.{TypeAnswer}
 use Rattle.merge_type.specs.declared.TypeAnswer.the-variants.{Wrong, Joined}
 
@@ -20,26 +23,35 @@ pub record Part : Type 0 where
   pub values : List ℕ
   pub held : Bool
 
--- a record's type, and its number of values
-abbrev pub typeAt : List ℕ → ℕ
-typeAt r = recordFrom r .type
+-- marked as held, and present
+unfoldable pub isPart : Stand → Bool
+isPart p = eqb (p .held) 1 && not (eqb (p .typ) noType)
 
-abbrev pub countAt : List ℕ → ℕ
-countAt r = recordFrom r .values
+abbrev pub partOf : List ℕ → Stand → Part
+partOf values p = record { type = p .typ; values = valuesAt p values; held = isPart p }
 
--- held: flagged 1, and present
-unfoldable pub isPart : ℕ → ℕ → Bool
-isPart t flag = eqb flag 1 && not (eqb t noType)
+unfoldable pub partsIn : List (List ℕ) → List ℕ → List Part
+partsIn stands values = map (λ r. partOf values (standOf r)) stands
 
-unfoldable pub partsFrom : List (List ℕ) → List ℕ → List ℕ → List Part
-partsFrom [] values flags = []
-partsFrom (r ∷ rs) values [] = []
-partsFrom (r ∷ rs) values (f ∷ fs) = record { type = typeAt r; values = take (countAt r) values; held = isPart (typeAt r) f } ∷ partsFrom rs (drop (countAt r) values) fs
+unfoldable pub typesIn : List (List ℕ) → List ℕ
+typesIn stands = map (λ r. standOf r .typ) stands
 
--- the lent lists are long enough
-pub record Lent (records : List (List ℕ)) (values flags : List ℕ) : Type 0 where
-  pub values-fit : total (λ (r : SegmentRecord). r .values) (recordsOf records) ≤ length values
-  pub flags-fit : length records ≤ length flags
+-- each type is a u32
+pub record Coded (stands : List (List ℕ)) : Type 0 where
+  pub each : (k : ℕ) → k < length stands → standAt stands k .typ < 4294967296
+
+-- and the runs lie within the section
+pub record Lent (stands : List (List ℕ)) (values : List ℕ) : Type 0 where
+  pub codes : Coded stands
+  pub lie : (k : ℕ) → k < length stands → Lies (standAt stands k .values) values
+
+-- ---- one part
+
+unfoldable pub seenWith : Compatible → Part → Compatible
+seenWith seen q = cond (q .held) (accepted seen (q .type) (q .values)) seen
+
+unfoldable pub becomes : ℕ → Part → Bool
+becomes u q = not (q .held) || isCoercible (q .type) u (q .values)
 
 -- ---- the rules, on parts
 
@@ -53,9 +65,6 @@ heldColumns ps = map asColumn (filter (λ (p : Part). p .held) ps)
 unfoldable pub typesOf : List Part → List ℕ
 typesOf ps = map (λ (p : Part). p .type) ps
 
-abbrev pub recordTypes : List (List ℕ) → List ℕ
-recordTypes rs = map typeAt rs
-
 unfoldable pub oneAmong : ℕ → List ℕ → Bool
 oneAmong required ts = oneCategory (filter (λ (t : ℕ). not (eqb t noType)) (required ∷ ts))
 
@@ -64,8 +73,7 @@ typeOfParts required ps = typeOf required (heldColumns ps)
 
 -- every held part becomes type u
 unfoldable pub allBecome : ℕ → List Part → Bool
-allBecome u [] = true
-allBecome u (p ∷ ps) = (not (p .held) || isCoercible (p .type) u (p .values)) && allBecome u ps
+allBecome u ps = all (λ (s : Segment). isCoercible (s .type) u (s .values)) (heldColumns ps)
 
 unfoldable pub typeAnswer : ℕ → List Part → TypeAnswer
 typeAnswer required ps =

@@ -1,17 +1,25 @@
 // The joined type and check 10: merge/mod.rs (GroupedColumns::column_type_after_merge, merged_numerical_columns_type, coerce_columns, coerce_column), where an error is an answer.
-// Which columns are held is lent, a byte 1 for each.
 ghost use mathlib.Core.Path.{_≡_};
-ghost use Prim.Native.Nat.{_+_, _≤_};
-ghost use lib.ListN.{length, take, drop};
+ghost use Prim.Native.Nat.{_<_};
 ghost use Rattle.numerical.specs.Seen.{noneSeen, seenFrom};
-ghost use Rattle.merge_type.specs.Parts.{isPart, partsFrom, Lent, heldColumns, recordTypes, oneAmong, typeOfParts, allBecome, typeAnswer, fitsFirst};
+ghost use Rattle.stands.specs.Stand.{Lies};
+ghost use Rattle.merge_type.specs.Parts.{isPart, partOf, partsIn, typesIn, Coded, Lent, heldColumns, seenWith, becomes, oneAmong, typeOfParts, allBecome, typeAnswer, fitsFirst};
 ghost use Rattle.merge_type.specs.Only.{isSecond, nextFirst, typesFrom};
-ghost use Rattle.merge_type.specs.One.{seenWith, becomes};
+use stands::Stand;
+use stands::StandNumbers;
 
 // Whether the types have one category and every held column becomes the joined type; then that type, 255 for no column.
 pub enum TypeAnswer {
     Wrong,
     Joined(u32),
+}
+
+// A column's type.
+fn type_of(p: Stand) -> u32
+    requires { ⌜ p .typ < 4294967296 ⌝ }
+    ensures { λ t. ⌜ t ≡ p .typ ⌝ }
+{
+    p.typ as u32
 }
 
 fn fits_first(first: u32, t: u32) -> bool
@@ -27,92 +35,90 @@ fn fits_first(first: u32, t: u32) -> bool
 }
 
 // Whether the required type and those of the present columns are of one category.
-pub fn one_category(required: u32, records: &[[u32; 8]]) -> bool
-    ensures { λ r. ⌜ r ≡ oneAmong required (recordTypes (now (records .entry))) ⌝ }
+fn one_category(required: u32, stands: &[StandNumbers]) -> bool
+    requires { ⌜ Coded (now stands) ⌝ }
+    ensures { λ r. ⌜ r ≡ oneAmong required (typesIn (now (stands .entry))) ⌝ }
 {
     let mut first = required;
-    let mut i: usize = 0;
-    while i < records.len() {
-        let r = segment::record_at(records, i);
-        if !fits_first(first, r.typ) {
+    let mut s: usize = 0;
+    while s < stands.len() {
+        let p = stands::stand_at(stands, s);
+        let t = type_of(p);
+        if !fits_first(first, t) {
             return false;
         }
-        first = numerical::first_type(first, r.typ);
-        i += 1;
+        first = numerical::first_type(first, t);
+        s += 1;
     }
     true
 }
 
-fn is_part(t: u32, flag: u8) -> bool
-    ensures { λ r. ⌜ r ≡ isPart t flag ⌝ }
+fn is_part(p: Stand) -> bool
+    ensures { λ r. ⌜ r ≡ isPart p ⌝ }
 {
-    if flag != 1 {
+    if p.held != 1 {
         return false;
     }
-    t != 255
+    p.typ != 255
 }
 
-// One column more, whose values stand from index base on.
-fn accept_record(
-    seen: numerical::Compatible,
-    r: segment::Record,
-    values: &[u64],
-    base: usize,
-    flag: u8,
-) -> numerical::Compatible
-    requires { ⌜ base + r .values ≤ length (now values) ⌝ }
-    ensures { λ s. ⌜ s ≡ seenWith seen (r .typ) (take (r .values) (drop base (now (values .entry)))) (isPart (r .typ) flag) ⌝ }
+// One column more.
+fn accept_column(seen: numerical::Compatible, p: Stand, values: &[u64]) -> numerical::Compatible
+    requires { ⌜ p .typ < 4294967296 ⌝ }
+    requires { ⌜ Lies (p .values) (now values) ⌝ }
+    ensures { λ s. ⌜ s ≡ seenWith seen (partOf (now (values .entry)) p) ⌝ }
 {
-    if !is_part(r.typ, flag) {
+    if !is_part(p) {
         return seen;
     }
-    let end = base + segment::wide(r.values);
-    seen.accept(r.typ, &values[base..end])
+    let t = type_of(p);
+    let a = p.values.from;
+    let b = p.values.to;
+    seen.accept(t, &values[a..b])
 }
 
 // What the held columns say of the joined type.
-pub fn seen_columns(records: &[[u32; 8]], values: &[u64], held: &[u8]) -> numerical::Compatible
-    requires { ⌜ Lent (now records) (now values) (now held) ⌝ }
-    ensures { λ s. ⌜ s ≡ seenFrom noneSeen (heldColumns (partsFrom (now (records .entry)) (now (values .entry)) (now (held .entry)))) ⌝ }
+fn seen_columns(stands: &[StandNumbers], values: &[u64]) -> numerical::Compatible
+    requires { ⌜ Lent (now stands) (now values) ⌝ }
+    ensures { λ s. ⌜ s ≡ seenFrom noneSeen (heldColumns (partsIn (now (stands .entry)) (now (values .entry)))) ⌝ }
 {
     let mut seen = numerical::Compatible::none();
-    let mut i: usize = 0;
-    let mut base: usize = 0;
-    while i < records.len() {
-        let r = segment::record_at(records, i);
-        seen = accept_record(seen, r, values, base, held[i]);
-        base += segment::wide(r.values);
-        i += 1;
+    let mut s: usize = 0;
+    while s < stands.len() {
+        let p = stands::stand_at(stands, s);
+        seen = accept_column(seen, p, values);
+        s += 1;
     }
     seen
 }
 
 // Whether one column is not held, or becomes type u.
-fn record_becomes(u: u32, r: segment::Record, values: &[u64], base: usize, flag: u8) -> bool
-    requires { ⌜ base + r .values ≤ length (now values) ⌝ }
-    ensures { λ b. ⌜ b ≡ becomes u (r .typ) (take (r .values) (drop base (now (values .entry)))) (isPart (r .typ) flag) ⌝ }
+fn column_becomes(u: u32, p: Stand, values: &[u64]) -> bool
+    requires { ⌜ p .typ < 4294967296 ⌝ }
+    requires { ⌜ Lies (p .values) (now values) ⌝ }
+    ensures { λ b. ⌜ b ≡ becomes u (partOf (now (values .entry)) p) ⌝ }
 {
-    if !is_part(r.typ, flag) {
+    if !is_part(p) {
         return true;
     }
-    let end = base + segment::wide(r.values);
-    numerical::is_coercible(r.typ, u, &values[base..end])
+    let t = type_of(p);
+    let a = p.values.from;
+    let b = p.values.to;
+    numerical::is_coercible(t, u, &values[a..b])
 }
 
 // Whether every held column becomes type u.
-pub fn all_become(u: u32, records: &[[u32; 8]], values: &[u64], held: &[u8]) -> bool
-    requires { ⌜ Lent (now records) (now values) (now held) ⌝ }
-    ensures { λ b. ⌜ b ≡ allBecome u (partsFrom (now (records .entry)) (now (values .entry)) (now (held .entry))) ⌝ }
+fn all_become(u: u32, stands: &[StandNumbers], values: &[u64]) -> bool
+    requires { ⌜ Lent (now stands) (now values) ⌝ }
+    ensures { λ b. ⌜ b ≡ allBecome u (partsIn (now (stands .entry)) (now (values .entry))) ⌝ }
 {
-    let mut i: usize = 0;
-    let mut base: usize = 0;
-    while i < records.len() {
-        let r = segment::record_at(records, i);
-        if !record_becomes(u, r, values, base, held[i]) {
+    let mut s: usize = 0;
+    while s < stands.len() {
+        let p = stands::stand_at(stands, s);
+        if !column_becomes(u, p, values) {
             return false;
         }
-        base += segment::wide(r.values);
-        i += 1;
+        s += 1;
     }
     true
 }
@@ -123,70 +129,71 @@ pub enum HeldTypes {
     Several,
 }
 
-fn is_second(first: u32, t: u32, flag: u8) -> bool
-    ensures { λ r. ⌜ r ≡ isSecond first t flag ⌝ }
+fn is_second(first: u32, p: Stand) -> bool
+    requires { ⌜ p .typ < 4294967296 ⌝ }
+    ensures { λ r. ⌜ r ≡ isSecond first p ⌝ }
 {
-    if !is_part(t, flag) {
+    if !is_part(p) {
         return false;
     }
     if first == 255 {
         return false;
     }
-    t != first
+    type_of(p) != first
 }
 
-fn next_first(first: u32, t: u32, flag: u8) -> u32
-    ensures { λ r. ⌜ r ≡ nextFirst first t flag ⌝ }
+fn next_first(first: u32, p: Stand) -> u32
+    requires { ⌜ p .typ < 4294967296 ⌝ }
+    ensures { λ r. ⌜ r ≡ nextFirst first p ⌝ }
 {
-    if !is_part(t, flag) {
+    if !is_part(p) {
         return first;
     }
-    numerical::first_type(first, t)
+    numerical::first_type(first, type_of(p))
 }
 
 // No value is read.
-pub fn held_types(records: &[[u32; 8]], held: &[u8]) -> HeldTypes
-    requires { ⌜ length (now records) ≤ length (now held) ⌝ }
-    ensures { λ a. ⌜ a ≡ typesFrom 255 (now (records .entry)) (now (held .entry)) ⌝ }
+fn held_types(stands: &[StandNumbers]) -> HeldTypes
+    requires { ⌜ Coded (now stands) ⌝ }
+    ensures { λ a. ⌜ a ≡ typesFrom 255 (now (stands .entry)) ⌝ }
 {
     let mut first: u32 = 255;
-    let mut i: usize = 0;
-    while i < records.len() {
-        let r = segment::record_at(records, i);
-        let flag = held[i];
-        if is_second(first, r.typ, flag) {
+    let mut s: usize = 0;
+    while s < stands.len() {
+        let p = stands::stand_at(stands, s);
+        if is_second(first, p) {
             return HeldTypes::Several;
         }
-        first = next_first(first, r.typ, flag);
-        i += 1;
+        first = next_first(first, p);
+        s += 1;
     }
     HeldTypes::Only(first)
 }
 
 // The joined type. Values are read only where the held columns have several types and none is required.
-pub fn type_after_merge(required: u32, records: &[[u32; 8]], values: &[u64], held: &[u8]) -> u32
-    requires { ⌜ Lent (now records) (now values) (now held) ⌝ }
-    ensures { λ u. ⌜ u ≡ typeOfParts required (partsFrom (now (records .entry)) (now (values .entry)) (now (held .entry))) ⌝ }
+fn type_after_merge(required: u32, stands: &[StandNumbers], values: &[u64]) -> u32
+    requires { ⌜ Lent (now stands) (now values) ⌝ }
+    ensures { λ u. ⌜ u ≡ typeOfParts required (partsIn (now (stands .entry)) (now (values .entry))) ⌝ }
 {
     if required != 255 {
         return required;
     }
-    match held_types(records, held) {
+    match held_types(stands) {
         HeldTypes::Only(t) => t,
-        HeldTypes::Several => seen_columns(records, values, held).joined_type(),
+        HeldTypes::Several => seen_columns(stands, values).joined_type(),
     }
 }
 
 // Check 10, and the joined type.
-pub fn check_types(required: u32, records: &[[u32; 8]], values: &[u64], held: &[u8]) -> TypeAnswer
-    requires { ⌜ Lent (now records) (now values) (now held) ⌝ }
-    ensures { λ a. ⌜ a ≡ typeAnswer required (partsFrom (now (records .entry)) (now (values .entry)) (now (held .entry))) ⌝ }
+pub fn check_types(required: u32, stands: &[StandNumbers], values: &[u64]) -> TypeAnswer
+    requires { ⌜ Lent (now stands) (now values) ⌝ }
+    ensures { λ a. ⌜ a ≡ typeAnswer required (partsIn (now (stands .entry)) (now (values .entry))) ⌝ }
 {
-    if !one_category(required, records) {
+    if !one_category(required, stands) {
         return TypeAnswer::Wrong;
     }
-    let u = type_after_merge(required, records, values, held);
-    if !all_become(u, records, values, held) {
+    let u = type_after_merge(required, stands, values);
+    if !all_become(u, stands, values) {
         return TypeAnswer::Wrong;
     }
     TypeAnswer::Joined(u)

@@ -23,8 +23,8 @@ pub fn codes_fit_at(records: &[segment::Record], i: usize) -> bool
     segment_fit::codes_fit(records[i])
 }
 
-// A record's eight numbers in their order.
-pub fn numbers_of(r: segment::Record) -> [u32; 8]
+// A record's numbers in their order.
+pub fn numbers_of(r: segment::Record) -> segment::RecordNumbers
     ensures { λ x. ⌜ x ≡ numbersOf r ⌝ }
 {
     [
@@ -39,8 +39,8 @@ pub fn numbers_of(r: segment::Record) -> [u32; 8]
     ]
 }
 
-// Record i as a row of eight numbers.
-pub fn row_of(records: &[segment::Record], i: usize) -> [u32; 8]
+// Record i as a row of numbers.
+pub fn row_of(records: &[segment::Record], i: usize) -> segment::RecordNumbers
     requires { ⌜ i < length (now records) ⌝ }
     ensures { λ x. ⌜ x ≡ numbersOf (getD (now (records .entry)) i none) ⌝ }
 {
@@ -58,7 +58,11 @@ pub fn count_of(n: usize) -> usize
 }
 
 // The table with a row at place i.
-fn put_row(table: [[u32; 8]; 257], i: usize, row: [u32; 8]) -> [[u32; 8]; 257]
+fn put_row(
+    table: [segment::RecordNumbers; 257],
+    i: usize,
+    row: segment::RecordNumbers,
+) -> [segment::RecordNumbers; 257]
     requires { ⌜ i < 257 ⌝ }
     ensures { λ r. ⌜ r ≡ set table i row ⌝ }
 {
@@ -68,14 +72,14 @@ fn put_row(table: [[u32; 8]; 257], i: usize, row: [u32; 8]) -> [[u32; 8]; 257]
 }
 
 // No rows.
-fn no_rows() -> [[u32; 8]; 257]
+fn no_rows() -> [segment::RecordNumbers; 257]
     ensures { λ r. ⌜ r ≡ blank ⌝ }
 {
-    [[0; 8]; 257]
+    [[0; segment::WIDTH]; 257]
 }
 
 // The table with a row for each record.
-pub fn rows_of(records: &[segment::Record]) -> [[u32; 8]; 257]
+pub fn rows_of(records: &[segment::Record]) -> [segment::RecordNumbers; 257]
     ensures { λ r. ⌜ r ≡ laidTo (now (records .entry)) (countOf (length (now (records .entry)))) ⌝ }
 {
     let n = count_of(records.len());

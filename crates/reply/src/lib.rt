@@ -76,7 +76,7 @@ fn put_answer(
 fn answer_lists(
     mode: u32,
     required: u32,
-    records: &[[u32; 8]],
+    records: &[segment::RecordNumbers],
     ids: &[u32],
     offsets: &[u32],
     values: &[u64],
@@ -128,7 +128,7 @@ fn answer_words(words: &[u64], bounds: &[usize], out: &mut [u8]) -> usize
     ensures { λ r. ⌜ r ≡ length (listing (joinOutcome (lentFrom (wordSections (now (words .entry)))))) ⌝ }
     ensures { λ _. ⌜ now (out .exit) ≡ put 0 (listing (joinOutcome (lentFrom (wordSections (now (words .entry)))))) (now (out .entry)) ⌝ }
 {
-    let mut records = [[0u32; 8]; 1024];
+    let mut records = [[0u32; segment::WIDTH]; 1024];
     let mut ids = [0u32; 8192];
     let mut offsets = [0u32; 8192];
     let mut lengths = [0u32; 8192];

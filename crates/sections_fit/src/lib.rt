@@ -46,7 +46,7 @@ fn plus(t: Totals, r: segment::Record) -> Totals
 }
 
 // The sums over at most 256 records, which fit.
-pub fn totals_of(records: &[[u32; 8]]) -> Totals
+pub fn totals_of(records: &[segment::RecordNumbers]) -> Totals
     requires { ⌜ length (now records) ≤ 256 ⌝ }
     ensures { λ x. ⌜ x ≡ totalsOf (recordsOf (now (records .entry))) ⌝ }
 {
@@ -70,7 +70,7 @@ pub fn totals_of(records: &[[u32; 8]]) -> Totals
 // ---- 2
 
 fn lengths_fit(
-    records: &[[u32; 8]],
+    records: &[segment::RecordNumbers],
     ids: &[u32],
     offsets: &[u32],
     values: &[u64],
@@ -102,7 +102,7 @@ fn lengths_fit(
 
 // ---- 3
 
-fn all_codes_fit(records: &[[u32; 8]]) -> bool
+fn all_codes_fit(records: &[segment::RecordNumbers]) -> bool
     ensures { λ x. ⌜ x ≡ codesFrom (recordsOf (now (records .entry))) ⌝ }
 {
     let mut s: usize = 0;
@@ -116,7 +116,7 @@ fn all_codes_fit(records: &[[u32; 8]]) -> bool
     true
 }
 
-fn known_codes(mode: u32, required: u32, records: &[[u32; 8]]) -> bool
+fn known_codes(mode: u32, required: u32, records: &[segment::RecordNumbers]) -> bool
     ensures { λ x. ⌜ x ≡ knownCodes mode required (recordsOf (now (records .entry))) ⌝ }
 {
     if 2 <= mode {
@@ -131,7 +131,7 @@ fn known_codes(mode: u32, required: u32, records: &[[u32; 8]]) -> bool
 // ---- 19
 
 // No record is of kind 3.
-fn none_old(records: &[[u32; 8]]) -> bool
+fn none_old(records: &[segment::RecordNumbers]) -> bool
     ensures { λ x. ⌜ x ≡ noneOld (recordsOf (now (records .entry))) ⌝ }
 {
     let mut s: usize = 0;
@@ -147,7 +147,7 @@ fn none_old(records: &[[u32; 8]]) -> bool
 
 // ---- 4
 
-fn all_lists_fit(records: &[[u32; 8]], ids: &[u32], offsets: &[u32]) -> bool
+fn all_lists_fit(records: &[segment::RecordNumbers], ids: &[u32], offsets: &[u32]) -> bool
     requires { ⌜ HoldsLists (recordsOf (now records)) (now ids) (now offsets) ⌝ }
     ensures { λ x. ⌜ x ≡ listsFrom (recordsOf (now (records .entry))) (now (ids .entry)) (now (offsets .entry)) ⌝ }
 {
@@ -170,7 +170,12 @@ fn all_lists_fit(records: &[[u32; 8]], ids: &[u32], offsets: &[u32]) -> bool
 
 // ---- 5
 
-fn all_values_fit(records: &[[u32; 8]], values: &[u64], lengths: &[u32], bytes: &[u8]) -> bool
+fn all_values_fit(
+    records: &[segment::RecordNumbers],
+    values: &[u64],
+    lengths: &[u32],
+    bytes: &[u8],
+) -> bool
     requires { ⌜ HoldsValues (recordsOf (now records)) (now values) (now lengths) (now bytes) ⌝ }
     ensures { λ x. ⌜ x ≡ valuesFrom (recordsOf (now (records .entry))) (now (values .entry)) (now (lengths .entry)) (now (bytes .entry)) ⌝ }
 {
@@ -195,7 +200,7 @@ fn all_values_fit(records: &[[u32; 8]], values: &[u64], lengths: &[u32], bytes: 
 
 // ---- 6
 
-fn all_alive_fit(mode: u32, records: &[[u32; 8]], alive: &[u64]) -> bool
+fn all_alive_fit(mode: u32, records: &[segment::RecordNumbers], alive: &[u64]) -> bool
     requires { ⌜ total aliveWords (recordsOf (now records)) ≤ length (now alive) ⌝ }
     ensures { λ x. ⌜ x ≡ aliveFitsFrom mode (recordsOf (now (records .entry))) (now (alive .entry)) ⌝ }
 {
@@ -233,7 +238,7 @@ fn sums_fit(rows: usize, values: usize, bytes: usize) -> bool
 pub fn first_to_seven(
     mode: u32,
     required: u32,
-    records: &[[u32; 8]],
+    records: &[segment::RecordNumbers],
     ids: &[u32],
     offsets: &[u32],
     values: &[u64],

@@ -17,8 +17,14 @@ pub struct Record {
     pub flag: u32,
 }
 
+// How many numbers a record has.
+pub const WIDTH: usize = 8;
+
+// A record's numbers, as they are lent.
+pub type RecordNumbers = [u32; WIDTH];
+
 // The only function that knows the order of a record's numbers.
-pub fn record_of(r: [u32; 8]) -> Record
+pub fn record_of(r: RecordNumbers) -> Record
     ensures { λ x. ⌜ x ≡ structOf r ⌝ }
 {
     Record {
@@ -34,7 +40,7 @@ pub fn record_of(r: [u32; 8]) -> Record
 }
 
 // The record of segment i.
-pub fn record_at(records: &[[u32; 8]], i: usize) -> Record
+pub fn record_at(records: &[RecordNumbers], i: usize) -> Record
     requires { ⌜ i < length (now records) ⌝ }
     ensures { λ x. ⌜ x ≡ structOf (getD (now (records .entry)) i []) ⌝ }
 {

@@ -1,13 +1,13 @@
--- Where each segment's terms stand in the flat runs, and the first cursors of the walk. Assumes nothing.
-use Prim.Native.Nat.{ℕ, zero, suc, _+_, _-_, _≤_, _<_}
-use mathlib.Core.Bool.{Bool, false, cond}
+-- Where each segment's terms stand, and the first cursors of the walk. Assumes nothing.
+use Prim.Native.Nat.{ℕ, zero, suc, _+_, _≤_, _<_}
+use mathlib.Core.Bool.{Bool, false}
 use mathlib.Core.List.{List, [], _++_}
 use mathlib.Core.Path.{_≡_}
-use lib.Dec.{eqb}
-use lib.ListN.{length, take, drop, getD, replicate}
+use lib.ListN.{length, getD, replicate}
 use Rattle.definitions.specs.Lists.{sum}
 use Rattle.lists.specs.Sums.{sumBelow}
-use Rattle.segment.specs.Records.{recordAt, startAt}
+use Rattle.stands.specs.declared.Stand.{Stand}
+use Rattle.stands.specs.Stand.{part, many, Lies, standAt}
 use Rattle.term_cursors.specs.Cursors.{cursorAt, termsIn, bytesIn, sumOver}
 
 -- f 0, f 1, .., f (n - 1), one after another
@@ -15,48 +15,29 @@ abbrev pub joinTo : {A : Type 0} → (ℕ → List A) → ℕ → List A
 joinTo f zero = []
 joinTo f (suc n) = joinTo f n ++ f n
 
--- how many terms a record announces
-abbrev pub countAt : List (List ℕ) → ℕ → ℕ
-countAt records s = recordAt records s .terms
+-- how many terms the segments before s have
+abbrev pub termsBefore : List (List ℕ) → ℕ → ℕ
+termsBefore stands s = sumBelow (λ k. many (standAt stands k .terms)) s
 
--- the same for a held segment, 0 for another
-abbrev pub heldAt : List (List ℕ) → List ℕ → ℕ → ℕ
-heldAt records held s = cond (eqb (getD held s 0) 0) 0 (countAt records s)
+-- and how many term bytes
+abbrev pub textBefore : List (List ℕ) → List ℕ → ℕ → ℕ
+textBefore stands lengths s = sumBelow (λ k. sum (part (standAt stands k .terms) lengths)) s
 
--- where a segment's terms begin among the term lengths
-abbrev pub posAt : List (List ℕ) → ℕ → ℕ
-posAt records s = startAt (λ r. r .terms) records s
+-- what the walk needs of the runs
+pub record Runs (stands : List (List ℕ)) (lengths bytes marks : List ℕ) (all : Bool) : Type 0 where
+  pub few : length stands ≤ 256
+  pub lie : (s : ℕ) → s < length stands → Lies (standAt stands s .terms) lengths
+  pub marked : all ≡ false → (s : ℕ) → s < length stands → standAt stands s .terms .to ≤ length marks
+  pub texts : (s : ℕ) → s < length stands → standAt stands s .text .from + sum (part (standAt stands s .terms) lengths) ≤ length bytes
 
--- and among the term bytes
-abbrev pub fromAt : List (List ℕ) → List ℕ → ℕ → ℕ
-fromAt records lengths s = sumBelow (λ k. sum (take (countAt records k) (drop (posAt records k) lengths))) s
+-- the first cursor of a segment
+unfoldable pub firstCursor : Stand → List ℕ → List ℕ → List ℕ → Bool → List ℕ
+firstCursor p lengths bytes marks all = cursorAt lengths bytes marks all (p .text .from) (p .terms .from) (p .terms .to) (p .map .from)
 
--- and in the map
-abbrev pub toAt : List (List ℕ) → List ℕ → ℕ → ℕ
-toAt records held s = sumBelow (heldAt records held) s
-
--- the bytes of the held segments' terms
-abbrev pub textAt : List (List ℕ) → List ℕ → List ℕ → ℕ → ℕ
-textAt records held lengths s = sumBelow (λ k. sum (take (heldAt records held k) (drop (posAt records k) lengths))) s
-
--- ---- what the walk needs of the runs
-
-pub record Runs (records : List (List ℕ)) (held lengths bytes marks : List ℕ) (all : Bool) : Type 0 where
-  pub few : length records ≤ 256
-  pub flags : length records ≤ length held
-  pub inside : posAt records (length records) ≤ length lengths
-  pub marked : all ≡ false → posAt records (length records) ≤ length marks
-  pub texts : fromAt records lengths (length records) ≤ length bytes
-
--- the first cursor of each segment
-unfoldable pub firstCursor : List (List ℕ) → List ℕ → List ℕ → List ℕ → List ℕ → Bool → ℕ → List ℕ
-firstCursor records held lengths bytes marks all s =
-    cursorAt lengths bytes marks all (fromAt records lengths s) (posAt records s + countAt records s - heldAt records held s) (posAt records s + countAt records s) (toAt records held s)
-
-pub record Filled (records : List (List ℕ)) (held lengths bytes marks : List ℕ) (all : Bool) (n : ℕ) (cursors : List (List ℕ)) : Type 0 where
+pub record Filled (stands : List (List ℕ)) (lengths bytes marks : List ℕ) (all : Bool) (n : ℕ) (cursors : List (List ℕ)) : Type 0 where
   pub size : length cursors ≡ 256
-  pub cursor : (s : ℕ) → s < n → getD cursors s [] ≡ firstCursor records held lengths bytes marks all s
+  pub cursor : (s : ℕ) → s < n → getD cursors s [] ≡ firstCursor (standAt stands s) lengths bytes marks all
   pub rest : (s c : ℕ) → n ≤ s → getD (getD cursors s []) c 0 ≡ 0
   pub blank : (s : ℕ) → n ≤ s → s < 256 → getD cursors s [] ≡ replicate 8 0
-  pub terms : sumOver termsIn cursors ≡ toAt records held n
-  pub texts : sumOver (bytesIn lengths) cursors ≡ textAt records held lengths n
+  pub terms : sumOver termsIn cursors ≡ termsBefore stands n
+  pub texts : sumOver (bytesIn lengths) cursors ≡ textBefore stands lengths n

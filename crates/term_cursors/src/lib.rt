@@ -6,6 +6,7 @@ ghost use Prim.Native.Nat.{_+_, _<_};
 ghost use lib.ListN.{length, set, replicate};
 ghost use Rattle.term_cursors.specs.Cursors.{unmarkedAt, cursorAt, Standing};
 ghost use Rattle.term_cursors.specs.Runs.{Runs, Filled};
+use stands::StandNumbers;
 use term_merger::Cursor;
 
 // 1 for a term that is not marked, where not all are kept.
@@ -63,39 +64,29 @@ pub fn put_cursor(
     cursors[s] = cursor_at(lengths, bytes, marks, all, at);
 }
 
-// The first cursor of each segment; one that is not held has no terms left.
+// The first cursor of each segment; one that is not held has no terms.
 pub fn fill_cursors(
-    records: &[[u32; 8]],
-    held: &[u8],
+    stands: &[StandNumbers],
     lengths: &[u32],
     bytes: &[u8],
     marks: &[u8],
     all: bool,
     cursors: &mut [Cursor],
 )
-    requires { ⌜ Runs (now records) (now held) (now lengths) (now bytes) (now marks) all ⌝ }
+    requires { ⌜ Runs (now stands) (now lengths) (now bytes) (now marks) all ⌝ }
     requires { ⌜ now cursors ≡ replicate 256 (replicate 8 0) ⌝ }
-    ensures { λ _. ⌜ Filled (now (records .entry)) (now (held .entry)) (now (lengths .entry)) (now (bytes .entry)) (now (marks .entry)) all (length (now (records .entry))) (now (cursors .exit)) ⌝ }
+    ensures { λ _. ⌜ Filled (now (stands .entry)) (now (lengths .entry)) (now (bytes .entry)) (now (marks .entry)) all (length (now (stands .entry))) (now (cursors .exit)) ⌝ }
 {
     let mut s: usize = 0;
-    let mut pos: usize = 0;
-    let mut from: usize = 0;
-    let mut to: usize = 0;
-    while s < records.len() {
-        let r = segment::record_at(records, s);
-        let n = segment::wide(r.terms);
-        let end = pos + n;
-        let k = runs::unless(held[s] == 0, n);
+    while s < stands.len() {
+        let p = stands::stand_at(stands, s);
         let at = TermPlace {
-            from: from,
-            pos: end - k,
-            end: end,
-            to: to,
+            from: p.text.from,
+            pos: p.terms.from,
+            end: p.terms.to,
+            to: p.map.from,
         };
         put_cursor(lengths, bytes, marks, all, at, cursors, s);
-        from += runs::sum_of(&lengths[pos..end]);
-        pos = end;
-        to += k;
         s += 1;
     }
 }

@@ -1,48 +1,43 @@
--- The marks of the terms that the held segments keep: one byte for each term of all segments. Assumes nothing.
+-- The marks of the terms that the segments keep: one byte for each term, where the segment's terms stand. Assumes nothing.
 use Prim.Native.Nat.{ℕ, zero, suc, _*_, _≤_, _<_}
 use mathlib.Core.Bool.{Bool, true, cond}
-use mathlib.Core.List.{List, [], _∷_, _++_, map}
+use mathlib.Core.List.{List, [], _∷_, _++_}
 use mathlib.Core.Path.{_≡_}
 use lib.Dec.{eqb}
-use lib.ListN.{length, getD, set}
+use lib.ListN.{length, replicate, set}
 use lib.Seq.{slice}
-use Rattle.definitions.specs.Lists.{upTo}
-use Rattle.definitions.specs.Segment.{Segment, SegmentRecord, aliveWords, segmentsFrom}
+use Rattle.definitions.specs.Segment.{Segment}
 use Rattle.definitions.specs.Row.{hasAliveSet, bitAt}
-use Rattle.definitions.specs.Join.{absent, isUsed}
-use Rattle.segment.specs.Records.{recordsOf, sectionsIn, startAt}
-use Rattle.runs.specs.Put.{Below}
+use Rattle.definitions.specs.Join.{isUsed}
+use Rattle.runs.specs.Put.{put, Below}
 use Rattle.column_index.specs.Lookup.{startOf, endOf, Sound}
-use Rattle.term_cursors.specs.Runs.{joinTo, countAt}
+use Rattle.stands.specs.declared.Stand.{Stand}
+use Rattle.stands.specs.Stand.{part, many, Lies, standOf, standAt}
+use Rattle.stands.specs.Look.{idsAt, offsetsAt, valuesAt, wordsAt}
 
--- ---- one segment
+-- ---- a segment's term
 
--- its record and its parts of the sections; the terms themselves don't matter here
-abbrev pub columnOf : SegmentRecord → List ℕ → List ℕ → List ℕ → List ℕ → Segment
-columnOf r ids offsets values alive =
-    record { type = r .type; kind = r .kind; rows = r .rows; ids = ids; offsets = offsets; values = values; terms = []; flag = r .flag; alive = alive }
+-- the segment that stands there; the terms themselves don't matter here
+abbrev pub columnAt : Stand → List ℕ → List ℕ → List ℕ → List ℕ → Segment
+columnAt p ids offsets values alive =
+    record {
+      type = p .typ;
+      kind = p .kind;
+      rows = p .rows;
+      ids = idsAt p ids;
+      offsets = offsetsAt p offsets;
+      values = valuesAt p values;
+      terms = [];
+      flag = p .flag;
+      alive = wordsAt p alive;
+    }
 
--- a held segment keeps its term k: it has no alive set, or an alive row uses the term
+-- a segment keeps its term k: it has no alive set, or an alive row uses the term
 unfoldable pub isKept : Segment → ℕ → Bool
 isKept s k = cond (hasAliveSet s) (isUsed s k) true
 
 abbrev pub bit : Bool → ℕ
 bit b = cond b 1 0
-
--- the marks of its n terms: 1 where it keeps the term, and 0 everywhere if it is not held
-unfoldable pub marksIn : ℕ → Segment → ℕ → List ℕ
-unfolding isKept
-marksIn held s n = map (λ k. cond (eqb held 0) 0 (bit (isKept s k))) (upTo n)
-
--- ---- all segments
-
-abbrev pub columnsOf : List (List ℕ) → List ℕ → List ℕ → List ℕ → List ℕ → List Segment
-columnsOf records ids offsets values alive = segmentsFrom (recordsOf records) (sectionsIn ids offsets values [] [] alive)
-
-unfoldable pub marksOf : List (List ℕ) → List ℕ → List ℕ → List ℕ → List ℕ → List ℕ → List ℕ
-unfolding marksIn
-marksOf records held ids offsets values alive =
-    joinTo (λ s. marksIn (getD held s 0) (getD (columnsOf records ids offsets values alive) s absent) (countAt records s)) (length records)
 
 -- ---- what the code sets
 
@@ -60,22 +55,51 @@ unfoldable pub usedFrom : ℕ → List ℕ → List ℕ → List ℕ → List �
 usedFrom kind ids offsets values alive row zero = []
 usedFrom kind ids offsets values alive row (suc n) = usedBy kind ids offsets values alive row ++ usedFrom kind ids offsets values alive (suc row) n
 
--- ---- what checks 2, 4 and 5 say of a segment with n terms
+-- those of all rows of the segment
+abbrev pub usedIn : Stand → List ℕ → List ℕ → List ℕ → List ℕ → List ℕ
+usedIn p ids offsets values alive = usedFrom (p .kind) (idsAt p ids) (offsetsAt p offsets) (valuesAt p values) (wordsAt p alive) 0 (p .rows)
 
+-- a segment's part of the marks: what its alive rows use, or all without an alive set
+unfoldable pub marksOver : Stand → List ℕ → List ℕ → List ℕ → List ℕ → List ℕ → List ℕ
+marksOver p ids offsets values alive old = cond (eqb (p .flag) 1) (setAll (usedIn p ids offsets values alive) old) (replicate (length old) 1)
+
+-- all marks after the segment's
+unfoldable pub markedIn : Stand → List ℕ → List ℕ → List ℕ → List ℕ → List ℕ → List ℕ
+markedIn p ids offsets values alive marks = put (p .terms .from) (marksOver p ids offsets values alive (part (p .terms) marks)) marks
+
+unfoldable pub markedAll : List (List ℕ) → List ℕ → List ℕ → List ℕ → List ℕ → List ℕ → List ℕ
+markedAll [] ids offsets values alive marks = marks
+markedAll (r ∷ rs) ids offsets values alive marks = markedAll rs ids offsets values alive (markedIn (standOf r) ids offsets values alive marks)
+
+-- ---- what the checks say
+
+-- the runs lie within the sections
+pub record Lying (p : Stand) (ids offsets values alive : List ℕ) : Type 0 where
+  pub ids-lie : Lies (p .ids) ids
+  pub offsets-lie : Lies (p .offsets) offsets
+  pub values-lie : Lies (p .values) values
+  pub words-lie : Lies (p .words) alive
+
+-- 2, 4, 5 and 7 of a segment with n terms
 pub record Marking (kind rows : ℕ) (ids offsets values alive : List ℕ) (n : ℕ) : Type 0 where
   pub sound : Sound kind rows (length values) ids offsets
   pub words : rows ≤ 64 * length alive
   pub ordinals : Below n values
+  pub few : rows < 4294967296
 
--- asked of a held segment that has terms and an alive set
-abbrev pub Usable : ℕ → Segment → ℕ → Type 0
-Usable held s n = (held ≡ 0 → ⊥) → s .flag ≡ 1 → 0 < n → Marking (s .kind) (s .rows) (s .ids) (s .offsets) (s .values) (s .alive) n
+abbrev pub MarkingAt : Stand → List ℕ → List ℕ → List ℕ → List ℕ → ℕ → Type 0
+MarkingAt p ids offsets values alive n = Marking (p .kind) (p .rows) (idsAt p ids) (offsetsAt p offsets) (valuesAt p values) (wordsAt p alive) n
+
+-- they are asked of a segment that has terms and an alive set
+pub record Usable (p : Stand) (ids offsets values alive : List ℕ) (n : ℕ) : Type 0 where
+  pub lying : Lying p ids offsets values alive
+  pub marking : p .flag ≡ 1 → 0 < n → MarkingAt p ids offsets values alive n
 
 -- and of all segments
-pub record Columns (records : List (List ℕ)) (held ids offsets values alive : List ℕ) : Type 0 where
-  pub flags : length records ≤ length held
-  pub ids-in : startAt (λ r. r .ids) records (length records) ≤ length ids
-  pub offsets-in : startAt (λ r. r .offsets) records (length records) ≤ length offsets
-  pub values-in : startAt (λ r. r .values) records (length records) ≤ length values
-  pub alive-in : startAt aliveWords records (length records) ≤ length alive
-  pub usable : (s : ℕ) → s < length records → Usable (getD held s 0) (getD (columnsOf records ids offsets values alive) s absent) (countAt records s)
+pub record Columns (stands : List (List ℕ)) (ids offsets values alive marks : List ℕ) : Type 0 where
+  pub usable : (k : ℕ) → k < length stands → Usable (standAt stands k) ids offsets values alive (many (standAt stands k .terms))
+  pub terms-lie : (k : ℕ) → k < length stands → Lies (standAt stands k .terms) marks
+
+-- the segments' terms stand one behind another
+pub record Apart (stands : List (List ℕ)) : Type 0 where
+  pub apart : (j k : ℕ) → j < k → k < length stands → standAt stands j .terms .to ≤ standAt stands k .terms .from

@@ -1,20 +1,21 @@
 // Marks of the terms that alive rows use, for an ordered join (columnar/merge/merge_dict_column.rs, `compute_term_bitset` for each column).
 ghost use mathlib.Core.Path.{_≡_};
-ghost use Prim.Native.Nat.{_<_};
+ghost use Prim.Native.Nat.{_<_, _≤_};
 ghost use lib.ListN.{length, replicate};
+ghost use lib.Seq.{slice};
 ghost use Rattle.runs.specs.Put.{Below};
-ghost use Rattle.segment.specs.Records.{recordIn};
-ghost use Rattle.term_cursors.specs.Runs.{posAt};
-ghost use Rattle.term_marks.specs.Marks.{columnOf, marksIn, marksOf, setAll, usedBy, usedFrom, Marking, Usable, Columns};
-use segment::Record;
+ghost use Rattle.term_marks.specs.Marks.{setAll, usedBy, usedFrom, usedIn, marksOver, markedAll, Lying, Marking, MarkingAt, Usable, Columns};
+use stands::Stand;
+use stands::StandNumbers;
 
-// Marks each ordinal.
-fn mark_values(values: &[u64], marks: &mut [u8])
+// Marks the ordinals at a range of the segment's values.
+fn mark_values(at: column_index::Range, values: &[u64], marks: &mut [u8])
+    requires { ⌜ at .end ≤ length (now values) ⌝ }
     requires { ⌜ Below (length (now marks)) (now values) ⌝ }
-    ensures { λ _. ⌜ now (marks .exit) ≡ setAll (now (values .entry)) (now (marks .entry)) ⌝ }
+    ensures { λ _. ⌜ now (marks .exit) ≡ setAll (slice (at .start) (at .end) (now (values .entry))) (now (marks .entry)) ⌝ }
 {
-    let mut j: usize = 0;
-    while j < values.len() {
+    let mut j = at.start;
+    while j < at.end {
         let w = values[j] as usize;
         marks[w] = 1;
         j += 1;
@@ -40,9 +41,7 @@ fn mark_row(
         return;
     }
     let at = column_index::value_range(kind, ids, offsets, row, ids.len());
-    let a = at.start;
-    let e = at.end;
-    mark_values(&values[a..e], marks);
+    mark_values(at, values, marks);
 }
 
 // Marks what the alive rows use.
@@ -76,75 +75,78 @@ fn mark_all(marks: &mut [u8])
     }
 }
 
-// The marks of one segment's terms. A segment without terms has nothing to mark, whatever its values are.
-fn mark_segment(
-    held: u8,
-    r: Record,
+// Marks what the alive rows of a segment use, where it stands.
+fn mark_used(
+    p: Stand,
     ids: &[u32],
     offsets: &[u32],
     values: &[u64],
     alive: &[u64],
     marks: &mut [u8],
 )
-    requires { ⌜ now marks ≡ replicate (length (now marks)) 0 ⌝ }
-    requires { ⌜ Usable held (columnOf (recordIn r) (now ids) (now offsets) (now values) (now alive)) (length (now marks)) ⌝ }
-    ensures { λ _. ⌜ now (marks .exit) ≡ marksIn held (columnOf (recordIn r) (now (ids .entry)) (now (offsets .entry)) (now (values .entry)) (now (alive .entry))) (length (now (marks .entry))) ⌝ }
+    requires { ⌜ Lying p (now ids) (now offsets) (now values) (now alive) ⌝ }
+    requires { ⌜ MarkingAt p (now ids) (now offsets) (now values) (now alive) (length (now marks)) ⌝ }
+    ensures { λ _. ⌜ now (marks .exit) ≡ setAll (usedIn p (now (ids .entry)) (now (offsets .entry)) (now (values .entry)) (now (alive .entry))) (now (marks .entry)) ⌝ }
 {
-    if held == 0 {
-        return;
-    }
-    if r.flag != 1 {
+    let i = p.ids.from;
+    let i_end = p.ids.to;
+    let o = p.offsets.from;
+    let o_end = p.offsets.to;
+    let v = p.values.from;
+    let v_end = p.values.to;
+    let w = p.words.from;
+    let w_end = p.words.to;
+    mark_rows(
+        p.kind,
+        p.rows as u32,
+        &ids[i..i_end],
+        &offsets[o..o_end],
+        &values[v..v_end],
+        &alive[w..w_end],
+        marks,
+    );
+}
+
+// The marks of one segment's terms. A segment without terms has nothing to mark, whatever its values are.
+fn mark_segment(
+    p: Stand,
+    ids: &[u32],
+    offsets: &[u32],
+    values: &[u64],
+    alive: &[u64],
+    marks: &mut [u8],
+)
+    requires { ⌜ Usable p (now ids) (now offsets) (now values) (now alive) (length (now marks)) ⌝ }
+    ensures { λ _. ⌜ now (marks .exit) ≡ marksOver p (now (ids .entry)) (now (offsets .entry)) (now (values .entry)) (now (alive .entry)) (now (marks .entry)) ⌝ }
+{
+    if p.flag != 1 {
         mark_all(marks);
         return;
     }
     if marks.len() == 0 {
         return;
     }
-    let kind = segment::wide(r.kind);
-    mark_rows(kind, r.rows, ids, offsets, values, alive, marks);
+    mark_used(p, ids, offsets, values, alive, marks);
 }
 
-// The marks of all segments' terms, where marks has a byte for each, all 0: 1 where a held segment keeps the term.
+// The marks of all segments' terms, where they stand.
 pub fn mark_terms(
-    records: &[[u32; 8]],
-    held: &[u8],
+    stands: &[StandNumbers],
     ids: &[u32],
     offsets: &[u32],
     values: &[u64],
     alive: &[u64],
     marks: &mut [u8],
 )
-    requires { ⌜ Columns (now records) (now held) (now ids) (now offsets) (now values) (now alive) ⌝ }
-    requires { ⌜ now marks ≡ replicate (posAt (now records) (length (now records))) 0 ⌝ }
-    ensures { λ _. ⌜ now (marks .exit) ≡ marksOf (now (records .entry)) (now (held .entry)) (now (ids .entry)) (now (offsets .entry)) (now (values .entry)) (now (alive .entry)) ⌝ }
+    requires { ⌜ Columns (now stands) (now ids) (now offsets) (now values) (now alive) (now marks) ⌝ }
+    ensures { λ _. ⌜ now (marks .exit) ≡ markedAll (now (stands .entry)) (now (ids .entry)) (now (offsets .entry)) (now (values .entry)) (now (alive .entry)) (now (marks .entry)) ⌝ }
 {
     let mut s: usize = 0;
-    let mut i: usize = 0;
-    let mut o: usize = 0;
-    let mut v: usize = 0;
-    let mut w: usize = 0;
-    let mut t: usize = 0;
-    while s < records.len() {
-        let r = segment::record_at(records, s);
-        let i_end = i + segment::wide(r.ids);
-        let o_end = o + segment::wide(r.offsets);
-        let v_end = v + segment::wide(r.values);
-        let w_end = w + segment::alive_words(r);
-        let t_end = t + segment::wide(r.terms);
-        mark_segment(
-            held[s],
-            r,
-            &ids[i..i_end],
-            &offsets[o..o_end],
-            &values[v..v_end],
-            &alive[w..w_end],
-            &mut marks[t..t_end],
-        );
-        i = i_end;
-        o = o_end;
-        v = v_end;
-        w = w_end;
-        t = t_end;
+    while s < stands.len() {
+        let p = stands::stand_at(stands, s);
+        let t = p.terms.from;
+        let t_end = p.terms.to;
+        mark_segment(p, ids, offsets, values, alive, &mut marks[t..t_end]);
         s += 1;
     }
 }

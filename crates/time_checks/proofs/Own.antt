@@ -28,6 +28,7 @@ use Rattle.time_checks.specs.Times.{singles, timesRise, fitsTimes, times
 use Rattle.time_checks.proofs.Several.{several}
 use Rattle.definitions.proofs.Lists.{mem-upTo, any-false}
 use Rattle.lists.proofs.Tests.{taken, other, neither}
+use Rattle.lists.proofs.Lists.{count-every}
 
 -- ---- up to 7
 
@@ -79,10 +80,6 @@ times-all (r ∷ rs) s h =
 count-none : (p : ℕ → Bool) (s n : ℕ) → ((r : ℕ) → s ≤ r → r < s + n → p r ≡ false) → count p (upFrom s n) ≡ 0
 count-none p s zero h = refl
 count-none p s (suc n) h = rw (h s (omega arith) (omega arith)) (count-none p (suc s) n (λ r l k. h r (omega arith) (omega arith)))
-
-count-every : (p : ℕ → Bool) (s n : ℕ) → ((r : ℕ) → p r ≡ true) → count p (upFrom s n) ≡ n
-count-every p s zero h = refl
-count-every p s (suc n) h = rw (h s) (ap suc (count-every p (suc s) n h))
 
 module _ (s : Segment) (words : length (s .alive) ≡ cond (eqb (s .flag) 1) (wordsFor (s .rows)) 0) (inside : bitPastRows s ≡ false) where
   bit-past : (r : ℕ) → s .rows ≤ r → r < 64 * length (s .alive) → bitAt (s .alive) r ≡ false

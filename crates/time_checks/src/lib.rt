@@ -67,7 +67,7 @@ fn times_fit(r: segment::Record, offsets: &[u32], values: &[u64]) -> bool
     times_rise(values)
 }
 
-fn all_times_fit(records: &[[u32; 8]], offsets: &[u32], values: &[u64]) -> bool
+fn all_times_fit(records: &[segment::RecordNumbers], offsets: &[u32], values: &[u64]) -> bool
     requires { ⌜ HoldsTimes (recordsOf (now records)) (now offsets) (now values) ⌝ }
     ensures { λ x. ⌜ x ≡ timesFrom (recordsOf (now (records .entry))) (now (offsets .entry)) (now (values .entry)) ⌝ }
 {
@@ -103,7 +103,7 @@ fn alive_in(r: segment::Record, alive: &[u64]) -> usize
     segment::wide(rows)
 }
 
-fn all_alive(records: &[[u32; 8]], alive: &[u64]) -> usize
+fn all_alive(records: &[segment::RecordNumbers], alive: &[u64]) -> usize
     requires { ⌜ length (now records) ≤ 256 ⌝ }
     requires { ⌜ total aliveWords (recordsOf (now records)) ≤ length (now alive) ⌝ }
     ensures { λ n. ⌜ n ≡ aliveCountFrom (recordsOf (now (records .entry))) (now (alive .entry)) ⌝ }
@@ -125,7 +125,7 @@ fn all_alive(records: &[[u32; 8]], alive: &[u64]) -> usize
 
 // The first of the checks up to 7, 11 and 12 that fails, or 0; the output has place for so many addresses.
 pub fn answer(
-    records: &[[u32; 8]],
+    records: &[segment::RecordNumbers],
     ids: &[u32],
     offsets: &[u32],
     values: &[u64],

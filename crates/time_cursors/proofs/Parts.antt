@@ -1,14 +1,15 @@
--- What the runs at a place give to each part of a row, and the row that the parts make. Assumes nothing.
+-- What a segment's runs give to each part of a row, and the row that the parts make. Assumes nothing.
 use Prim.Native.Nat.{ℕ, suc, _-_, _*_, _≤_, _<_}
 use native.Mathlib.Omega.{arith}
 use mathlib.Core.Path.{_≡_, sym, _∙_}
 use mathlib.Core.List.{List, [], _∷_}
-use lib.ListN.{length, getD}
+use lib.ListN.{length}
 use borrow.Author.Tests.{lt-ltb, le-ltb}
 use Rattle.column_index.specs.Lookup.{rankIn}
 use Rattle.column_index.proofs.Sound.{earlier-le}
-use Rattle.places.specs.Place.{kindAt, rowsAt, idsAt, valuesAt}
-use Rattle.time_cursors.specs.Cursors.{aliveBit, nextRow, timesBefore, lastKey, keyCursor, cursorAt, firstFrom, wordsAt, segmentIn, TimesAt, Timed, Left}
+use Rattle.stands.specs.declared.Stand.{Stand}
+use Rattle.stands.specs.Look.{idsAt, valuesAt, wordsAt}
+use Rattle.time_cursors.specs.Cursors.{aliveBit, nextRow, timesBefore, lastKey, keyCursor, cursorAt, firstFrom, segmentIn, TimesAt, Timed, Left}
 use Rattle.time_cursors.proofs.Laws.{seek-low, seek-high, rank-grows, times-listed, times-earlier, times-kind}
 use Rattle.lists.proofs.Parts.{run-length}
 
@@ -21,32 +22,32 @@ unfolding nextRow
 next-high flag alive rows from h = let k = seek-high (aliveBit flag alive) from (rows - from) in omega arith
 
 -- the times before a row are there
-pub times-fit : {place ids values : List ℕ} → TimesAt place ids values → (n : ℕ) → n ≤ rowsAt place → timesBefore (kindAt place) (idsAt place ids) n ≤ length (valuesAt place values)
-times-fit {place} {ids} t n h = rw (sym (times-earlier (kindAt place) (idsAt place ids) n)) (earlier-le (t .sound) n h)
+pub times-fit : {p : Stand} {ids values : List ℕ} → TimesAt p ids values → (n : ℕ) → n ≤ p .rows → timesBefore (p .kind) (idsAt p ids) n ≤ length (valuesAt p values)
+times-fit {p} {ids} t n h = rw (sym (times-earlier (p .kind) (idsAt p ids) n)) (earlier-le (t .sound) n h)
 
-module _ {place set ids values alive : List ℕ} (t : Timed place set ids values alive) {from k : ℕ} (l : Left place ids from k) where
-  pub words-there : getD set 0 0 ≡ 1 → rowsAt place ≤ 64 * length (wordsAt set alive)
-  words-there e = rw (run-length (getD set 1 0) (getD set 2 0) alive (t .alive-end)) (t .words e)
+module _ {p : Stand} {ids values alive : List ℕ} (t : Timed p ids values alive) {from k : ℕ} (l : Left p ids from k) where
+  pub words-there : p .flag ≡ 1 → p .rows ≤ 64 * length (wordsAt p alive)
+  words-there e = rw (run-length (p .words .from) (p .words .to) alive (t .words-lie .ends)) (t .enough e)
 
-  module _ {n : ℕ} (e : n ≡ nextRow (getD set 0 0) (wordsAt set alive) (rowsAt place) from) where
+  module _ {n : ℕ} (e : n ≡ nextRow (p .flag) (wordsAt p alive) (p .rows) from) where
     from-before : from ≤ n
-    from-before = rw e (next-low (getD set 0 0) (wordsAt set alive) (rowsAt place) from)
+    from-before = rw e (next-low (p .flag) (wordsAt p alive) (p .rows) from)
 
-    pub cursor-none : rowsAt place ≤ n → 0 ∷ 0 ∷ 0 ∷ rowsAt place ∷ rowsAt place ∷ 0 ∷ 0 ∷ 0 ∷ [] ≡ firstFrom (segmentIn place set ids values alive) from
+    pub cursor-none : p .rows ≤ n → 0 ∷ 0 ∷ 0 ∷ p .rows ∷ p .rows ∷ 0 ∷ 0 ∷ 0 ∷ [] ≡ firstFrom (segmentIn p ids values alive) from
     unfolding firstFrom cursorAt keyCursor segmentIn
-    cursor-none h = rw (sym e, le-ltb n (rowsAt place) h)
+    cursor-none h = rw (sym e, le-ltb n (p .rows) h)
 
-    module _ (h : n < rowsAt place) where
+    module _ (h : n < p .rows) where
       pub row-small : n < 4294967296
       row-small = omega (arith, t .times .small)
 
-      pub ids-ready : (kindAt place ≡ 0 → ⊥) → (kindAt place ≡ 1 → ⊥) → k ≤ rankIn (suc n) (idsAt place ids)
-      ids-ready a b = rw (l .times ∙ sym (times-listed (kindAt place) (idsAt place ids) from a b)) (rank-grows from (suc n) (idsAt place ids) (omega (arith, from-before)))
+      pub ids-ready : (p .kind ≡ 0 → ⊥) → (p .kind ≡ 1 → ⊥) → k ≤ rankIn (suc n) (idsAt p ids)
+      ids-ready a b = rw (l .times ∙ sym (times-listed (p .kind) (idsAt p ids) from a b)) (rank-grows from (suc n) (idsAt p ids) (omega (arith, from-before)))
 
-      module _ {m : ℕ} (f : m ≡ timesBefore (kindAt place) (idsAt place ids) (suc n)) where
-        pub values-ready : m ≤ length (valuesAt place values)
+      module _ {m : ℕ} (f : m ≡ timesBefore (p .kind) (idsAt p ids) (suc n)) where
+        pub values-ready : m ≤ length (valuesAt p values)
         values-ready = rw f (times-fit (t .times) (suc n) h)
 
-        pub cursor-some : keyCursor (lastKey (valuesAt place values) m) n (rowsAt place) m ≡ firstFrom (segmentIn place set ids values alive) from
+        pub cursor-some : keyCursor (lastKey (valuesAt p values) m) n (p .rows) m ≡ firstFrom (segmentIn p ids values alive) from
         unfolding firstFrom cursorAt segmentIn
-        cursor-some = rw (sym e, lt-ltb n (rowsAt place) h, f, sym (times-kind (kindAt place) (idsAt place ids) (suc n)))
+        cursor-some = rw (sym e, lt-ltb n (p .rows) h, f, sym (times-kind (p .kind) (idsAt p ids) (suc n)))

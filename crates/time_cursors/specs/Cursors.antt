@@ -11,7 +11,9 @@ use Rattle.segment.specs.Kind.{byIndex}
 use Rattle.definitions.specs.Row.{bitAt}
 use Rattle.definitions.specs.TimeOrder.{timeOf}
 use Rattle.column_index.specs.Lookup.{rankIn, Sound}
-use Rattle.places.specs.Place.{run, kindAt, rowsAt, idsAt, valuesAt}
+use Rattle.stands.specs.declared.Stand.{Stand}
+use Rattle.stands.specs.Stand.{many, Lies}
+use Rattle.stands.specs.Look.{idsAt, valuesAt, wordsAt}
 
 -- ---- the next alive row
 
@@ -59,48 +61,41 @@ unfoldable pub firstFrom : Segment → ℕ → List ℕ
 unfolding cursorAt nextRow
 firstFrom s from = cursorAt s (nextRow (s .flag) (s .alive) (s .rows) from)
 
--- ---- a segment by its place
-
--- a set has three numbers: the flag, then start and end of the segment's alive words
-abbrev pub wordsAt : List ℕ → List ℕ → List ℕ
-wordsAt set alive = run (getD set 1 0) (getD set 2 0) alive
+-- ---- a segment by its stand
 
 -- no row has several times, so kind 4 is as good as kind 2: the offsets say nothing more
 abbrev pub timeKind : ℕ → ℕ
 timeKind kind = byIndex kind 0 1 2 2
 
 -- the segment that stands there, without its type, offsets and terms
-unfoldable pub segmentIn : List ℕ → List ℕ → List ℕ → List ℕ → List ℕ → Segment
-segmentIn place set ids values alive =
+unfoldable pub segmentIn : Stand → List ℕ → List ℕ → List ℕ → Segment
+segmentIn p ids values alive =
     record {
       type = 0;
-      kind = timeKind (kindAt place);
-      rows = rowsAt place;
-      ids = idsAt place ids;
+      kind = timeKind (p .kind);
+      rows = p .rows;
+      ids = idsAt p ids;
       offsets = [];
-      values = valuesAt place values;
+      values = valuesAt p values;
       terms = [];
-      flag = getD set 0 0;
-      alive = wordsAt set alive;
+      flag = p .flag;
+      alive = wordsAt p alive;
     }
 
 -- the runs of ids and times lie within the sections, and what the checks say of them
-pub record TimesAt (place ids values : List ℕ) : Type 0 where
-  pub ids-run : getD place 2 0 ≤ getD place 3 0
-  pub ids-end : getD place 3 0 ≤ length ids
-  pub values-run : getD place 6 0 ≤ getD place 7 0
-  pub values-end : getD place 7 0 ≤ length values
-  pub sound : Sound (timeKind (kindAt place)) (rowsAt place) (length (valuesAt place values)) (idsAt place ids) []
-  pub small : rowsAt place < 4294967296
+pub record TimesAt (p : Stand) (ids values : List ℕ) : Type 0 where
+  pub ids-lie : Lies (p .ids) ids
+  pub values-lie : Lies (p .values) values
+  pub sound : Sound (timeKind (p .kind)) (p .rows) (length (valuesAt p values)) (idsAt p ids) []
+  pub small : p .rows < 4294967296
 
 -- and of the alive words
-pub record Timed (place set ids values alive : List ℕ) : Type 0 where
-  pub times : TimesAt place ids values
-  pub alive-run : getD set 1 0 ≤ getD set 2 0
-  pub alive-end : getD set 2 0 ≤ length alive
-  pub words : getD set 0 0 ≡ 1 → rowsAt place ≤ 64 * (getD set 2 0 - getD set 1 0)
+pub record Timed (p : Stand) (ids values alive : List ℕ) : Type 0 where
+  pub times : TimesAt p ids values
+  pub words-lie : Lies (p .words) alive
+  pub enough : p .flag ≡ 1 → p .rows ≤ 64 * many (p .words)
 
 -- the rows from the given one on are left, and k times stand before it
-pub record Left (place ids : List ℕ) (from k : ℕ) : Type 0 where
-  pub row : from ≤ rowsAt place
-  pub times : k ≡ timesBefore (kindAt place) (idsAt place ids) from
+pub record Left (p : Stand) (ids : List ℕ) (from k : ℕ) : Type 0 where
+  pub row : from ≤ p .rows
+  pub times : k ≡ timesBefore (p .kind) (idsAt p ids) from

@@ -107,29 +107,27 @@ fn key_cursor(values: &[u64], n: usize, row: usize, rows: usize) -> Cursor
 
 // The cursor at the first alive row from the given one on; k times stand before it.
 pub fn first_from(
-    place: [usize; 8],
-    set: [usize; 3],
+    p: stands::Stand,
     ids: &[u32],
     values: &[u64],
     alive: &[u64],
     from: usize,
     k: usize,
 ) -> Cursor
-    requires { ⌜ Timed place set (now ids) (now values) (now alive) ⌝ }
-    requires { ⌜ Left place (now ids) from k ⌝ }
-    ensures { λ r. ⌜ r ≡ firstFrom (segmentIn place set (now (ids .entry)) (now (values .entry)) (now (alive .entry))) from ⌝ }
+    requires { ⌜ Timed p (now ids) (now values) (now alive) ⌝ }
+    requires { ⌜ Left p (now ids) from k ⌝ }
+    ensures { λ r. ⌜ r ≡ firstFrom (segmentIn p (now (ids .entry)) (now (values .entry)) (now (alive .entry))) from ⌝ }
 {
-    let rows = place[1];
-    let a = set[1];
-    let b = set[2];
-    let n = next_alive(set[0], &alive[a..b], rows, from);
-    if rows <= n {
-        return [0, 0, 0, rows, rows, 0, 0, 0];
+    let a = p.words.from;
+    let b = p.words.to;
+    let n = next_alive(p.flag, &alive[a..b], p.rows, from);
+    if p.rows <= n {
+        return [0, 0, 0, p.rows, p.rows, 0, 0, 0];
     }
-    let c = place[2];
-    let d = place[3];
-    let m = times_until(place[0], &ids[c..d], n, k);
-    let e = place[6];
-    let f = place[7];
-    key_cursor(&values[e..f], m, n, rows)
+    let c = p.ids.from;
+    let d = p.ids.to;
+    let m = times_until(p.kind, &ids[c..d], n, k);
+    let e = p.values.from;
+    let f = p.values.to;
+    key_cursor(&values[e..f], m, n, p.rows)
 }

@@ -17,20 +17,22 @@ use Rattle.definitions.specs.Row.{isAlive}
 use Rattle.definitions.specs.Join.{absent}
 use Rattle.definitions.specs.TimeOrder.{keyOf, timeOrder}
 use Rattle.definitions.specs.Outcome.{written}
-use Rattle.places.specs.Place.{kindAt, rowsAt, idsAt, valuesAt}
+use Rattle.stands.specs.declared.Stand.{Stand}
+use Rattle.stands.specs.Stand.{standAt}
+use Rattle.stands.specs.Look.{idsAt, valuesAt, wordsAt}
 use Rattle.term_merger.specs.declared.Heap.{Heap}
 use Rattle.term_order.specs.Key.{Inside}
 use Rattle.term_merger.specs.Order as heap
 use Rattle.term_merger.specs.Order.{cell, keyIn, tieOf, TermsInside}
 use Rattle.term_merger.specs.Heap.{one}
 use Rattle.term_merger.specs.Live.{leftOf, Settled, Started}
-use Rattle.time_cursors.specs.Cursors.{aliveBit, timesBefore, lastKey, keyCursor, cursorAt, firstFrom, wordsAt, segmentIn, Timed, Left}
-use Rattle.time_merge.specs.Order.{pairOf, placed, placedSegments, timeWritten, Ready, Rising, Begins, Ends}
+use Rattle.time_cursors.specs.Cursors.{aliveBit, timesBefore, lastKey, keyCursor, cursorAt, firstFrom, segmentIn, Timed, Left}
+use Rattle.time_merge.specs.Order.{pairOf, placedSegments, timeWritten, Ready, Rising, Begins, Ends}
 use Rattle.time_merge.specs.declared.Bound.{Bound}
 use Rattle.time_merge.specs.declared.Run.{Run}
 use Rattle.time_merge.specs.Runs.{aliveUpTo, addresses, within, Bounds, RunTo}
 use Rattle.time_merge.proofs.Standing.{bump, bump-here, bump-there, next, aliveRows, Standing, standing-start, standing-end, standing-room, standing-run}
-use Rattle.time_merge.proofs.Keyed.{timesTo, keyAt, cursor-left, cursor-3, cursor-4, cursor-5, cursor-inside, cursors-order, within-key, segment-there, segment-none, rows-there, there, key-is, keys-grow}
+use Rattle.time_merge.proofs.Keyed.{timesTo, keyAt, cursor-left, cursor-3, cursor-4, cursor-5, cursor-inside, cursors-order, within-key, segment-there, segment-none, timed-at, there, key-is, keys-grow}
 use Rattle.time_merge.proofs.Rows.{rest-some}
 use Rattle.time_merge.proofs.Reaching.{run-fits}
 use Rattle.time_cursors.proofs.Laws.{times-kind}
@@ -61,9 +63,9 @@ pub record Going (ss : List Segment) (bytes : List ℕ) (out₀ cursors out : Li
   pub out-is : out ≡ written (map pairOf done) out₀
   pub out-size : length out ≡ length out₀
 
-module _ {places alives : List (List ℕ)} {ids values alive : List ℕ} (y : Ready places alives ids values alive) where
+module _ {stands : List (List ℕ)} {ids values alive : List ℕ} (y : Ready stands ids values alive) where
   abbrev ss : List Segment
-  ss = placedSegments places alives ids values alive
+  ss = placedSegments stands ids values alive
 
   far : (x : ℕ) → 256 ≤ x → getD ss x absent .rows ≡ 0
   far x h = ap (λ (s : Segment). s .rows) (segment-none y x (omega (arith, y .few)))
@@ -95,7 +97,7 @@ module _ {places alives : List (List ℕ)} {ids values alive : List ℕ} (y : Re
           let e : getD cursors x [] ≡ [] = List·getD-eq-default cursors [] (omega (arith, b .size)) in
           ap (λ (r : List ℕ). ltb 0 (getD r 4 0 - getD r 3 0)) e ∙ sym (le-ltb (next ss x 0) (getD ss x absent .rows) (omega (arith, far x l)))
 
-  module _ {out₀ : List (List ℕ)} (z : Rising places alives ids values alive out₀) {bytes : List ℕ} {cursors out : List (List ℕ)} {h : Heap} {k : ℕ} {P : ℕ → ℕ} {done : List Address} (g : Going ss bytes out₀ cursors out h k P done) where
+  module _ {out₀ : List (List ℕ)} (z : Rising stands ids values alive out₀) {bytes : List ℕ} {cursors out : List (List ℕ)} {h : Heap} {k : ℕ} {P : ℕ → ℕ} {done : List Address} (g : Going ss bytes out₀ cursors out h k P done) where
     pub going-readable : TermsInside bytes cursors
     unfolding TermsInside
     going-readable x l = subst (λ (r : List ℕ). Inside bytes (keyIn r)) (sym (g .cursor x l)) (cursor-inside (getD ss x absent) (P x) bytes)
@@ -118,15 +120,16 @@ module _ {places alives : List (List ℕ)} {ids values alive : List ℕ} (y : Re
         over x = all-over (g .heap) e x
 
     -- the segment at the top
-    module _ (some : 0 < h .len) {s : ℕ} (top : s ≡ getD (h .seg) 0 0) where
+    pub s-there : 0 < h .len → {s : ℕ} → s ≡ getD (h .seg) 0 0 → s < length stands
+    s-there some {s} top = there y s (omega (arith, top-left (g .heap) some top))
+
+    -- and where it stands
+    module _ (some : 0 < h .len) {s : ℕ} (top : s ≡ getD (h .seg) 0 0) {p : Stand} (is-p : p ≡ standAt stands s) where
       pub live : P s < getD ss s absent .rows
       live = top-left (g .heap) some top
 
-      pub s-there : s < length places
-      s-there = there y s (omega (arith, live))
-
       s-near : s < 256
-      s-near = omega (arith, s-there, y .few)
+      s-near = omega (arith, s-there some top, y .few)
 
       cursor-s : getD cursors s [] ≡ cursorAt (getD ss s absent) (P s)
       cursor-s = g .cursor s s-near
@@ -134,35 +137,33 @@ module _ {places alives : List (List ℕ)} {ids values alive : List ℕ} (y : Re
       pub here-3 : cell cursors s 3 ≡ P s
       here-3 = ap (λ (l : List ℕ). getD l 3 0) cursor-s ∙ cursor-3 (getD ss s absent) (P s) (g .standing .place s)
 
-      -- where it stands, and its rows
-      abbrev place : List ℕ
-      place = getD places s []
-
-      abbrev set-s : List ℕ
-      set-s = getD alives s []
-
+      -- its rows
       abbrev vs : List ℕ
-      vs = valuesAt place values
+      vs = valuesAt p values
 
-      rows-s : getD ss s absent .rows ≡ rowsAt place
-      rows-s = rows-there y s s-there
+      segment-s : getD ss s absent ≡ segmentIn p ids values alive
+      segment-s = segment-there y s (s-there some top) ∙ ap (λ (q : Stand). segmentIn q ids values alive) (sym is-p)
 
-      pub timed-s : Timed place set-s ids values alive
-      timed-s = y .timed s s-there
-
-      times-s : (n : ℕ) → timesBefore (getD ss s absent .kind) (getD ss s absent .ids) n ≡ timesBefore (kindAt place) (idsAt place ids) n
+      rows-s : getD ss s absent .rows ≡ p .rows
       unfolding segmentIn
-      times-s n = ap (λ (x : Segment). timesBefore (x .kind) (x .ids) n) (segment-there y s s-there) ∙ times-kind (kindAt place) (idsAt place ids) n
+      rows-s = ap (λ (x : Segment). x .rows) segment-s
+
+      pub timed-s : Timed p ids values alive
+      timed-s = timed-at y is-p (s-there some top)
+
+      times-s : (n : ℕ) → timesBefore (getD ss s absent .kind) (getD ss s absent .ids) n ≡ timesBefore (p .kind) (idsAt p ids) n
+      unfolding segmentIn
+      times-s n = ap (λ (x : Segment). timesBefore (x .kind) (x .ids) n) segment-s ∙ times-kind (p .kind) (idsAt p ids) n
 
       values-s : getD ss s absent .values ≡ vs
       unfolding segmentIn
-      values-s = ap (λ (x : Segment). x .values) (segment-there y s s-there)
+      values-s = ap (λ (x : Segment). x .values) segment-s
 
       -- the key of its row q
-      row-key : (q : ℕ) → q < getD ss s absent .rows → keyOf ss (at s q) ≡ lastKey vs (timesBefore (kindAt place) (idsAt place ids) (suc q))
+      row-key : (q : ℕ) → q < getD ss s absent .rows → keyOf ss (at s q) ≡ lastKey vs (timesBefore (p .kind) (idsAt p ids) (suc q))
       row-key q l = sym (key-is y z s q l) ∙ ap₂ lastKey values-s (times-s (suc q))
 
-      pub rest-left : Left place ids (cell cursors s 3 + 1) (cell cursors s 5)
+      pub rest-left : Left p ids (cell cursors s 3 + 1) (cell cursors s 5)
       rest-left =
           record {
             row = omega (arith, here-3, live, rows-s);
@@ -170,7 +171,7 @@ module _ {places alives : List (List ℕ)} {ids values alive : List ℕ} (y : Re
                 ap (λ (l : List ℕ). getD l 5 0) cursor-s
                 ∙ cursor-5 (getD ss s absent) (P s) live
                 ∙ times-s (suc (P s))
-                ∙ ap (timesBefore (kindAt place) (idsAt place ids)) (sym (ap (λ (n : ℕ). n + 1) here-3 ∙ add-one (P s)));
+                ∙ ap (timesBefore (p .kind) (idsAt p ids)) (sym (ap (λ (n : ℕ). n + 1) here-3 ∙ add-one (P s)));
           }
 
       -- a key that comes before the row of segment x
@@ -194,11 +195,11 @@ module _ {places alives : List (List ℕ)} {ids values alive : List ℕ} (y : Re
 
       -- ---- its run
 
-      module _ {r : Run} (t : RunTo bytes cursors (h .seg) (h .len) s place ids values r) where
+      module _ {r : Run} (t : RunTo bytes cursors (h .seg) (h .len) s p ids values r) where
         abbrev end : ℕ
         end = r .end
 
-        pub run-left : Left place ids (r .end) (r .times)
+        pub run-left : Left p ids (r .end) (r .times)
         run-left = record { row = t .high; times = t .times }
 
         end-after : P s < end
@@ -208,7 +209,7 @@ module _ {places alives : List (List ℕ)} {ids values alive : List ℕ} (y : Re
         last-key : keyOf ss (at s (end - 1)) ≡ lastKey vs (r .times)
         last-key =
             let e : suc (end - 1) ≡ end = omega (arith, end-after) in
-            row-key (end - 1) (omega (arith, end-after, t .high, rows-s)) ∙ ap (lastKey vs) (ap (timesBefore (kindAt place) (idsAt place ids)) e ∙ sym (t .times))
+            row-key (end - 1) (omega (arith, end-after, t .high, rows-s)) ∙ ap (lastKey vs) (ap (timesBefore (p .kind) (idsAt p ids)) e ∙ sym (t .times))
 
         chain : {a b c : ℕ} (s c′ x : ℕ) → (a < b) ⊎ ((a ≡ b) × (s < c′)) → (b < c) ⊎ ((b ≡ c) × (c′ ≤ x)) → (a < c) ⊎ ((a ≡ c) × (s ≤ x))
         chain s c′ x (inl p) (inl q) = inl (omega arith)
@@ -222,7 +223,7 @@ module _ {places alives : List (List ℕ)} {ids values alive : List ℕ} (y : Re
             go : (r .times ≡ cell cursors s 5) ⊎ ((0 < r .times) × (b : Bound) × Bounds bytes cursors (h .seg) (h .len) s b × (within b (getD vs (r .times - 1) 0) ≡ true)) → Ahead (lastKey vs (r .times)) x
             go (inl e) =
                 subst (λ (n : ℕ). Ahead n x)
-                (row-key (P s) live ∙ ap (lastKey vs) (ap (timesBefore (kindAt place) (idsAt place ids)) (sym (ap (λ (n : ℕ). n + 1) here-3 ∙ add-one (P s))) ∙ sym (rest-left .times) ∙ sym e)) (least x l)
+                (row-key (P s) live ∙ ap (lastKey vs) (ap (timesBefore (p .kind) (idsAt p ids)) (sym (ap (λ (n : ℕ). n + 1) here-3 ∙ add-one (P s))) ∙ sym (rest-left .times) ∙ sym e)) (least x l)
             go (inr (pos, b, inl few, w)) = absurd (alone (g .heap) some top few x l d)
             go (inr (pos, b, inr (c, child, is), w)) =
                 let c′ = getD (h .seg) c 0 in
@@ -262,13 +263,13 @@ module _ {places alives : List (List ℕ)} {ids values alive : List ℕ} (y : Re
 
         -- what is written
         abbrev written-rows : List ℕ
-        written-rows = aliveUpTo (getD set-s 0 0) (wordsAt set-s alive) (cell cursors s 3) end
+        written-rows = aliveUpTo (p .flag) (wordsAt p alive) (cell cursors s 3) end
 
         rows-are : written-rows ≡ rows
         unfolding aliveUpTo isAlive segmentIn
         rows-are =
-            ap (λ (n : ℕ). filter (aliveBit (getD set-s 0 0) (wordsAt set-s alive)) (upFrom n (end - n))) here-3
-            ∙ ap (λ (x : Segment). filter (isAlive x) (upFrom (P s) (end - P s))) (sym (segment-there y s s-there))
+            ap (λ (n : ℕ). filter (aliveBit (p .flag) (wordsAt p alive)) (upFrom n (end - n))) here-3
+            ∙ ap (λ (x : Segment). filter (isAlive x) (upFrom (P s) (end - P s))) (sym segment-s)
 
         pairs : (l : List ℕ) → addresses s l ≡ map pairOf (map (at s) l)
         unfolding addresses
@@ -281,14 +282,14 @@ module _ {places alives : List (List ℕ)} {ids values alive : List ℕ} (y : Re
         pub room : k + length written-rows ≤ length out
         room = omega (arith, number-new, standing-room ss P′ done′ standing-new, z .room, g .out-size)
 
-        first-alive : aliveBit (getD set-s 0 0) (wordsAt set-s alive) (cell cursors s 3) ≡ true
+        first-alive : aliveBit (p .flag) (wordsAt p alive) (cell cursors s 3) ≡ true
         unfolding isAlive segmentIn
-        first-alive = ap (aliveBit (getD set-s 0 0) (wordsAt set-s alive)) here-3 ∙ ap (λ (x : Segment). isAlive x (P s)) (sym (segment-there y s s-there)) ∙ g .standing .alive s live
+        first-alive = ap (aliveBit (p .flag) (wordsAt p alive)) here-3 ∙ ap (λ (x : Segment). isAlive x (P s)) (sym segment-s) ∙ g .standing .alive s live
 
         pub one-written : 0 < length written-rows
-        one-written = rest-some s (getD set-s 0 0) (wordsAt set-s alive) end (cell cursors s 3) (t .low) first-alive
+        one-written = rest-some s (p .flag) (wordsAt p alive) end (cell cursors s 3) (t .low) first-alive
 
-        pub rows-given : ((s < 256) × (cell cursors s 3 ≤ r .end) × (r .end < 4294967296)) × ((getD set-s 0 0 ≡ 1 → r .end ≤ 64 * length (wordsAt set-s alive)) × (k + length written-rows ≤ length out))
+        pub rows-given : ((s < 256) × (cell cursors s 3 ≤ r .end) × (r .end < 4294967296)) × ((p .flag ≡ 1 → r .end ≤ 64 * length (wordsAt p alive)) × (k + length written-rows ≤ length out))
         rows-given = (
           (s-near, omega (arith, t .low), omega (arith, t .high, timed-s .times .small)),
           (λ e. le-trans (t .high) (words-there timed-s run-left e), room),
@@ -296,10 +297,10 @@ module _ {places alives : List (List ℕ)} {ids values alive : List ℕ} (y : Re
 
         -- ---- the turn
 
-        module _ {new : List ℕ} (e : new ≡ firstFrom (placed places alives ids values alive s) (r .end)) where
+        module _ {new : List ℕ} (e : new ≡ firstFrom (segmentIn p ids values alive) (r .end)) where
           cursor-new : new ≡ cursorAt (getD ss s absent) (next ss s end)
           unfolding firstFrom
-          cursor-new = e ∙ ap (λ (x : Segment). firstFrom x end) (sym (segment-there y s s-there))
+          cursor-new = e ∙ ap (λ (x : Segment). firstFrom x end) (sym segment-s)
 
           cursors-new : (x : ℕ) → x < 256 → getD (set cursors s new) x [] ≡ cursorAt (getD ss x absent) (P′ x)
           cursors-new x l = go (same? x s)

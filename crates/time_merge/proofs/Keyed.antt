@@ -16,14 +16,15 @@ use Rattle.definitions.specs.TimeOrder.{timeOf, keyOf}
 use Rattle.definitions.proofs.Terms.{Before, lower, behind, before-some}
 use Rattle.column_index.specs.Lookup.{Sound}
 use Rattle.column_index.proofs.Sound.{earlierOf}
-use Rattle.places.specs.Place.{kindAt, rowsAt, idsAt}
-use Rattle.places.specs.Places.{table}
-use Rattle.places.proofs.Fill.{table-length, table-at}
+use Rattle.stands.specs.declared.Stand.{Stand}
+use Rattle.stands.specs.Stand.{table, standAt}
+use Rattle.stands.specs.Look.{idsAt}
+use Rattle.stands.proofs.Fill.{table-length, table-at}
 use Rattle.term_order.specs.Key.{restOf, keyed, Inside}
 use Rattle.term_merger.specs.Order.{tieOf}
 use Rattle.term_merger.specs.Order as heap
 use Rattle.term_merger.proofs.Laws.{LE}
-use Rattle.time_cursors.specs.Cursors.{lastKey, timesBefore, keyCursor, cursorAt, segmentIn}
+use Rattle.time_cursors.specs.Cursors.{lastKey, timesBefore, keyCursor, cursorAt, segmentIn, Timed}
 use Rattle.time_cursors.proofs.Laws.{times-earlier, times-kind}
 use Rattle.time_cursors.proofs.Keys.{none-several, key-earlier, key-grows}
 use Rattle.time_merge.specs.Order.{placed, placedSegments, Ready, Rising}
@@ -190,56 +191,55 @@ record Keyed (s : Segment) : Type 0 where
   times : (n : ℕ) → earlierOf (s .kind) (s .ids) (s .offsets) n ≡ timesBefore (s .kind) (s .ids) n
   rising : T (notFalling (map timeOf (s .values)))
 
-module _ {places alives : List (List ℕ)} {ids values alive : List ℕ} (y : Ready places alives ids values alive) where
-  pub segment-there : (x : ℕ) → x < length places → getD (placedSegments places alives ids values alive) x absent ≡ placed places alives ids values alive x
+module _ {stands : List (List ℕ)} {ids values alive : List ℕ} (y : Ready stands ids values alive) where
+  pub segment-there : (x : ℕ) → x < length stands → getD (placedSegments stands ids values alive) x absent ≡ placed stands ids values alive x
   unfolding placedSegments
-  segment-there x h = table-at (placed places alives ids values alive) absent (length places) x h
+  segment-there x h = table-at (placed stands ids values alive) absent (length stands) x h
 
-  pub segment-none : (x : ℕ) → length places ≤ x → getD (placedSegments places alives ids values alive) x absent ≡ absent
+  pub segment-none : (x : ℕ) → length stands ≤ x → getD (placedSegments stands ids values alive) x absent ≡ absent
   unfolding placedSegments
   segment-none x h =
-      let l : length (table (placed places alives ids values alive) (length places)) ≤ x = omega (arith, table-length (placed places alives ids values alive) (length places)) in
-      List·getD-eq-default (table (placed places alives ids values alive) (length places)) absent l
+      let l : length (table (placed stands ids values alive) (length stands)) ≤ x = omega (arith, table-length (placed stands ids values alive) (length stands)) in
+      List·getD-eq-default (table (placed stands ids values alive) (length stands)) absent l
 
-  pub rows-there : (x : ℕ) → x < length places → getD (placedSegments places alives ids values alive) x absent .rows ≡ rowsAt (getD places x [])
-  unfolding segmentIn
-  rows-there x h = ap (λ (s : Segment). s .rows) (segment-there x h)
+  pub timed-at : {x : ℕ} {p : Stand} → p ≡ standAt stands x → x < length stands → Timed p ids values alive
+  timed-at {x = x} e h = subst (λ (q : Stand). Timed q ids values alive) (sym e) (y .timed x h)
 
-  pub there : (x : ℕ) → 0 < getD (placedSegments places alives ids values alive) x absent .rows → x < length places
-  there x h = go (le-lt x (length places))
+  pub there : (x : ℕ) → 0 < getD (placedSegments stands ids values alive) x absent .rows → x < length stands
+  there x h = go (le-lt x (length stands))
     where
-      go : (x < length places) ⊎ (length places ≤ x) → x < length places
+      go : (x < length stands) ⊎ (length stands ≤ x) → x < length stands
       go (inl k) = k
-      go (inr k) = absurd (let e : getD (placedSegments places alives ids values alive) x absent .rows ≡ 0 = ap (λ (s : Segment). s .rows) (segment-none x k) in omega arith)
+      go (inr k) = absurd (let e : getD (placedSegments stands ids values alive) x absent .rows ≡ 0 = ap (λ (s : Segment). s .rows) (segment-none x k) in omega arith)
 
-  module _ {out : List (List ℕ)} (z : Rising places alives ids values alive out) where
-    keyed-place : (x : ℕ) → x < length places → Keyed (placed places alives ids values alive x)
+  module _ {out : List (List ℕ)} (z : Rising stands ids values alive out) where
+    keyed-stand : (x : ℕ) → x < length stands → Keyed (placed stands ids values alive x)
     unfolding segmentIn
-    keyed-place x h =
-        let place = getD places x [] in
+    keyed-stand x h =
+        let p = standAt stands x in
         record {
           sound = y .timed x h .times .sound;
           single = none-several (y .timed x h .times .sound);
-          times = λ n. times-earlier (kindAt place) (idsAt place ids) n ∙ sym (times-kind (kindAt place) (idsAt place ids) n);
+          times = λ n. times-earlier (p .kind) (idsAt p ids) n ∙ sym (times-kind (p .kind) (idsAt p ids) n);
           rising = z .rising x h;
         }
 
-    keyed-at : (x : ℕ) → x < length places → Keyed (getD (placedSegments places alives ids values alive) x absent)
-    keyed-at x h = subst Keyed (sym (segment-there x h)) (keyed-place x h)
+    keyed-at : (x : ℕ) → x < length stands → Keyed (getD (placedSegments stands ids values alive) x absent)
+    keyed-at x h = subst Keyed (sym (segment-there x h)) (keyed-stand x h)
 
     -- the key in the cursor is the definitions'
-    pub key-is : (x n : ℕ) → n < getD (placedSegments places alives ids values alive) x absent .rows
-        → keyAt (getD (placedSegments places alives ids values alive) x absent) n ≡ keyOf (placedSegments places alives ids values alive) (at x n)
+    pub key-is : (x n : ℕ) → n < getD (placedSegments stands ids values alive) x absent .rows
+        → keyAt (getD (placedSegments stands ids values alive) x absent) n ≡ keyOf (placedSegments stands ids values alive) (at x n)
     unfolding keyOf
     key-is x n h =
-        let s = getD (placedSegments places alives ids values alive) x absent in
+        let s = getD (placedSegments stands ids values alive) x absent in
         let k = keyed-at x (there x (omega arith)) in
         ap (lastKey (s .values)) (sym (k .times (suc n))) ∙ sym (key-earlier s (k .sound) (k .single) (suc n) h)
 
-    pub keys-grow : (x n m : ℕ) → n ≤ m → m < getD (placedSegments places alives ids values alive) x absent .rows
-        → keyOf (placedSegments places alives ids values alive) (at x n) ≤ keyOf (placedSegments places alives ids values alive) (at x m)
+    pub keys-grow : (x n m : ℕ) → n ≤ m → m < getD (placedSegments stands ids values alive) x absent .rows
+        → keyOf (placedSegments stands ids values alive) (at x n) ≤ keyOf (placedSegments stands ids values alive) (at x m)
     unfolding keyOf
     keys-grow x n m h l =
-        let s = getD (placedSegments places alives ids values alive) x absent in
+        let s = getD (placedSegments stands ids values alive) x absent in
         let k = keyed-at x (there x (omega arith)) in
         key-grows s (k .sound) (k .single) (k .rising) (suc n) (suc m) (suc-le-suc h) l

@@ -21,7 +21,8 @@ use Rattle.time_checks.proofs.Several.{rank-at, rank-past}
 use Rattle.time_cursors.specs.Cursors.{timesBefore, timeKind, TimesAt, Left}
 use Rattle.time_cursors.proofs.Laws.{rank-grows, by-ids, times-listed}
 use Rattle.time_cursors.proofs.Parts.{times-fit}
-use Rattle.places.specs.Place.{kindAt, rowsAt, idsAt, valuesAt}
+use Rattle.stands.specs.declared.Stand.{Stand}
+use Rattle.stands.specs.Look.{idsAt, valuesAt}
 use Rattle.term_merger.specs.Order.{cell}
 use Rattle.time_merge.specs.declared.Bound.{Bound}
 use Rattle.time_merge.specs.Runs.{within, stepsWithin, Bounds, Reach, rowOfTime, RunTo}
@@ -191,20 +192,20 @@ module _ (kind rows : ℕ) (ids values : List ℕ) (so : Sound (timeKind kind) r
 
 -- ---- the run
 
-pub run-fits : {place ids values : List ℕ} {from k : ℕ} → Left place ids from k → TimesAt place ids values → k ≤ length (valuesAt place values)
+pub run-fits : {p : Stand} {ids values : List ℕ} {from k : ℕ} → Left p ids from k → TimesAt p ids values → k ≤ length (valuesAt p values)
 run-fits {from = from} l t = rw (l .times) (times-fit t from (l .row))
 
-module _ {bytes : List ℕ} {cursors : List (List ℕ)} {seg : List ℕ} {len s : ℕ} {place ids values : List ℕ} (l : Left place ids (cell cursors s 3 + 1) (cell cursors s 5)) where
-  pub run-one : RunTo bytes cursors seg len s place ids values (record { end = cell cursors s 3 + 1; times = cell cursors s 5 })
+module _ {bytes : List ℕ} {cursors : List (List ℕ)} {seg : List ℕ} {len s : ℕ} {p : Stand} {ids values : List ℕ} (l : Left p ids (cell cursors s 3 + 1) (cell cursors s 5)) where
+  pub run-one : RunTo bytes cursors seg len s p ids values (record { end = cell cursors s 3 + 1; times = cell cursors s 5 })
   run-one = record { low = omega arith; high = l .row; times = l .times; before = inl refl }
 
-  pub run-more : TimesAt place ids values → (b : Bound) → Bounds bytes cursors seg len s b → (m : ℕ) → Reach (valuesAt place values) b (cell cursors s 5) m
-      → (e : ℕ) → e ≡ rowOfTime (kindAt place) (idsAt place ids) (rowsAt place) m → RunTo bytes cursors seg len s place ids values (record { end = e; times = m })
+  pub run-more : TimesAt p ids values → (b : Bound) → Bounds bytes cursors seg len s b → (m : ℕ) → Reach (valuesAt p values) b (cell cursors s 5) m
+      → (e : ℕ) → e ≡ rowOfTime (p .kind) (idsAt p ids) (p .rows) m → RunTo bytes cursors seg len s p ids values (record { end = e; times = m })
   run-more t b bs m r e is =
-      let q = leads (kindAt place) (rowsAt place) (idsAt place ids) (valuesAt place values) (t .sound) (cell cursors s 3) m (l .row) (rw (← l .times) (r .low)) (r .high) in
+      let q = leads (p .kind) (p .rows) (idsAt p ids) (valuesAt p values) (t .sound) (cell cursors s 3) m (l .row) (rw (← l .times) (r .low)) (r .high) in
       record { low = rw is (q .0); high = rw is (q .1); times = rw is (q .2); before = go (le-lt (cell cursors s 5) m) }
     where
       go : (cell cursors s 5 < m) ⊎ (m ≤ cell cursors s 5)
-          → (m ≡ cell cursors s 5) ⊎ ((0 < m) × (b : Bound) × Bounds bytes cursors seg len s b × (within b (getD (valuesAt place values) (m - 1) 0) ≡ true))
+          → (m ≡ cell cursors s 5) ⊎ ((0 < m) × (b : Bound) × Bounds bytes cursors seg len s b × (within b (getD (valuesAt p values) (m - 1) 0) ≡ true))
       go (inl h) = inr ((omega arith), b, bs, r .last h)
       go (inr h) = inl (omega (arith, r .low))

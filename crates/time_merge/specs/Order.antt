@@ -9,35 +9,34 @@ use Rattle.definitions.specs.Segment.{Segment, Address}
 use Rattle.definitions.specs.Join.{absent}
 use Rattle.definitions.specs.TimeOrder.{timeOf, timeOrder}
 use Rattle.definitions.specs.Outcome.{written}
-use Rattle.places.specs.Places.{table}
+use Rattle.stands.specs.Stand.{table, standAt}
 use Rattle.time_cursors.specs.Cursors.{cursorAt, firstFrom, segmentIn, Timed}
 
 -- an address as its two numbers
 abbrev pub pairOf : Address → List ℕ
 pairOf a = a .segment ∷ a .row ∷ []
 
--- segment x by its place
-abbrev pub placed : List (List ℕ) → List (List ℕ) → List ℕ → List ℕ → List ℕ → ℕ → Segment
-placed places alives ids values alive x = segmentIn (getD places x []) (getD alives x []) ids values alive
+-- segment x by its stand
+abbrev pub placed : List (List ℕ) → List ℕ → List ℕ → List ℕ → ℕ → Segment
+placed stands ids values alive x = segmentIn (standAt stands x) ids values alive
 
--- all segments that have a place
-unfoldable pub placedSegments : List (List ℕ) → List (List ℕ) → List ℕ → List ℕ → List ℕ → List Segment
-placedSegments places alives ids values alive = table (placed places alives ids values alive) (length places)
+-- all segments that have a stand
+unfoldable pub placedSegments : List (List ℕ) → List ℕ → List ℕ → List ℕ → List Segment
+placedSegments stands ids values alive = table (placed stands ids values alive) (length stands)
 
 -- the addresses of the time order from the start of the output
 unfoldable pub timeWritten : List Segment → List (List ℕ) → List (List ℕ)
 timeWritten ss out = written (map pairOf (timeOrder ss)) out
 
 -- what the checks up to 7 say, and that no row has several times
-pub record Ready (places alives : List (List ℕ)) (ids values alive : List ℕ) : Type 0 where
-  pub few : length places ≤ 256
-  pub both : length alives ≡ length places
-  pub timed : (x : ℕ) → x < length places → Timed (getD places x []) (getD alives x []) ids values alive
+pub record Ready (stands : List (List ℕ)) (ids values alive : List ℕ) : Type 0 where
+  pub few : length stands ≤ 256
+  pub timed : (x : ℕ) → x < length stands → Timed (standAt stands x) ids values alive
 
 -- what 11 says, and 12 of falling times
-pub record Rising (places alives : List (List ℕ)) (ids values alive : List ℕ) (out : List (List ℕ)) : Type 0 where
-  pub rising : (x : ℕ) → x < length places → T (notFalling (map timeOf (placed places alives ids values alive x .values)))
-  pub room : length (timeOrder (placedSegments places alives ids values alive)) ≤ length out
+pub record Rising (stands : List (List ℕ)) (ids values alive : List ℕ) (out : List (List ℕ)) : Type 0 where
+  pub rising : (x : ℕ) → x < length stands → T (notFalling (map timeOf (placed stands ids values alive x .values)))
+  pub room : length (timeOrder (placedSegments stands ids values alive)) ≤ length out
 
 -- each segment's first cursor; places without a segment have none left
 pub record Begins (ss : List Segment) (cursors : List (List ℕ)) : Type 0 where

@@ -9,7 +9,8 @@ use lib.Dec.{eqb, ltb}
 use Rattle.definitions.specs.Lists.{upFrom, filter}
 use Rattle.definitions.specs.TimeOrder.{timeOf}
 use Rattle.segment.specs.Kind.{byIndex}
-use Rattle.places.specs.Place.{kindAt, rowsAt, idsAt, valuesAt}
+use Rattle.stands.specs.declared.Stand.{Stand}
+use Rattle.stands.specs.Look.{idsAt, valuesAt}
 use Rattle.term_merger.specs.Order.{cell}
 use Rattle.term_merger.specs.Heap.{FirstChild}
 use Rattle.time_cursors.specs.Cursors.{aliveBit, timesBefore}
@@ -64,8 +65,8 @@ unfoldable pub rowOfTime : ℕ → List ℕ → ℕ → ℕ → ℕ
 rowOfTime kind ids rows m = byIndex kind rows m (getD ids m rows) (getD ids m rows)
 
 -- the run goes beyond the row at which segment s stands; its last row has that row's key, or a time within the bound
-pub record RunTo (bytes : List ℕ) (cursors : List (List ℕ)) (seg : List ℕ) (len s : ℕ) (place ids values : List ℕ) (r : Run) : Type 0 where
+pub record RunTo (bytes : List ℕ) (cursors : List (List ℕ)) (seg : List ℕ) (len s : ℕ) (p : Stand) (ids values : List ℕ) (r : Run) : Type 0 where
   pub low : cell cursors s 3 < r .end
-  pub high : r .end ≤ rowsAt place
-  pub times : r .times ≡ timesBefore (kindAt place) (idsAt place ids) (r .end)
-  pub before : (r .times ≡ cell cursors s 5) ⊎ ((0 < r .times) × (b : Bound) × Bounds bytes cursors seg len s b × (within b (getD (valuesAt place values) (r .times - 1) 0) ≡ true))
+  pub high : r .end ≤ p .rows
+  pub times : r .times ≡ timesBefore (p .kind) (idsAt p ids) (r .end)
+  pub before : (r .times ≡ cell cursors s 5) ⊎ ((0 < r .times) × (b : Bound) × Bounds bytes cursors seg len s b × (within b (getD (valuesAt p values) (r .times - 1) 0) ≡ true))

@@ -165,14 +165,14 @@ fn run_of(
     cursors: &[Cursor],
     s: usize,
     stays: bool,
-    place: [usize; 8],
+    p: stands::Stand,
     ids: &[u32],
     values: &[u64],
 ) -> Run
     requires { ⌜ (length (now cursors) ≡ 256) × TermsInside (now bytes) (now cursors) × (len ≤ 256) × (s < 256) ⌝ }
-    requires { ⌜ TimesAt place (now ids) (now values) ⌝ }
-    requires { ⌜ Left place (now ids) (cell (now cursors) s 3 + 1) (cell (now cursors) s 5) ⌝ }
-    ensures { λ r. ⌜ RunTo (now (bytes .entry)) (now (cursors .entry)) (now (seg .entry)) len s place (now (ids .entry)) (now (values .entry)) r ⌝ }
+    requires { ⌜ TimesAt p (now ids) (now values) ⌝ }
+    requires { ⌜ Left p (now ids) (cell (now cursors) s 3 + 1) (cell (now cursors) s 5) ⌝ }
+    ensures { λ r. ⌜ RunTo (now (bytes .entry)) (now (cursors .entry)) (now (seg .entry)) len s p (now (ids .entry)) (now (values .entry)) r ⌝ }
 {
     let cursor = cursors[s];
     if !stays {
@@ -182,33 +182,33 @@ fn run_of(
         };
     }
     let bound = bound_of(seg, len, bytes, cursors, s);
-    let a = place[6];
-    let b = place[7];
+    let a = p.values.from;
+    let b = p.values.to;
     let m = times_within(&values[a..b], bound, cursor[5]);
-    let c = place[2];
-    let d = place[3];
+    let c = p.ids.from;
+    let d = p.ids.to;
     Run {
-        end: row_of(place[0], &ids[c..d], place[1], m),
+        end: row_of(p.kind, &ids[c..d], p.rows, m),
         times: m,
     }
 }
 
 // The first cursor of each segment.
 pub fn fill_cursors(
-    places: &[[usize; 8]],
-    alives: &[[usize; 3]],
+    stands: &[stands::StandNumbers],
     ids: &[u32],
     values: &[u64],
     alive: &[u64],
     cursors: &mut [Cursor],
 )
-    requires { ⌜ Ready (now places) (now alives) (now ids) (now values) (now alive) ⌝ }
+    requires { ⌜ Ready (now stands) (now ids) (now values) (now alive) ⌝ }
     requires { ⌜ now cursors ≡ replicate 256 (replicate 8 0) ⌝ }
-    ensures { λ _. ⌜ Begins (placedSegments (now (places .entry)) (now (alives .entry)) (now (ids .entry)) (now (values .entry)) (now (alive .entry))) (now (cursors .exit)) ⌝ }
+    ensures { λ _. ⌜ Begins (placedSegments (now (stands .entry)) (now (ids .entry)) (now (values .entry)) (now (alive .entry))) (now (cursors .exit)) ⌝ }
 {
     let mut s: usize = 0;
-    while s < places.len() {
-        cursors[s] = time_cursors::first_from(places[s], alives[s], ids, values, alive, 0, 0);
+    while s < stands.len() {
+        let p = stands::stand_at(stands, s);
+        cursors[s] = time_cursors::first_from(p, ids, values, alive, 0, 0);
         s += 1;
     }
 }
@@ -218,21 +218,20 @@ pub fn fill_cursors(
 pub fn merge(
     heap: Heap,
     bytes: &[u8],
-    places: &[[usize; 8]],
-    alives: &[[usize; 3]],
+    stands: &[stands::StandNumbers],
     ids: &[u32],
     values: &[u64],
     alive: &[u64],
     cursors: &mut [Cursor],
     out: &mut [[u32; 2]],
 ) -> usize
-    requires { ⌜ Ready (now places) (now alives) (now ids) (now values) (now alive) ⌝ }
-    requires { ⌜ Rising (now places) (now alives) (now ids) (now values) (now alive) (now out) ⌝ }
-    requires { ⌜ Begins (placedSegments (now places) (now alives) (now ids) (now values) (now alive)) (now cursors) ⌝ }
+    requires { ⌜ Ready (now stands) (now ids) (now values) (now alive) ⌝ }
+    requires { ⌜ Rising (now stands) (now ids) (now values) (now alive) (now out) ⌝ }
+    requires { ⌜ Begins (placedSegments (now stands) (now ids) (now values) (now alive)) (now cursors) ⌝ }
     requires { ⌜ Started (now bytes) (now cursors) heap ⌝ }
-    ensures { λ r. ⌜ r ≡ length (timeOrder (placedSegments (now (places .entry)) (now (alives .entry)) (now (ids .entry)) (now (values .entry)) (now (alive .entry)))) ⌝ }
-    ensures { λ r. ⌜ now (out .exit) ≡ timeWritten (placedSegments (now (places .entry)) (now (alives .entry)) (now (ids .entry)) (now (values .entry)) (now (alive .entry))) (now (out .entry)) ⌝ }
-    ensures { λ r. ⌜ Ends (placedSegments (now (places .entry)) (now (alives .entry)) (now (ids .entry)) (now (values .entry)) (now (alive .entry))) (now (cursors .exit)) ⌝ }
+    ensures { λ r. ⌜ r ≡ length (timeOrder (placedSegments (now (stands .entry)) (now (ids .entry)) (now (values .entry)) (now (alive .entry)))) ⌝ }
+    ensures { λ r. ⌜ now (out .exit) ≡ timeWritten (placedSegments (now (stands .entry)) (now (ids .entry)) (now (values .entry)) (now (alive .entry))) (now (out .entry)) ⌝ }
+    ensures { λ r. ⌜ Ends (placedSegments (now (stands .entry)) (now (ids .entry)) (now (values .entry)) (now (alive .entry))) (now (cursors .exit)) ⌝ }
 {
     let mut h = heap;
     let mut k: usize = 0;
@@ -240,31 +239,13 @@ pub fn merge(
     while 0 < h.len {
         let s = runs::byte(h.seg[0]);
         let n = h.len;
-        let run = run_of(
-            &h.seg,
-            n,
-            bytes,
-            cursors,
-            s,
-            s == last,
-            places[s],
-            ids,
-            values,
-        );
-        let set = alives[s];
-        let a = set[1];
-        let b = set[2];
+        let p = stands::stand_at(stands, s);
+        let run = run_of(&h.seg, n, bytes, cursors, s, s == last, p, ids, values);
+        let a = p.words.from;
+        let b = p.words.to;
         let from = cursors[s][3];
-        k = write_rows(s, set[0], &alive[a..b], from, run.end, out, k);
-        cursors[s] = time_cursors::first_from(
-            places[s],
-            set,
-            ids,
-            values,
-            alive,
-            run.end,
-            run.times,
-        );
+        k = write_rows(s, p.flag, &alive[a..b], from, run.end, out, k);
+        cursors[s] = time_cursors::first_from(p, ids, values, alive, run.end, run.times);
         h.len = term_merger::settle_top(&mut h.seg, n, bytes, cursors);
         last = s;
     }

@@ -1,7 +1,7 @@
 -- What an answer of 0 gives to the merge, and what the merge gives to the outcome. Assumes nothing.
 use Prim.Native.Nat.{ℕ, suc, _≤_, _<_, suc-le-suc}
 use native.Mathlib.Omega.{arith}
-use mathlib.Core.Path.{_≡_, refl, sym, ap, ap₂, _∙_, subst}
+use mathlib.Core.Path.{_≡_, sym, ap, _∙_, subst}
 use mathlib.Core.List.{List, [], map}
 use mathlib.Core.Bool.{false, not, _&&_, _||_}
 use lib.ListN.{length, getD, length-map}
@@ -19,15 +19,16 @@ use Rattle.definitions.specs.TimeOrder.{TimeInput, timeOf, keyOf, timeOrder, ti
 use Rattle.definitions.proofs.Accept.{index-fits}
 use Rattle.definitions.proofs.Checks.{all-passed, passed-append, passes}
 use Rattle.definitions.proofs.TimeOrder.{order-length}
-use Rattle.segment.specs.Records.{recordsOf, sectionsIn, recordAt}
+use Rattle.segment.specs.Records.{recordsOf, sectionsIn}
 use Rattle.sections_fit.proofs.Own.{rows-all}
 use Rattle.sections_fit.proofs.Seven.{Ready, ready}
 use Rattle.column_index.specs.Lookup.{Sound}
-use Rattle.places.specs.Place.{kindAt, rowsAt, idsAt, valuesAt}
-use Rattle.places.specs.Places.{table, rawAt, aliveAt, rawPlaces, alivesOf}
-use Rattle.places.proofs.Bridge.{Stands, sound-stands}
-use Rattle.places.proofs.Fill.{table-length, table-at}
-use Rattle.places.proofs.Raw.{Held, stands-there, flag-there, words-there, words-run, words-end, words-many}
+use Rattle.stands.specs.declared.Stand.{Stand}
+use Rattle.stands.specs.Stand.{table, standOf, numbersOf, standAt, standIn, standsIn}
+use Rattle.stands.specs.Look.{idsAt, valuesAt}
+use Rattle.stands.proofs.Bridge.{Stands}
+use Rattle.stands.proofs.Fill.{table-length, table-at, many-stands}
+use Rattle.stands.proofs.There.{Held, stands-there}
 use Rattle.time_checks.specs.Lent.{lentTimes}
 use Rattle.time_cursors.specs.Cursors.{timeKind, segmentIn, Timed}
 use Rattle.time_merge.specs.Order as merged
@@ -38,18 +39,17 @@ use Rattle.segment.proofs.At.{segments-many}
 use Rattle.lists.proofs.Tests.{neither, true-T}
 use Rattle.lists.proofs.Sums.{sum-at}
 use Rattle.lists.proofs.Lists.{all-at}
-use Rattle.segment.proofs.Walk.{words-enough}
 
 module _ (records : List (List ℕ)) (ids offsets values lengths bytes alive : List ℕ) (space : ℕ) where
   abbrev input : TimeInput
   input = lentTimes records ids offsets values lengths bytes alive space
 
-  -- the segments, by the definitions and by their places
+  -- the segments, by the definitions and by their stands
   abbrev ss : List Segment
   ss = segmentsFrom (recordsOf records) (sectionsIn ids offsets values lengths bytes alive)
 
   abbrev here : ℕ → Segment
-  here k = placed (rawPlaces records) (alivesOf records) ids values alive k
+  here k = placed (standsIn records) ids values alive k
 
   module _ (zero-answer : timeAnswer (lentTimes records ids offsets values lengths bytes alive space) ≡ 0) where
     passed : Passed (timeChecks input)
@@ -81,14 +81,14 @@ module _ (records : List (List ℕ)) (ids offsets values lengths bytes alive : L
       k-there : k < length ss
       k-there = omega (arith, segments-many records (sectionsIn ids offsets values lengths bytes alive))
 
-      stands : Stands (rawAt records k) ids offsets values (getD ss k absent)
-      stands = stands-there records ids offsets values lengths bytes alive held k h
+      -- where it stands
+      abbrev p : Stand
+      p = standAt (standsIn records) k
 
-      place-is : getD (rawPlaces records) k [] ≡ rawAt records k
-      place-is = table-at (rawAt records) [] (length records) k h
-
-      set-is : getD (alivesOf records) k [] ≡ aliveAt records k
-      set-is = table-at (aliveAt records) [] (length records) k h
+      stands : Stands p ids offsets values alive (getD ss k absent)
+      stands =
+          subst (λ (q : Stand). Stands q ids offsets values alive (getD ss k absent)) (sym (ap standOf (table-at (λ n. numbersOf (standIn records n)) [] (length records) k h)))
+          (stands-there records ids offsets values lengths bytes alive held k h)
 
       fits : T (indexFits (getD ss k absent))
       fits = all-at indexFits ss k absent lists k-there
@@ -96,20 +96,10 @@ module _ (records : List (List ℕ)) (ids offsets values lengths bytes alive : L
       rows-small : getD ss k absent .rows < 4294967296
       rows-small = omega (arith, sum-at (λ (s : Segment). s .rows) ss k absent k-there, rows-all (recordsOf records) (sectionsIn ids offsets values lengths bytes alive), first .rows)
 
-      record-flag : recordAt records k .flag ≡ getD (aliveAt records k) 0 0
-      unfolding aliveAt
-      record-flag = refl
-
-      record-rows : recordAt records k .rows ≡ rowsAt (rawAt records k)
-      unfolding rawAt
-      record-rows = refl
-
-      bare-raw : segmentIn (rawAt records k) (aliveAt records k) ids values alive ≡ bare (getD ss k absent)
+      bare-here : here k ≡ bare (getD ss k absent)
       unfolding segmentIn
-      bare-raw =
+      bare-here =
           let st = stands in
-          let f = flag-there records ids offsets values lengths bytes alive held k h in
-          let w = words-there records ids offsets values lengths bytes alive held k h in
           λ i.
           record {
             type = 0;
@@ -119,12 +109,9 @@ module _ (records : List (List ℕ)) (ids offsets values lengths bytes alive : L
             offsets = [];
             values = st .values-are i;
             terms = [];
-            flag = f i;
-            alive = w i;
+            flag = st .flag i;
+            alive = st .words-are i;
           }
-
-      bare-here : here k ≡ bare (getD ss k absent)
-      bare-here = ap₂ (λ (p s : List ℕ). segmentIn p s ids values alive) place-is set-is ∙ bare-raw
 
       -- what check 12 says
       times : (any (λ r. ltb 1 (length (rowValues (getD ss k absent) r))) (upTo (getD ss k absent .rows)) ≡ false) × (not (notFalling (map timeOf (getD ss k absent .values))) ≡ false)
@@ -145,32 +132,17 @@ module _ (records : List (List ℕ)) (ids offsets values lengths bytes alive : L
             one = λ r m. ltb-false 1 (length (rowValues s r)) (any-false (λ r. ltb 1 (length (rowValues s r))) (upTo (s .rows)) (times .0) (mem-upTo (s .rows) r m));
           }
 
-      sound-raw : Sound (timeKind (kindAt (rawAt records k))) (rowsAt (rawAt records k)) (length (valuesAt (rawAt records k) values)) (idsAt (rawAt records k) ids) []
+      sound : Sound (timeKind (p .kind)) (p .rows) (length (valuesAt p values)) (idsAt p ids) []
       unfolding segmentIn
-      sound-raw = subst (λ (x : Segment). Sound (x .kind) (x .rows) (length (x .values)) (x .ids) []) (sym bare-raw) (bare-sound single)
+      sound = subst (λ (x : Segment). Sound (x .kind) (x .rows) (length (x .values)) (x .ids) []) (sym bare-here) (bare-sound single)
 
-      timed-raw : Timed (rawAt records k) (aliveAt records k) ids values alive
-      timed-raw =
-          let at = sound-stands stands fits in
-          record {
-            times =
-                record {
-                  ids-run = at .ids-run;
-                  ids-end = at .ids-end;
-                  values-run = at .values-run;
-                  values-end = stands .values-end;
-                  sound = sound-raw;
-                  small = omega (arith, rows-small, stands .rows);
-                };
-            alive-run = words-run records ids offsets values lengths bytes alive held k h;
-            alive-end = words-end records ids offsets values lengths bytes alive held k h;
-            words = λ e. omega (arith, words-many records ids offsets values lengths bytes alive held k h, words-enough (recordAt records k) (record-flag ∙ e), record-rows);
-          }
-
-      pub timed : Timed (getD (rawPlaces records) k []) (getD (alivesOf records) k []) ids values alive
+      pub timed : Timed p ids values alive
       timed =
-          subst (λ (p : List ℕ). Timed p (getD (alivesOf records) k []) ids values alive) (sym place-is)
-          (subst (λ (s : List ℕ). Timed (rawAt records k) s ids values alive) (sym set-is) timed-raw)
+          record {
+            times = record { ids-lie = stands .ids-lie; values-lie = stands .values-lie; sound = sound; small = omega (arith, rows-small, stands .rows) };
+            words-lie = stands .words-lie;
+            enough = λ e. omega (arith, stands .enough (sym (stands .flag) ∙ e), stands .rows);
+          }
 
       times-rise : T (notFalling (map timeOf (getD ss k absent .values)))
       times-rise = let vs = getD ss k absent .values in true-T (notFalling (map timeOf vs)) (not-false (notFalling (map timeOf vs)) (times .1))
@@ -183,33 +155,25 @@ module _ (records : List (List ℕ)) (ids offsets values lengths bytes alive : L
       unfolding keyOf
       keys-dont-fall n m h l = keys-rise single times-rise (suc n) (suc m) (suc-le-suc h) l
 
-    many : length (rawPlaces records) ≡ length records
-    many = table-length (rawAt records) (length records)
-
-    bare-all : placedSegments (rawPlaces records) (alivesOf records) ids values alive ≡ map bare ss
+    bare-all : placedSegments (standsIn records) ids values alive ≡ map bare ss
     unfolding placedSegments
     bare-all =
-        ext-getD absent (table here (length (rawPlaces records))) (map bare ss)
-        (table-length here (length (rawPlaces records)) ∙ many ∙ sym (length-map ss bare ∙ segments-many records (sectionsIn ids offsets values lengths bytes alive)))
+        ext-getD absent (table here (length (standsIn records))) (map bare ss)
+        (table-length here (length (standsIn records)) ∙ many-stands records ∙ sym (length-map ss bare ∙ segments-many records (sectionsIn ids offsets values lengths bytes alive)))
         (λ k l.
-        let q : k < length (rawPlaces records) = omega (arith, table-length here (length (rawPlaces records))) in
-        let r : k < length records = omega (arith, many) in
-        table-at here absent (length (rawPlaces records)) k q ∙ bare-here k r ∙ sym (getD-in bare ss k absent absent (k-there k r)))
+        let q : k < length (standsIn records) = omega (arith, table-length here (length (standsIn records))) in
+        let r : k < length records = omega (arith, many-stands records) in
+        table-at here absent (length (standsIn records)) k q ∙ bare-here k r ∙ sym (getD-in bare ss k absent absent (k-there k r)))
 
-    pub order-is : timeOrder (placedSegments (rawPlaces records) (alivesOf records) ids values alive) ≡ timeOrder ss
+    pub order-is : timeOrder (placedSegments (standsIn records) ids values alive) ≡ timeOrder ss
     order-is = ap timeOrder bare-all ∙ order-same ss (λ n h. single n (omega (arith, segments-many records (sectionsIn ids offsets values lengths bytes alive))))
 
-    pub merge-ready : merged.Ready (rawPlaces records) (alivesOf records) ids values alive
-    merge-ready =
-        record {
-          few = omega (arith, many, few);
-          both = table-length (aliveAt records) (length records) ∙ sym many;
-          timed = λ k h. timed k (omega (arith, many));
-        }
+    pub merge-ready : merged.Ready (standsIn records) ids values alive
+    merge-ready = record { few = omega (arith, many-stands records, few); timed = λ k h. timed k (omega (arith, many-stands records)) }
 
-    pub merge-rising : (out : List (List ℕ)) → space ≡ length out → Rising (rawPlaces records) (alivesOf records) ids values alive out
+    pub merge-rising : (out : List (List ℕ)) → space ≡ length out → Rising (standsIn records) ids values alive out
     merge-rising out e =
         record {
-          rising = λ k h. rising k (omega (arith, many));
+          rising = λ k h. rising k (omega (arith, many-stands records));
           room = omega (arith, ap length order-is, order-length ss, ltb-false space (length (aliveAddresses ss)) (later .0));
         }

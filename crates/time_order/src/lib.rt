@@ -4,7 +4,7 @@ ghost use lib.ListN.{length};
 ghost use Rattle.definitions.specs.TimeOrder.{timeOrder, timeOutcome};
 ghost use Rattle.segment.specs.Lent.{addressesOf};
 ghost use Rattle.time_checks.specs.Lent.{lentTimes};
-ghost use Rattle.places.specs.Places.{rawPlaces, alivesOf};
+ghost use Rattle.stands.specs.Stand.{standsIn};
 ghost use Rattle.time_merge.specs.Order.{placedSegments, timeWritten, Ready, Rising};
 ghost use Rattle.time_order.specs.Outcome.{outcomeOf, outputOf};
 
@@ -15,32 +15,29 @@ pub enum TimeAnswer {
 
 // The time order of segments that have passed the checks.
 fn order_rows(
-    records: &[[u32; 8]],
+    records: &[segment::RecordNumbers],
     ids: &[u32],
     values: &[u64],
     alive: &[u64],
     out: &mut [[u32; 2]],
 ) -> usize
-    requires { ⌜ Ready (rawPlaces (now records)) (alivesOf (now records)) (now ids) (now values) (now alive) ⌝ }
-    requires { ⌜ Rising (rawPlaces (now records)) (alivesOf (now records)) (now ids) (now values) (now alive) (now out) ⌝ }
-    ensures { λ r. ⌜ r ≡ length (timeOrder (placedSegments (rawPlaces (now (records .entry))) (alivesOf (now (records .entry))) (now (ids .entry)) (now (values .entry)) (now (alive .entry)))) ⌝ }
-    ensures { λ r. ⌜ now (out .exit) ≡ timeWritten (placedSegments (rawPlaces (now (records .entry))) (alivesOf (now (records .entry))) (now (ids .entry)) (now (values .entry)) (now (alive .entry))) (now (out .entry)) ⌝ }
+    requires { ⌜ Ready (standsIn (now records)) (now ids) (now values) (now alive) ⌝ }
+    requires { ⌜ Rising (standsIn (now records)) (now ids) (now values) (now alive) (now out) ⌝ }
+    ensures { λ r. ⌜ r ≡ length (timeOrder (placedSegments (standsIn (now (records .entry))) (now (ids .entry)) (now (values .entry)) (now (alive .entry)))) ⌝ }
+    ensures { λ r. ⌜ now (out .exit) ≡ timeWritten (placedSegments (standsIn (now (records .entry))) (now (ids .entry)) (now (values .entry)) (now (alive .entry))) (now (out .entry)) ⌝ }
 {
     let n = records.len();
-    let mut places = [[0usize; 8]; 256];
-    places::fill_places(records, &mut places);
-    let mut alives = [[0usize; 3]; 256];
-    places::fill_alives(records, &mut alives);
+    let mut stands = [[0usize; stands::NUMBERS]; 256];
+    stands::fill_stands(records, &mut stands);
     let mut cursors = [[0usize; 8]; term_merger::Heap::CAP];
-    time_merge::fill_cursors(&places[..n], &alives[..n], ids, values, alive, &mut cursors);
+    time_merge::fill_cursors(&stands[..n], ids, values, alive, &mut cursors);
     // all terms are empty: nothing is read of the term bytes
     let bytes = [0u8; 1];
     let heap = term_merger::start_heap(&bytes, &cursors);
     time_merge::merge(
         heap,
         &bytes,
-        &places[..n],
-        &alives[..n],
+        &stands[..n],
         ids,
         values,
         alive,
@@ -51,7 +48,7 @@ fn order_rows(
 
 // The alive rows of segments of times, sorted by key, segment and row, as addresses (segment, row) from the start of the output.
 pub fn time_order(
-    records: &[[u32; 8]],
+    records: &[segment::RecordNumbers],
     ids: &[u32],
     offsets: &[u32],
     values: &[u64],

@@ -36,7 +36,7 @@ fn show_answer(answer: TimeAnswer) {
 
 // Reads a case, prints its answer and the whole output, and gives the place behind it.
 fn show_case(text: &[u8], from: usize) -> usize {
-    let mut records = [[0u32; 8]; 260];
+    let mut records = [[0u32; segment::WIDTH]; 260];
     let mut ids = [0u32; 80];
     let mut offsets = [0u32; 80];
     let mut values = [0u64; 80];

@@ -8,7 +8,7 @@ ghost use Rattle.verdict.specs.Nine.{answerToNine};
 pub fn verdict(
     mode: u32,
     required: u32,
-    records: &[[u32; 8]],
+    records: &[segment::RecordNumbers],
     ids: &[u32],
     offsets: &[u32],
     values: &[u64],

@@ -4,6 +4,7 @@ ghost use mathlib.Core.Bool.{cond};
 ghost use Prim.Native.Nat.{_<_, _≤_, _+_, _/_};
 ghost use lib.ListN.{length, drop, take, getD};
 ghost use Rattle.definitions.specs.Wire.{littleEndian, wordsOf, wordSections, sectionAt, grouped, widthsFit, wordsFit, bytesFit, wholeWords, recordGroups, addressGroups};
+ghost use Rattle.definitions.specs.Segment.{recordWidth};
 ghost use Rattle.definitions.specs.Lists.{allBelow};
 ghost use Rattle.runs.specs.Put.{put, Below};
 ghost use Rattle.wire.specs.Bounds.{sectionEnd, boundsOf, Bounded, Narrow};
@@ -94,7 +95,7 @@ fn section_bounds(words: &[u64], bounds: &mut [usize]) -> usize
     ensures { λ r. ⌜ r ≡ length (wordSections (now (words .entry))) ⌝ }
     ensures { λ _. ⌜ now (bounds .exit) ≡ put 0 (boundsOf (now (words .entry))) (now (bounds .entry)) ⌝ }
 {
-    let sizes = [1usize, 8, 1, 1, 1, 1, 1, 1, 2];
+    let sizes = [1usize, segment::WIDTH, 1, 1, 1, 1, 1, 1, 2];
     bounds[0] = 0;
     let mut at: usize = 0;
     let mut k: usize = 0;
@@ -185,27 +186,27 @@ fn narrow(x: u64) -> u32
     x as u32
 }
 
-fn record_at(words: &[u64], at: usize) -> [u32; 8]
+fn record_at(words: &[u64], at: usize) -> segment::RecordNumbers
     requires { ⌜ Below 4294967296 (now words) ⌝ }
-    requires { ⌜ at + 8 ≤ length (now words) ⌝ }
-    ensures { λ r. ⌜ r ≡ take 8 (drop at (now (words .entry))) ⌝ }
+    requires { ⌜ at + recordWidth ≤ length (now words) ⌝ }
+    ensures { λ r. ⌜ r ≡ take recordWidth (drop at (now (words .entry))) ⌝ }
 {
-    let mut r = [0u32; 8];
-    let to = at + 8;
+    let mut r = [0u32; segment::WIDTH];
+    let to = at + segment::WIDTH;
     fill_numbers(&words[at..to], &mut r);
     r
 }
 
 // The records, at the start of out.
-fn fill_records(words: &[u64], out: &mut [[u32; 8]])
+fn fill_records(words: &[u64], out: &mut [segment::RecordNumbers])
     requires { ⌜ Below 4294967296 (now words) ⌝ }
-    requires { ⌜ length (now words) / 8 ≤ length (now out) ⌝ }
-    ensures { λ _. ⌜ now (out .exit) ≡ put 0 (grouped 8 (length (now (words .entry)) / 8) (now (words .entry))) (now (out .entry)) ⌝ }
+    requires { ⌜ length (now words) / recordWidth ≤ length (now out) ⌝ }
+    ensures { λ _. ⌜ now (out .exit) ≡ put 0 (grouped recordWidth (length (now (words .entry)) / recordWidth) (now (words .entry))) (now (out .entry)) ⌝ }
 {
-    let n = words.len() / 8;
+    let n = words.len() / segment::WIDTH;
     let mut i: usize = 0;
     while i < n {
-        out[i] = record_at(words, i * 8);
+        out[i] = record_at(words, i * segment::WIDTH);
         i += 1;
     }
 }
@@ -289,15 +290,15 @@ pub fn read_bytes(words: &[u64], bounds: &[usize], k: usize, out: &mut [u8]) -> 
 }
 
 // The records, at the start of out; answers how many there are.
-pub fn read_records(words: &[u64], bounds: &[usize], out: &mut [[u32; 8]]) -> usize
+pub fn read_records(words: &[u64], bounds: &[usize], out: &mut [segment::RecordNumbers]) -> usize
     requires { ⌜ Narrow (now words) (now bounds) 1 4294967296 ⌝ }
-    requires { ⌜ length (now words) / 8 ≤ length (now out) ⌝ }
+    requires { ⌜ length (now words) / recordWidth ≤ length (now out) ⌝ }
     ensures { λ r. ⌜ r ≡ length (recordGroups (wordSections (now (words .entry)))) ⌝ }
     ensures { λ _. ⌜ now (out .exit) ≡ put 0 (recordGroups (wordSections (now (words .entry)))) (now (out .entry)) ⌝ }
 {
     let s = section(words, bounds, 1);
     fill_records(s, out);
-    s.len() / 8
+    s.len() / segment::WIDTH
 }
 
 // The addresses, at the start of out; answers how many there are.

@@ -5,14 +5,8 @@ use lib.ListN.{replicate}
 use Rattle.column_index_shuffled.proofs.ordered_rows.Statement.{statement}
 use Rattle.column_index_shuffled.proofs.ordered_rows.Tie as tie
 
-slice-aggregate-fill-guesses : tie.Need-slice-aggregate-fill-guesses
-slice-aggregate-fill-guesses c = search needs
-
 fill-guesses-requires : tie.Need-fill-guesses-requires
 fill-guesses-requires c κs = search needs
-
-slice-aggregate-write-rows : tie.Need-slice-aggregate-write-rows
-slice-aggregate-write-rows c = search needs
 
 write-rows-requires : tie.Need-write-rows-requires
 write-rows-requires c κs = search needs
@@ -33,15 +27,13 @@ same-length-4 : tie.Need-same-length-4
 same-length-4 c = search needs
 
 returns : tie.Need-returns
-returns c = (c .before .before .before .before .before .before .before .before .before .before .write-rows .ensures .0, (c .before .before .before .before .before .before .before .before .before .before .write-rows .ensures .1 .0, (c .before .before .before .before .before .before .before .before .before .before .write-rows .ensures .1 .1, c .before .before .zero .ensures ∙ ap (λ (n : ℕ). replicate n 0) (c .before .before .before .before .before .before .before .before .before .before .before .before .before .before .before .before .before .before .before .fill-guesses .kept .1 .1 .1 .0))))
+returns c = (c .before .before .before .before .before .before .before .before .before .before .write-rows .ensures .0, (c .before .before .before .before .before .before .before .before .before .before .write-rows .ensures .1 .0, (c .before .before .before .before .before .before .before .before .before .before .write-rows .ensures .1 .1, c .before .before .zero .ensures ∙ ap (λ (n : ℕ). replicate n 0) (c .before .before .before .before .before .before .before .before .before .before .before .before .before .before .before .before .before .fill-guesses .kept .1 .1 .0))))
 
 pub ordered-rows-spec : {M : Type 1} → statement M
 ordered-rows-spec =
     tie.close
     (tie.spec
-    slice-aggregate-fill-guesses
     fill-guesses-requires
-    slice-aggregate-write-rows
     write-rows-requires
     zero-requires
     same-length

@@ -7,18 +7,18 @@ use native.Mathlib.Nat.{zero-add}
 use lib.ListN.{length, drop, length-set}
 use Rattle.definitions.specs.Lists.{sum}
 use Rattle.runs.proofs.Laws.{Filling, fill-end}
-use Rattle.places.specs.Width.{totalsOf}
-use Rattle.places.specs.Stack.{stackedWidths}
-use Rattle.places.proofs.Laws.{fill-second, first-set}
-use Rattle.places.proofs.Bulk.{values-step, stack-totals-room, stack-totals-more, stack-totals-end}
+use Rattle.stands.specs.Width.{totalsOf}
+use Rattle.stands.specs.Stack.{stackedWidths}
+use Rattle.stands.proofs.Laws.{fill-second, first-set}
+use Rattle.column_index_stacked.proofs.Turn.{now-sound, now-values, totals-room, totals-more, totals-end}
 use Rattle.column_index_stacked.proofs.stacked_offsets.Statement.{statement}
 use Rattle.column_index_stacked.proofs.stacked_offsets.Tie as tie
 
 abbrev Inv-loop : tie.InvT-loop
-Inv-loop places ids offsets out₀ s₀ at₀ total₀ out s at total = (s ≤ length places) × (total + sum (stackedWidths (drop s places) ids offsets) ≡ sum (stackedWidths places ids offsets)) × Filling 0 (0 ∷ totalsOf 0 (stackedWidths places ids offsets)) out₀ (totalsOf total (stackedWidths (drop s places) ids offsets)) out at
+Inv-loop stands ids offsets out₀ s₀ at₀ total₀ out s at total = (s ≤ length stands) × (total + sum (stackedWidths (drop s stands) ids offsets) ≡ sum (stackedWidths stands ids offsets)) × Filling 0 (0 ∷ totalsOf 0 (stackedWidths stands ids offsets)) out₀ (totalsOf total (stackedWidths (drop s stands) ids offsets)) out at
 
 abbrev μ-loop : tie.MeasureT-loop
-μ-loop places ids offsets out₀ s₀ at₀ total₀ out s at total = length places - s
+μ-loop stands ids offsets out₀ s₀ at₀ total₀ out s at total = length stands - s
 
 slice-write-out : tie.Need-slice-write-out Inv-loop μ-loop
 slice-write-out c = search needs
@@ -26,48 +26,22 @@ slice-write-out c = search needs
 loop-holds : tie.Need-loop-holds Inv-loop μ-loop
 loop-holds c = (search needs, zero-add _, fill-second _ _ (c .before .before .before .args .out .now) (c .before .before .before .pre .1 .1))
 
-mul-p : tie.Need-mul-p Inv-loop μ-loop
-mul-p c = search needs
-
-shared-slice-copy-out-p : tie.Need-shared-slice-copy-out-p Inv-loop μ-loop
-shared-slice-copy-out-p c = search needs
+stand-at-requires : tie.Need-stand-at-requires Inv-loop μ-loop
+stand-at-requires c κs = search needs
 
 put-segment-totals-requires : tie.Need-put-segment-totals-requires Inv-loop μ-loop
 put-segment-totals-requires c κs =
-    let t = c .before .before in
-    let l = t .before in
-    let a = l .before .before .before .before in
-    let k = values-step (a .pre .0) (t .loop-test .taken) in
-    (a .pre .0 .each (l .loop .s) (t .loop-test .taken), (omega (arith, a .pre .1 .0, l .loop .inv .1), stack-totals-room (a .pre .0) (t .loop-test .taken) (l .loop .total) (l .loop .inv .2)))
-
-array-read-total : tie.Need-array-read-total Inv-loop μ-loop
-array-read-total c = search needs
-
-array-read-total-2 : tie.Need-array-read-total-2 Inv-loop μ-loop
-array-read-total-2 c = search needs
+    let k = now-values (c .before .before .before .before .before .before .before .pre .0) (c .before .before .loop-test .taken) (c .before .stand-at .ensures) in
+    (now-sound (c .before .before .before .before .before .before .before .pre .0) (c .before .before .loop-test .taken) (c .before .stand-at .ensures), (omega (arith, c .before .before .before .before .before .before .before .pre .1 .0, c .before .before .before .loop .inv .1), totals-room (c .before .before .before .before .before .before .before .pre .0) (c .before .before .loop-test .taken) (c .before .stand-at .ensures) (c .before .before .before .loop .total) (c .before .before .before .loop .inv .2)))
 
 sub-total : tie.Need-sub-total Inv-loop μ-loop
-sub-total c =
-    let t = c .before .before .before .before .before in
-    let l = t .before in
-    let a = l .before .before .before .before in
-    omega (arith, a .pre .0 .each (l .loop .s) (t .loop-test .taken) .values-run)
+sub-total c = now-sound (c .before .before .before .before .before .before .before .before .before .before .before .pre .0) (c .before .before .before .before .before .before .loop-test .taken) (c .before .before .before .before .before .stand-at .ensures) .values-rise
 
 cast-total : tie.Need-cast-total Inv-loop μ-loop
-cast-total c =
-    let t = c .before .before .before .before .before in
-    let l = t .before in
-    let a = l .before .before .before .before in
-    let k = values-step (a .pre .0) (t .loop-test .taken) in
-    omega (arith, a .pre .1 .0, l .loop .inv .1)
+cast-total c = omega (arith, now-values (c .before .before .before .before .before .before .before .before .before .before .before .pre .0) (c .before .before .before .before .before .before .loop-test .taken) (c .before .before .before .before .before .stand-at .ensures), c .before .before .before .before .before .before .before .before .before .before .before .pre .1 .0, c .before .before .before .before .before .before .before .loop .inv .1)
 
 add-total : tie.Need-add-total Inv-loop μ-loop
-add-total c =
-    let t = c .before .before .before .before .before in
-    let l = t .before in
-    let a = l .before .before .before .before in
-    let k = values-step (a .pre .0) (t .loop-test .taken) in
-    omega (arith, a .pre .1 .0, l .loop .inv .1)
+add-total c = omega (arith, now-values (c .before .before .before .before .before .before .before .before .before .before .before .pre .0) (c .before .before .before .before .before .before .loop-test .taken) (c .before .before .before .before .before .stand-at .ensures), c .before .before .before .before .before .before .before .before .before .before .before .pre .1 .0, c .before .before .before .before .before .before .before .loop .inv .1)
 
 add-s : tie.Need-add-s Inv-loop μ-loop
 add-s c = search needs
@@ -77,23 +51,16 @@ loop-less c = search needs
 
 loop-again : tie.Need-loop-again Inv-loop μ-loop
 loop-again c =
-    let t = c .before .before .before .before .before in
-    let l = t .before in
-    let a = l .before .before .before .before in
-    let p = c .before .before .put-segment-totals in
-    let k = values-step (a .pre .0) (t .loop-test .taken) in
-    (search needs, omega (arith, l .loop .inv .1), stack-totals-more (a .pre .0) (t .loop-test .taken) (l .loop .total) (l .loop .inv .2) (p .ensures .0) (p .ensures .1))
+    let k = now-values (c .before .before .before .before .before .before .before .before .before .before .before .pre .0) (c .before .before .before .before .before .before .loop-test .taken) (c .before .before .before .before .before .stand-at .ensures) in
+    (search needs, omega (arith, c .before .before .before .before .before .before .before .loop .inv .1), totals-more (c .before .before .before .before .before .before .before .before .before .before .before .pre .0) (c .before .before .before .before .before .before .loop-test .taken) (c .before .before .before .before .before .stand-at .ensures) (c .before .before .before .before .before .before .before .loop .total) (c .before .before .before .before .before .before .before .loop .inv .2) (c .before .before .before .put-segment-totals .ensures .0) (c .before .before .before .put-segment-totals .ensures .1))
 
 same-length : tie.Need-same-length Inv-loop μ-loop
-same-length c =
-    let l = c .before in
-    l .loop .inv .2 .kept ∙ length-set (l .before .before .before .before .args .out .now) 0 0
+same-length c = c .before .loop .inv .2 .kept ∙ length-set (c .before .before .before .before .before .args .out .now) 0 0
 
 returns : tie.Need-returns Inv-loop μ-loop
 returns c =
-    let l = c .before in
-    let f = fill-end (l .loop .inv .2) (stack-totals-end (l .before .before .before .before .args .places .now) _ _ _ _ (c .loop-test .left)) in
-    (f .0, f .1 ∙ first-set _ _ (l .before .before .before .before .args .out .now))
+    let f = fill-end (c .before .loop .inv .2) (totals-end (c .before .before .before .before .before .args .stands .now) _ _ _ _ (c .loop-test .left)) in
+    (f .0, f .1 ∙ first-set _ _ (c .before .before .before .before .before .args .out .now))
 
 pub stacked-offsets-spec : {M : Type 1} → statement M
 stacked-offsets-spec =
@@ -103,11 +70,8 @@ stacked-offsets-spec =
     μ-loop
     slice-write-out
     loop-holds
-    mul-p
-    shared-slice-copy-out-p
+    stand-at-requires
     put-segment-totals-requires
-    array-read-total
-    array-read-total-2
     sub-total
     cast-total
     add-total

@@ -10,7 +10,7 @@ sub-w : tie.Need-sub-w
 sub-w c = search needs
 
 returns : tie.Need-returns
-returns c = (omega (arith, c .if1 .taken), none-put (c .before .before .before .before .before .args .to) (c .before .before .before .before .before .args .source) (c .before .before .before .before .before .args .map .now) (c .before .before .before .before .before .args .values .now) (c .before .before .before .before .before .args .out .now) (c .before .before .before .before .before .args .base + c .before .before .before .before .before .args .g .start) (c .before .before .before .before .before .args .base + c .before .before .before .before .before .args .g .end) (c .before .before .before .before .before .args .at) (omega (arith, c .if1 .taken, c .before .before .before .before .before .pre .0)))
+returns c = (omega (arith, c .if1 .taken), none-put (c .before .before .before .before .before .args .to) (c .before .before .before .before .before .args .p .typ) (c .before .before .before .before .before .args .p .map) (c .before .before .before .before .before .args .map .now) (c .before .before .before .before .before .args .values .now) (c .before .before .before .before .before .args .out .now) (c .before .before .before .before .before .args .p .values .from + c .before .before .before .before .before .args .g .start) (c .before .before .before .before .before .args .p .values .from + c .before .before .before .before .before .args .g .end) (c .before .before .before .before .before .args .at) (omega (arith, c .if1 .taken, c .before .before .before .before .before .pre .0)))
 
 add-start : tie.Need-add-start
 add-start c = search needs
@@ -22,7 +22,7 @@ shared-slice-read-new-word : tie.Need-shared-slice-read-new-word
 shared-slice-read-new-word c = search needs
 
 new-word-requires : tie.Need-new-word-requires
-new-word-requires c κs = one-worded (c .before .before .before .before .before .before .before .before .args .values .now) (c .before .before .before .before .before .before .before .before .args .base + c .before .before .before .before .before .before .before .before .args .g .start) (c .before .before .before .before .before .before .before .before .args .base + c .before .before .before .before .before .before .before .before .args .g .end) (omega (arith, c .before .if2 .taken, c .before .before .before .before .before .before .before .before .pre .0)) (omega (arith, c .before .if2 .taken, c .before .before .before .before .before .before .before .before .pre .0, c .before .before .before .before .before .before .before .before .pre .1 .0)) (c .before .before .before .before .before .before .before .before .pre .1 .1 .0)
+new-word-requires c κs = one-worded (c .before .before .before .before .before .before .before .before .before .args .values .now) (c .before .before .before .before .before .before .before .before .before .args .p .values .from + c .before .before .before .before .before .before .before .before .before .args .g .start) (c .before .before .before .before .before .before .before .before .before .args .p .values .from + c .before .before .before .before .before .before .before .before .before .args .g .end) (omega (arith, c .before .if2 .taken, c .before .before .before .before .before .before .before .before .before .pre .0)) (omega (arith, c .before .if2 .taken, c .before .before .before .before .before .before .before .before .before .pre .0, c .before .before .before .before .before .before .before .before .before .pre .1 .0)) (c .before .before .before .before .before .before .before .before .before .pre .1 .1 .0)
 
 mul-out : tie.Need-mul-out
 mul-out c = search needs
@@ -37,7 +37,7 @@ same-length : tie.Need-same-length
 same-length c = search needs
 
 returns-2 : tie.Need-returns-2
-returns-2 c = (omega (arith, c .before .before .if2 .taken), one-put (c .before .before .before .before .before .before .before .before .before .args .to) (c .before .before .before .before .before .before .before .before .before .args .source) (c .before .before .before .before .before .before .before .before .before .args .map .now) (c .before .before .before .before .before .before .before .before .before .args .values .now) (c .before .before .before .before .before .before .before .before .before .args .out .now) _ (c .before .before .before .before .before .before .before .before .before .args .base + c .before .before .before .before .before .before .before .before .before .args .g .start) (c .before .before .before .before .before .before .before .before .before .args .base + c .before .before .before .before .before .before .before .before .before .args .g .end) (c .before .before .before .before .before .before .before .before .before .args .at) _ (omega (arith, c .before .before .if2 .taken, c .before .before .before .before .before .before .before .before .before .pre .0)) (omega (arith, c .before .before .if2 .taken, c .before .before .before .before .before .before .before .before .before .pre .0, c .before .before .before .before .before .before .before .before .before .pre .1 .0)) (omega (arith, c .before .before .if2 .taken, c .before .before .before .before .before .before .before .before .before .pre .1 .1 .1)) (c .new-word .ensures) refl)
+returns-2 c = (omega (arith, c .before .before .if2 .taken), one-put (c .before .before .before .before .before .before .before .before .before .before .args .to) (c .before .before .before .before .before .before .before .before .before .before .args .p .typ) (c .before .before .before .before .before .before .before .before .before .before .args .p .map) (c .before .before .before .before .before .before .before .before .before .before .args .map .now) (c .before .before .before .before .before .before .before .before .before .before .args .values .now) (c .before .before .before .before .before .before .before .before .before .before .args .out .now) _ (c .before .before .before .before .before .before .before .before .before .before .args .p .values .from + c .before .before .before .before .before .before .before .before .before .before .args .g .start) (c .before .before .before .before .before .before .before .before .before .before .args .p .values .from + c .before .before .before .before .before .before .before .before .before .before .args .g .end) (c .before .before .before .before .before .before .before .before .before .before .args .at) _ (omega (arith, c .before .before .if2 .taken, c .before .before .before .before .before .before .before .before .before .before .pre .0)) (omega (arith, c .before .before .if2 .taken, c .before .before .before .before .before .before .before .before .before .before .pre .0, c .before .before .before .before .before .before .before .before .before .before .pre .1 .0)) (omega (arith, c .before .before .if2 .taken, c .before .before .before .before .before .before .before .before .before .before .pre .1 .1 .1)) (c .new-word .ensures) refl)
 
 add-end : tie.Need-add-end
 add-end c = search needs
@@ -58,7 +58,7 @@ append-words-requires : tie.Need-append-words-requires
 append-words-requires c κs = search needs
 
 add-result-2 : tie.Need-add-result-2
-add-result-2 c = search needs
+add-result-2 c = omega (arith, c .before .before .before .before .before .before .before .before .before .before .before .before .before .before .before .pre .0, c .before .before .before .before .before .before .before .before .before .before .before .before .before .before .before .pre .1 .1 .1, c .before .before .before .before .before .before .before .before .before .before .before .before .before .before .before .good)
 
 same-length-2 : tie.Need-same-length-2
 same-length-2 c = search needs

@@ -1,59 +1,28 @@
+use mathlib.Core.Path.{sym, ap, _∙_, subst}
+use native.Mathlib.Omega.{arith}
+use Prim.Native.Nat.{ℕ}
+use mathlib.Core.List.{List}
+use Rattle.census.specs.Settled.{settledFrom, AllReady}
+use Rattle.merge_column.proofs.Laws.{filled-raw}
 use borrow.Author.Needs.{needs}
-use Rattle.merge_column.proofs.Ready.{held-given, prepared}
 use Rattle.merge_column.proofs.prepare.Statement.{statement}
 use Rattle.merge_column.proofs.prepare.Tie as tie
 
--- src/lib.rt:29:5
-fill-places-requires : tie.Need-fill-places-requires
-fill-places-requires c κs = search needs
-
 -- src/lib.rt:30:5
-fill-alives-requires : tie.Need-fill-alives-requires
-fill-alives-requires c κs = search needs
+fill-stands-requires : tie.Need-fill-stands-requires
+fill-stands-requires c κs = (c .before .before .before .before .before .pre .few, omega (arith, c .before .before .before .before .before .pre .long))
 
 -- src/lib.rt:31:5
-fill-held-requires : tie.Need-fill-held-requires
-fill-held-requires c κs = held-given (c .before .before .before .before .before .before .before .before .before .before .before .before .before .pre) (c .before .before .before .before .before .before .before .fill-places .ensures) (c .before .before .before .before .fill-alives .ensures)
+settle-all-requires : tie.Need-settle-all-requires
+settle-all-requires c κs = subst (λ (l : List (List ℕ)). AllReady l (c .before .before .before .before .before .before .before .before .args .ids .now) (c .before .before .before .before .before .before .before .before .args .offsets .now) (c .before .before .before .before .before .before .before .before .args .lengths .now) (c .before .before .before .before .before .before .before .before .args .alive .now)) (sym (filled-raw (c .before .before .before .before .before .before .before .before .args .records .now) (c .before .before .before .before .before .before .before .before .args .stands .now) (c .before .before .before .before .before .before .before .before .pre .long) (c .before .before .fill-stands .ensures))) (c .before .before .before .before .before .before .before .before .pre .ready)
 
--- src/lib.rt:32:5
-drop-places-requires : tie.Need-drop-places-requires
-drop-places-requires c κs = search needs
-
--- src/lib.rt:33:5
-fill-sources-requires : tie.Need-fill-sources-requires
-fill-sources-requires c κs = search needs
-
--- src/lib.rt:16:1
+-- src/lib.rt:18:1
 same-length : tie.Need-same-length
 same-length c = search needs
 
--- src/lib.rt:16:1
-same-length-2 : tie.Need-same-length-2
-same-length-2 c = search needs
-
--- src/lib.rt:16:1
-same-length-3 : tie.Need-same-length-3
-same-length-3 c = search needs
-
--- src/lib.rt:16:1
-same-length-4 : tie.Need-same-length-4
-same-length-4 c = search needs
-
--- src/lib.rt:16:1
+-- src/lib.rt:18:1
 returns : tie.Need-returns
-returns c = prepared (c .before .before .before .before .before .before .before .before .before .before .before .before .before .before .before .before .before .before .before .before .before .before .before .before .pre) (c .before .before .before .before .before .before .before .before .before .before .before .before .before .before .before .before .before .before .fill-places .ensures) (c .before .before .before .before .before .before .before .before .before .before .before .before .before .before .before .fill-alives .ensures) (c .before .before .before .before .before .before .before .before .before .before .fill-held .ensures) (c .before .before .before .before .before .drop-places .ensures) (c .before .fill-sources .ensures)
+returns c = (c .before .settle-all .ensures .0, c .before .settle-all .ensures .1 ∙ ap (λ (l : List (List ℕ)). settledFrom 0 0 l (c .before .before .before .before .before .before .before .before .before .before .args .ids .now) (c .before .before .before .before .before .before .before .before .before .before .args .offsets .now) (c .before .before .before .before .before .before .before .before .before .before .args .lengths .now) (c .before .before .before .before .before .before .before .before .before .before .args .alive .now)) (filled-raw (c .before .before .before .before .before .before .before .before .before .before .args .records .now) (c .before .before .before .before .before .before .before .before .before .before .args .stands .now) (c .before .before .before .before .before .before .before .before .before .before .pre .long) (c .before .before .before .before .fill-stands .ensures)))
 
 pub prepare-spec : {M : Type 1} → statement M
-prepare-spec =
-    tie.close
-    (tie.spec
-    fill-places-requires
-    fill-alives-requires
-    fill-held-requires
-    drop-places-requires
-    fill-sources-requires
-    same-length
-    same-length-2
-    same-length-3
-    same-length-4
-    returns)
+prepare-spec = tie.close (tie.spec fill-stands-requires settle-all-requires same-length returns)

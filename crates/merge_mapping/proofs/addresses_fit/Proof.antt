@@ -27,7 +27,7 @@ each-once-requires : tie.Need-each-once-requires
 each-once-requires c κs =
     let pre = c .before .before .before .before .pre in
     let a = c .before .before .before .before .args in
-    record { few = pre .few; held = pre .held; long = length-take-le (a .rows) (a .work .now) (pre .room (c .before .if1 .left)) ∙ pre .counted; clean = part-zero (a .work .now) (a .rows) (pre .room (c .before .if1 .left)) (pre .clean) }
+    record { few = pre .few; held = pre .held; long = length-take-le (a .rows) (a .work .now) (pre .room (c .before .if1 .left)) ∙ pre .counted; most = rw (length-take-le (a .rows) (a .work .now) (pre .room (c .before .if1 .left))) (pre .most); clean = part-zero (a .work .now) (a .rows) (pre .room (c .before .if1 .left)) (pre .clean) }
 
 slice-relend-prefix-zero : tie.Need-slice-relend-prefix-zero
 slice-relend-prefix-zero c =

@@ -1,45 +1,33 @@
+use borrow.Author.Needs.{needs}
 use mathlib.Core.Path.{ap}
 use Prim.Native.Nat.{_-_, _≤_, zero-le}
 use native.Mathlib.Omega.{arith}
 use lib.ListN.{length}
-use borrow.Author.Needs.{needs}
+use Rattle.time_merge.proofs.Keyed.{timed-at}
 use Rattle.time_merge.proofs.Filled.{Filled, filled-start, all-left, filled-more, filled-end}
 use Rattle.time_merge.proofs.fill_cursors.Statement.{statement}
 use Rattle.time_merge.proofs.fill_cursors.Tie as tie
 
 abbrev Inv-loop : tie.InvT-loop
-Inv-loop places alives ids values alive cursors₀ s₀ cursors s = (s ≤ length places) × Filled places alives ids values alive cursors s
+Inv-loop stands ids values alive cursors₀ s₀ cursors s = (s ≤ length stands) × Filled stands ids values alive cursors s
 
 abbrev μ-loop : tie.MeasureT-loop
-μ-loop places alives ids values alive cursors₀ s₀ cursors s = length places - s
+μ-loop stands ids values alive cursors₀ s₀ cursors s = length stands - s
 
 loop-holds : tie.Need-loop-holds Inv-loop μ-loop
-loop-holds c =
-    let the-pre = c .before .before .before .pre in
-    (zero-le, filled-start (the-pre .0) _ (the-pre .1))
+loop-holds c = (zero-le, filled-start (c .before .before .before .pre .0) _ (c .before .before .before .pre .1))
 
-mul-first-from : tie.Need-mul-first-from Inv-loop μ-loop
-mul-first-from c = search needs
-
-shared-slice-copy-out-first-from : tie.Need-shared-slice-copy-out-first-from Inv-loop μ-loop
-shared-slice-copy-out-first-from c = search needs
-
-mul-first-from-2 : tie.Need-mul-first-from-2 Inv-loop μ-loop
-mul-first-from-2 c = omega (arith, c .before .before .before .before .before .before .pre .0 .both, c .before .loop-test .taken, c .before .before .before .before .before .before .pre .0 .few)
-
-shared-slice-copy-out-first-from-2 : tie.Need-shared-slice-copy-out-first-from-2 Inv-loop μ-loop
-shared-slice-copy-out-first-from-2 c = omega (arith, c .before .before .before .before .before .before .pre .0 .both, c .before .loop-test .taken)
+stand-at-requires : tie.Need-stand-at-requires Inv-loop μ-loop
+stand-at-requires c κs = c .loop-test .taken
 
 first-from-requires : tie.Need-first-from-requires Inv-loop μ-loop
-first-from-requires c κs =
-    let the-pre = c .before .before .before .before .before .before .before .pre in
-    (the-pre .0 .timed _ (c .before .before .loop-test .taken), all-left (the-pre .0) _)
+first-from-requires c κs = (timed-at (c .before .before .before .before .before .before .pre .0) (c .stand-at .ensures) (c .before .loop-test .taken), all-left _ _)
 
-mul-t16 : tie.Need-mul-t16 Inv-loop μ-loop
-mul-t16 c = omega (arith, c .before .before .before .loop-test .taken, c .before .before .before .before .before .before .before .before .pre .0 .few)
+mul-t8 : tie.Need-mul-t8 Inv-loop μ-loop
+mul-t8 c = omega (arith, c .before .before .loop-test .taken, c .before .before .before .before .before .before .before .pre .0 .few)
 
 slice-set-from-cursors : tie.Need-slice-set-from-cursors Inv-loop μ-loop
-slice-set-from-cursors c = omega (arith, c .before .before .before .before .loop .inv .1 .size, c .before .before .before .loop-test .taken, c .before .before .before .before .before .before .before .before .pre .0 .few)
+slice-set-from-cursors c = omega (arith, c .before .before .before .loop .inv .1 .size, c .before .before .loop-test .taken, c .before .before .before .before .before .before .before .pre .0 .few)
 
 add-s : tie.Need-add-s Inv-loop μ-loop
 add-s c = search needs
@@ -48,7 +36,7 @@ loop-less : tie.Need-loop-less Inv-loop μ-loop
 loop-less c = search needs
 
 loop-again : tie.Need-loop-again Inv-loop μ-loop
-loop-again c = (omega (arith, c .before .before .before .loop-test .taken), filled-more (c .before .before .before .before .before .before .before .before .pre .0) (c .before .before .before .before .loop .inv .1) (c .before .before .before .loop-test .taken) _ (c .first-from .ensures))
+loop-again c = (omega (arith, c .before .before .loop-test .taken), filled-more (c .before .before .before .before .before .before .before .pre .0) (c .before .before .before .loop .inv .1) (c .before .before .loop-test .taken) (c .before .stand-at .ensures) _ (c .first-from .ensures))
 
 same-length : tie.Need-same-length Inv-loop μ-loop
 same-length c = omega (arith, c .before .loop .inv .1 .size, ap length (c .before .before .before .before .before .pre .1))
@@ -63,12 +51,9 @@ fill-cursors-spec =
     Inv-loop
     μ-loop
     loop-holds
-    mul-first-from
-    shared-slice-copy-out-first-from
-    mul-first-from-2
-    shared-slice-copy-out-first-from-2
+    stand-at-requires
     first-from-requires
-    mul-t16
+    mul-t8
     slice-set-from-cursors
     add-s
     loop-less

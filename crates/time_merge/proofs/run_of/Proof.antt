@@ -9,26 +9,20 @@ mul-cursor c = search needs
 shared-slice-copy-out-cursor : tie.Need-shared-slice-copy-out-cursor
 shared-slice-copy-out-cursor c = search needs
 
-array-read-t24 : tie.Need-array-read-t24
-array-read-t24 c = search needs
+array-read-t23 : tie.Need-array-read-t23
+array-read-t23 c = search needs
 
-add-t25 : tie.Need-add-t25
-add-t25 c = search needs
+add-t24 : tie.Need-add-t24
+add-t24 c = search needs
 
-array-read-t28 : tie.Need-array-read-t28
-array-read-t28 c = search needs
+array-read-t27 : tie.Need-array-read-t27
+array-read-t27 c = search needs
 
 returns : tie.Need-returns
 returns c = run-one (c .before .before .before .before .before .pre .1 .1)
 
 bound-of-requires : tie.Need-bound-of-requires
 bound-of-requires c κs = search needs
-
-array-read-a : tie.Need-array-read-a
-array-read-a c = search needs
-
-array-read-b : tie.Need-array-read-b
-array-read-b c = search needs
 
 mul-times-within : tie.Need-mul-times-within
 mul-times-within c = search needs
@@ -48,15 +42,6 @@ array-read-times-within c = search needs
 times-within-requires : tie.Need-times-within-requires
 times-within-requires c κs = run-fits (c .before .before .before .before .before .before .before .pre .1 .1) (c .before .before .before .before .before .before .before .pre .1 .0)
 
-array-read-c : tie.Need-array-read-c
-array-read-c c = search needs
-
-array-read-d : tie.Need-array-read-d
-array-read-d c = search needs
-
-array-read-row-of : tie.Need-array-read-row-of
-array-read-row-of c = search needs
-
 mul-row-of : tie.Need-mul-row-of
 mul-row-of c = search needs
 
@@ -68,9 +53,6 @@ part-row-of-start c = search needs
 
 part-row-of-end : tie.Need-part-row-of-end
 part-row-of-end c = search needs
-
-array-read-row-of-2 : tie.Need-array-read-row-of-2
-array-read-row-of-2 c = search needs
 
 row-of-requires : tie.Need-row-of-requires
 row-of-requires c κs = search needs
@@ -84,26 +66,20 @@ run-of-spec =
     (tie.spec
     mul-cursor
     shared-slice-copy-out-cursor
-    array-read-t24
-    add-t25
-    array-read-t28
+    array-read-t23
+    add-t24
+    array-read-t27
     returns
     bound-of-requires
-    array-read-a
-    array-read-b
     mul-times-within
     sub-times-within
     part-times-within-start
     part-times-within-end
     array-read-times-within
     times-within-requires
-    array-read-c
-    array-read-d
-    array-read-row-of
     mul-row-of
     sub-row-of
     part-row-of-start
     part-row-of-end
-    array-read-row-of-2
     row-of-requires
     returns-2)

@@ -86,6 +86,7 @@ addresses-fit-requires c κs =
       few = r .few;
       held = omega (arith, r .exact .alive);
       counted = t;
+      most = omega (arith, r .rows);
       room = λ n. room-rows (a .mode) (totals-of .result .rows) _ _ (c .before .before .room-enough .ensures) (not-false _ (c .before .if2 .left)) (known i p) n;
       clean = zero-again _ (length (a .work .now)) (c .before .before .before .before .before .before .before .before .zero .ensures);
     }

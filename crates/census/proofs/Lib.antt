@@ -1,0 +1,5 @@
+pub mod Rows
+pub mod Class
+pub mod Rules
+pub mod Settled
+pub mod Table

@@ -1,0 +1,4 @@
+pub mod Census
+pub mod Class
+pub mod Settled
+pub mod Table

@@ -1,4 +1,0 @@
-pub mod Held
-pub mod Class
-pub mod Count
-pub mod Rules

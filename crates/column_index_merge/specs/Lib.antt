@@ -1,3 +1,0 @@
-pub mod Class
-pub mod Held
-pub mod Counted

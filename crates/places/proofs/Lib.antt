@@ -1,7 +1,0 @@
-pub mod Cells
-pub mod Laws
-pub mod Stack
-pub mod Bulk
-pub mod Bridge
-pub mod Fill
-pub mod Raw

@@ -1,4 +1,0 @@
-pub mod Width
-pub mod Place
-pub mod Stack
-pub mod Places

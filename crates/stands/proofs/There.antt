@@ -1,0 +1,56 @@
+-- The stands that the pass over the records fills are where the segments stand. Assumes nothing.
+use Prim.Native.Nat.{ℕ, _+_, _≤_, _<_}
+use native.Mathlib.Nat.{add-sub-cancel-left}
+use native.Mathlib.Omega.{arith}
+use mathlib.Core.Path.{_≡_, refl, sym, ap, subst}
+use mathlib.Core.List.{List}
+use lib.ListN.{length, getD, take, drop}
+use Rattle.definitions.specs.Segment.{Segment, SegmentRecord, aliveWords, firstSegment, segmentsFrom}
+use Rattle.definitions.specs.Join.{absent}
+use Rattle.definitions.specs.Answer.{total}
+use Rattle.segment.specs.Records.{recordsOf, sectionsIn, recordAt, startAt}
+use Rattle.segment.proofs.At.{sectionsAt, segment-is, start-total, start-fits}
+use Rattle.segment.proofs.Walk.{words-enough}
+use Rattle.stands.specs.Stand.{run, Lies, standIn}
+use Rattle.stands.proofs.Bridge.{Stands}
+
+run-of : (a n : ℕ) (whole left : List ℕ) → left ≡ drop a whole → run a (a + n) whole ≡ take n left
+run-of a n whole left e = rw (add-sub-cancel-left a n, e)
+
+-- the sections hold the runs that the records announce
+pub record Held (records : List (List ℕ)) (is os vs ws : List ℕ) : Type 0 where
+  pub ids : total (λ (r : SegmentRecord). r .ids) (recordsOf records) ≤ length is
+  pub offsets : total (λ (r : SegmentRecord). r .offsets) (recordsOf records) ≤ length os
+  pub values : total (λ (r : SegmentRecord). r .values) (recordsOf records) ≤ length vs
+  pub words : total aliveWords (recordsOf records) ≤ length ws
+
+-- the run of each count, behind those of the segments before
+module _ (f : SegmentRecord → ℕ) (records : List (List ℕ)) (section : List ℕ) (u : total f (recordsOf records) ≤ length section) (k : ℕ) (h : k < length records) where
+  run-there : run (startAt f records k) (startAt f records k + f (recordAt records k)) section ≡ take (f (recordAt records k)) (drop (total f (take k (recordsOf records))) section)
+  run-there = run-of (startAt f records k) (f (recordAt records k)) section _ (ap (λ (m : ℕ). drop m section) (sym (start-total f records k (omega arith))))
+
+  lies-there : Lies (record { from = startAt f records k; to = startAt f records k + f (recordAt records k) }) section
+  lies-there = record { rises = omega arith; ends = start-fits f records (length section) k u h }
+
+module _ (records : List (List ℕ)) (ids offsets values lengths bytes words : List ℕ) (u : Held records ids offsets values words) (k : ℕ) (h : k < length records) where
+  at-stands : Stands (standIn records k) ids offsets values words (firstSegment (recordAt records k) (sectionsAt k (recordsOf records) (sectionsIn ids offsets values lengths bytes words)))
+  unfolding standIn firstSegment sectionsAt
+  at-stands =
+      record {
+        kind = refl;
+        rows = refl;
+        flag = refl;
+        ids-are = run-there (λ r. r .ids) records ids (u .ids) k h;
+        offsets-are = run-there (λ r. r .offsets) records offsets (u .offsets) k h;
+        values-are = run-there (λ r. r .values) records values (u .values) k h;
+        words-are = run-there aliveWords records words (u .words) k h;
+        ids-lie = lies-there (λ r. r .ids) records ids (u .ids) k h;
+        offsets-lie = lies-there (λ r. r .offsets) records offsets (u .offsets) k h;
+        values-lie = lies-there (λ r. r .values) records values (u .values) k h;
+        words-lie = lies-there aliveWords records words (u .words) k h;
+        enough = λ e. rw (add-sub-cancel-left (startAt aliveWords records k) (aliveWords (recordAt records k))) (words-enough (recordAt records k) e);
+      }
+
+  pub stands-there : Stands (standIn records k) ids offsets values words (getD (segmentsFrom (recordsOf records) (sectionsIn ids offsets values lengths bytes words)) k absent)
+  stands-there =
+      subst (λ (s : Segment). Stands (standIn records k) ids offsets values words s) (sym (segment-is records (sectionsIn ids offsets values lengths bytes words) k h)) at-stands

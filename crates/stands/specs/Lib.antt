@@ -1,0 +1,4 @@
+pub mod Width
+pub mod Stand
+pub mod Look
+pub mod Stack
