@@ -14,14 +14,17 @@ extern "C" {
 
 /* Joins the segments of one column.
  *
- * Types: 0 I64, 1 U64, 2 F64, 3 Bytes, 4 Str, 5 Bool, 7 DateTime, 255 no column. Kinds: 0 Empty, 1 Full, 2 Optional, 4 new multivalued; 3, old
+ * Types: 0 I64, 1 U64, 2 F64, 3 Bytes, 4 Str, 5 Bool, 6 IpAddr, 7 DateTime, 255 no column. Kinds: 0 Empty, 1 Full, 2 Optional, 4 new multivalued; 3, old
  * multivalued, is for jadmirus_convert alone. Classes: 0 Full, 1 Optional, 2 Multivalued.
+ *
+ * A value is one 64-bit word, of an unknown type too, but one of type 6, an IPv6 address, is two, the high word first. Numbers of values (in records, offsets,
+ * checks 4 and 7, and out_numbers) count such an address once; values_count and out_values_count are in words.
  *
  * Returns the answer. The checks run in the order of this list, each over all segments, and the first that fails gives its number:
  *
  *    0  accepted: the lists are written, and out_numbers
  *    1  more than 256 segments
- *    2  a section's length differs from the records' sum, or the term bytes from the term lengths' sum
+ *    2  a section's length differs from the records' sum (that of values is in words), or the term bytes from the term lengths' sum
  *    3  unknown mode, type, required type, kind or flag, or type 255 with a kind or lengths
  *   19  a segment of kind 3: jadmirus_convert makes it one of kind 4
  *    4  row ids, offsets or the number of values don't fit their kind
@@ -30,8 +33,8 @@ extern "C" {
  *    7  rows, values or term bytes sum above 4294967294
  *    8  ordered, and fewer working bytes than all rows plus all terms
  *    9  the addresses are not the alive rows, each once (ordered), or there are any (stacked)
- *   10  types of two categories, or a column that can't be coerced
- *   11  an output is shorter than its list; those of terms and map, than the held columns' sums
+ *   10  types of two categories (0, 1 and 2 are one, and each other type is its own), or a column that can't be coerced
+ *   11  an output is shorter than its list (that of values is in words); those of terms and map, than the held columns' sums
  *
  * Check 2 compares sums: lists of two segments whose wrong lengths cancel are cut where the records say, and later checks see what stands there. A caller that builds
  * the lists segment by segment sees to it that each has the length that its record announces.
@@ -43,7 +46,7 @@ uint32_t jadmirus_join(
     const uint32_t (*records)[8], size_t records_count,          /* type, kind, rows, numbers of ids, offsets, values and terms, flag */
     const uint32_t *ids, size_t ids_count,                       /* row ids of kinds 2 and 4, one segment's after another's; so all lists up to alive */
     const uint32_t *offsets, size_t offsets_count,               /* of kind 4, one more than ids */
-    const uint64_t *values, size_t values_count,                 /* 64-bit words: two's complement (0, 7), IEEE bits (2), ordinals of the segment's terms (3, 4), 0 or 1 (5) */
+    const uint64_t *values, size_t values_count,                 /* 64-bit words: two's complement (0, 7), IEEE bits (2), ordinals of the segment's terms (3, 4), 0 or 1 (5), high and low word (6) */
     const uint32_t *term_lengths, size_t term_lengths_count,     /* bytes of each term */
     const uint8_t *term_bytes, size_t term_bytes_count,          /* the terms, each segment's bytewise ascending */
     const uint64_t *alive, size_t alive_count,                   /* a word for each 64 rows or part of them, of segments with flag 1 */
@@ -51,11 +54,11 @@ uint32_t jadmirus_join(
     uint8_t *working, size_t working_count,                      /* ordered: a byte for each row and each term of all segments */
     uint32_t *out_ids, size_t out_ids_count,                     /* class 1 and 2: new rows with a value; values_count elements always suffice */
     uint32_t *out_offsets, size_t out_offsets_count,             /* class 2: 0, then the running total after each such row; values_count + 1 suffice */
-    uint64_t *out_values, size_t out_values_count,               /* in row order, of the joined type; values_count suffice */
+    uint64_t *out_values, size_t out_values_count,               /* in row order, of the joined type, in words; values_count suffice */
     uint32_t *out_term_lengths, size_t out_term_lengths_count,   /* of the joined terms, ascending; term_lengths_count suffice */
     uint8_t *out_term_bytes, size_t out_term_bytes_count,        /* their bytes; term_bytes_count suffice */
     uint32_t *out_map, size_t out_map_count,                     /* new ordinals of the held columns' terms, one segment's after another's, 0 for a term not kept; term_lengths_count suffice */
-    uint64_t out_numbers[10]);                                   /* type, class, rows; elements of ids, offsets, values, terms, term bytes, map; term bytes copied, which are the joined terms' */
+    uint64_t out_numbers[10]);                                   /* type, class, rows; elements of ids, offsets, values (not words), terms, term bytes, map; term bytes copied, which are the joined terms' */
 
 /* The time order of the segments of a column of times (type 7, or 255 for none): their alive rows sorted by key, segment and row. A row's key is its time, else
  * the last time before it in its segment, else the first time after it in its segment; the rows of a segment without any time come before all times, also before
@@ -71,7 +74,7 @@ uint32_t jadmirus_time_order(
     const uint32_t (*records)[8], size_t records_count,          /* as above, and so the next six */
     const uint32_t *ids, size_t ids_count,
     const uint32_t *offsets, size_t offsets_count,
-    const uint64_t *values, size_t values_count,                 /* times: 64-bit two's complement */
+    const uint64_t *values, size_t values_count,                 /* times: 64-bit two's complement; of any other type, which gives 12, in words as above */
     const uint32_t *term_lengths, size_t term_lengths_count,
     const uint8_t *term_bytes, size_t term_bytes_count,
     const uint64_t *alive, size_t alive_count,
@@ -83,7 +86,7 @@ uint32_t jadmirus_time_order(
  * this list:
  *
  *    0  accepted: the lists are written, and out_record
- *    2  a list's length differs from the record's number, or the term bytes from the term lengths' sum
+ *    2  a list's length differs from the record's number (that of values is in words, two for each of type 6), or the term bytes from the term lengths' sum
  *    3  a kind other than 3, an unknown type or flag, or type 255
  *    4  there are row ids, or not one more offset than rows; the offsets don't begin with 0, they fall, or the last one is not the number of values
  *    5  a value or the terms don't fit their type
@@ -96,7 +99,7 @@ uint32_t jadmirus_convert(
     const uint32_t record[8],                                    /* as one of the records above; the lists are this segment's alone */
     const uint32_t *ids, size_t ids_count,                       /* none: kind 3 has no row ids */
     const uint32_t *offsets, size_t offsets_count,               /* one more than rows: where each row's values begin, and their number at the end */
-    const uint64_t *values, size_t values_count,
+    const uint64_t *values, size_t values_count,                 /* in words, as above */
     const uint32_t *term_lengths, size_t term_lengths_count,
     const uint8_t *term_bytes, size_t term_bytes_count,
     const uint64_t *alive, size_t alive_count,

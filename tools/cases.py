@@ -17,7 +17,7 @@ import re
 import sys
 
 FOLDER = "crates/cases/"
-TYPES = {"I64": 0, "U64": 1, "F64": 2, "Bytes": 3, "Str": 4, "Bool": 5, "DateTime": 7, "none": 255}
+TYPES = {"I64": 0, "U64": 1, "F64": 2, "Bytes": 3, "Str": 4, "Bool": 5, "IpAddr": 6, "DateTime": 7, "none": 255}
 KINDS = {"Empty": 0, "Full": 1, "Optional": 2, "OldMultivalued": 3, "NewMultivalued": 4}
 MODES = {"stacked": 0, "ordered": 1}
 
@@ -36,7 +36,7 @@ RECORD = [
 SECTIONS = [
     ("ids", lambda s: s["ids"]),
     ("offsets", lambda s: s["offsets"]),
-    ("values", lambda s: s["values"]),
+    ("values", lambda s: flat(s["values"])),
     ("lengths", lambda s: [len(t) for t in s["terms"]]),
     ("bytes", lambda s: list(b"".join(s["terms"]))),
     ("alive", lambda s: s["alive"] or []),
@@ -45,7 +45,7 @@ SECTIONS = [
 OUTPUTS = [
     ("ids", "ids", lambda a: a["ids"]),
     ("offsets", "offsets", lambda a: a["offsets"]),
-    ("values", "values", lambda a: a["values"]),
+    ("values", "values", lambda a: flat(a["values"])),
     ("lengths", "term lengths", lambda a: [len(t) for t in a["terms"]]),
     ("bytes", "term bytes", lambda a: list(b"".join(a["terms"]))),
     ("map", "map", lambda a: a["map"]),
@@ -64,7 +64,12 @@ def number(word):
 
 
 def value(word):
-    return number(word) % 2**64
+    """a value's words: one, or an address's two"""
+    return [number(w) % 2**64 for w in word.split(",")]
+
+
+def flat(values):
+    return [w for words in values for w in words]
 
 
 def named(names):
@@ -235,11 +240,11 @@ def letters():
         if k % 17 == 3:
             s.update({"kind": KINDS["Optional"], "values": []})
         else:
-            s.update({"kind": KINDS["Full"], "values": [0]})
+            s.update({"kind": KINDS["Full"], "values": [[0]]})
             held.append(k)
         segments.append(s)
     terms, numbers = dictionary(segments, held)
-    return segments, {"type": TYPES["Str"], "class": 1, "rows": 256, "ids": held, "offsets": [], "values": numbers, "terms": terms, "map": numbers}
+    return segments, {"type": TYPES["Str"], "class": 1, "rows": 256, "ids": held, "offsets": [], "values": [[n] for n in numbers], "terms": terms, "map": numbers}
 
 
 RULES = {"letters": letters}
@@ -292,9 +297,10 @@ def printed(case):
             head += ", addresses %d" % len(pairs)
         return [head, line(case, "addresses", pairs, lent[0], "%d,%d" % (BEFORE, BEFORE))]
     outputs = [(name, of(column)) for _, name, of in OUTPUTS]
+    counts = [len(column["values"]) if name == "values" else len(xs) for name, xs in outputs]
     if answer == 0:
         head += ", type %d, class %d, rows %d, elements" % (column["type"], column["class"], column["rows"])
-        head += "".join(" %d" % len(xs) for _, xs in outputs)
+        head += "".join(" %d" % n for n in counts)
         head += ", copied %d" % column.get("copied", sum(len(t) for t in column["terms"]))
     lists = [line(case, name, xs, space, str(BEFORE)) for (name, xs), space in zip(outputs, lent[1:])]
     return [head] + lists + [line(case, "working", [0] * lent[0], lent[0], "")]

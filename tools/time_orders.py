@@ -143,8 +143,15 @@ def refused(fault):
         x["values"].append(0)
         answer = 2
     if fault == "unknown type":
-        x["records"][at][0] = 6
+        x["records"][at][0] = 8
         answer = 3
+    if fault == "addresses":
+        x["records"][at][0] = 6
+        k = sum(r[5] for r in x["records"][:at])
+        x["values"][k:k] = [random.getrandbits(64), random.getrandbits(64)]  # its two values have four words
+    if fault == "addresses, a word each":
+        x["records"][at][0] = 6
+        answer = 2
     if fault == "kind 3, no column":
         x["records"][at][0] = 255
         answer = 3
@@ -285,7 +292,7 @@ def in_runs(long, lost):
 
 def main():
     cases = [accepted() for _ in range(382)]
-    faults = ["falling", "falling across zero", "falling, withdrawn", "falling, optional", "several", "several, withdrawn", "type", "lengths", "unknown type", "lists", "bool", "past rows", "rows"]
+    faults = ["falling", "falling across zero", "falling, withdrawn", "falling, optional", "several", "several, withdrawn", "type", "addresses", "addresses, a word each", "lengths", "unknown type", "lists", "bool", "past rows", "rows"]
     faults += ["kind 3", "kind 3, wrong lists", "kind 3 beside ids 1 1", "kind 3 beside an unknown type", "kind 3, no column", "kind 3, unknown flag", "kind 3, lengths"]
     cases += [refused(f) for f in faults for _ in range(3)] + [refused("many")]
     cases += [by_hand(segments, expected) for segments, expected in BY_HAND]

@@ -9,6 +9,7 @@ pub enum ColumnType {
     Bytes,
     Str,
     Bool,
+    IpAddr,
     DateTime,
 }
 
@@ -16,13 +17,14 @@ pub enum ColumnType {
 pub(crate) const NO_TYPE: u32 = 255;
 
 impl ColumnType {
-    pub const ALL: [ColumnType; 7] = [
+    pub const ALL: [ColumnType; 8] = [
         ColumnType::I64,
         ColumnType::U64,
         ColumnType::F64,
         ColumnType::Bytes,
         ColumnType::Str,
         ColumnType::Bool,
+        ColumnType::IpAddr,
         ColumnType::DateTime,
     ];
 
@@ -35,6 +37,7 @@ impl ColumnType {
             ColumnType::Bytes => 3,
             ColumnType::Str => 4,
             ColumnType::Bool => 5,
+            ColumnType::IpAddr => 6,
             ColumnType::DateTime => 7,
         }
     }
@@ -51,8 +54,14 @@ impl ColumnType {
             ColumnType::Bytes => "Bytes",
             ColumnType::Str => "Str",
             ColumnType::Bool => "Bool",
+            ColumnType::IpAddr => "IpAddr",
             ColumnType::DateTime => "DateTime",
         }
+    }
+
+    /// How many 64-bit words a value has: two for IpAddr, the high word first, else one.
+    pub fn words_per_value(self) -> usize {
+        if self == ColumnType::IpAddr { 2 } else { 1 }
     }
 
     /// Whether the values are ordinals of terms.
@@ -68,6 +77,11 @@ impl ColumnType {
 
 pub(crate) fn code_of(typ: Option<ColumnType>) -> u32 {
     typ.map_or(NO_TYPE, ColumnType::code)
+}
+
+/// The words of a value. Without a known type it is one: lengths are checked before types.
+pub(crate) fn words_per_value(typ: Option<ColumnType>) -> usize {
+    typ.map_or(1, ColumnType::words_per_value)
 }
 
 /// How many values the rows of a joined column have.

@@ -4,14 +4,15 @@ use crate::codes::{ColumnType, kind};
 use crate::ffi;
 use crate::refusal::Refusal;
 use crate::sections::{Cut, Record, Sections};
-use crate::segment::{Index, Segment, count, length};
+use crate::segment::{Index, Segment, count, length, value_count};
 use crate::terms::Terms;
 
 /// One column of one segment as it was stored before: of kind 3, old multivalued. Only
 /// [`convert`](crate::convert) takes it.
 ///
 /// A row has the values between the offset at its number and the next, so there is one offset more
-/// than rows. As for a [`Segment`], nothing is checked here, and values are 64-bit words.
+/// than rows. As for a [`Segment`], nothing is checked here, and values are 64-bit words, two for
+/// each IpAddr.
 #[derive(Clone, Debug, PartialEq, Eq)]
 pub struct OldSegment {
     typ: ColumnType,
@@ -55,7 +56,7 @@ impl OldSegment {
                 rows: self.rows,
                 ids: 0,
                 offsets: length(&self.offsets)?,
-                values: length(&self.values)?,
+                values: value_count(Some(self.typ), &self.values)?,
                 terms: count(self.terms.len())?,
                 flag: u32::from(self.alive.is_some()),
             },

@@ -93,12 +93,13 @@ pub(crate) struct Outputs {
     pub working: Vec<u8>,
     pub ids: Vec<u32>,
     pub offsets: Vec<u32>,
+    /// In words, as the values that are lent.
     pub values: Vec<u64>,
     pub term_lengths: Vec<u32>,
     pub term_bytes: Vec<u8>,
     pub map: Vec<u32>,
-    /// Type, class, rows; elements of ids, offsets, values, terms, term bytes and map; the term
-    /// bytes copied.
+    /// Type, class, rows; elements of ids, offsets, values (each IpAddr once), terms, term bytes
+    /// and map; the term bytes copied.
     pub numbers: [u64; 10],
 }
 
@@ -212,6 +213,7 @@ pub(crate) fn convert(
 #[cfg(test)]
 mod tests {
     use super::*;
+    use crate::codes::ColumnType;
     use crate::segment::Segment;
 
     const NONE: [u64; 10] = [77; 10];
@@ -249,6 +251,38 @@ mod tests {
         assert_eq!((join(&sections, &mut out), out.numbers), (11, NONE));
         assert_eq!(out.values, [0]);
         assert_eq!(join(&sections, &mut lent(2)), 0);
+    }
+
+    /// One row with the addresses (3, 4) and (1, 2): 1 id, 2 offsets, 4 words of values.
+    #[test]
+    fn answer_11_for_addresses() {
+        let words = vec![3, 4, 1, 2];
+        let segment =
+            Segment::new_multivalued(ColumnType::IpAddr, 1, vec![0], vec![0, 2], words.clone());
+        let sections = Sections::of(&[segment]).unwrap();
+        let joined = |ids: usize, offsets: usize, values: usize| {
+            let mut out = lent(0);
+            (out.ids, out.offsets) = (vec![77; ids], vec![77; offsets]);
+            out.values = vec![77; values];
+            let answer = join(&sections, &mut out);
+            (answer, out.numbers, out.ids, out.offsets, out.values)
+        };
+        for (ids, offsets, values) in [(0, 2, 4), (1, 1, 4), (1, 2, 3), (1, 2, 2)] {
+            let kept = (vec![77; ids], vec![77; offsets], vec![77; values]);
+            let (answer, numbers, ids, offsets, values) = joined(ids, offsets, values);
+            assert_eq!((answer, numbers, (ids, offsets, values)), (11, NONE, kept));
+        }
+        let numbers = [6, 2, 1, 1, 2, 2, 0, 0, 0, 0];
+        let exact = (0, numbers, vec![0], vec![0, 2], words);
+        assert_eq!(joined(1, 2, 4), exact);
+        let ample = (
+            0,
+            numbers,
+            vec![0, 77],
+            vec![0, 2, 77],
+            vec![3, 4, 1, 2, 77, 77],
+        );
+        assert_eq!(joined(2, 3, 6), ample);
     }
 
     /// Two segments with the term ab: 2 bytes are copied, and 11 asks for 4.
@@ -327,6 +361,26 @@ mod tests {
         assert_eq!(converted(&OLD, 4, 4), ample);
     }
 
+    /// As many ids and offsets as of numbers, although there are twice as many words.
+    #[test]
+    fn converted_addresses() {
+        let mut old = OLD;
+        old.record.typ = 6;
+        assert_eq!(converted(&old, 9, 9).0, 2);
+        old.values = &[1, 2, 3, 4, 5, 6];
+        let record = Record {
+            kind: 4,
+            ids: 2,
+            offsets: 3,
+            ..old.record
+        };
+        let exact = (0, vec![0, 2], vec![0, 2, 3], record);
+        assert_eq!(converted(&old, 2, 3), exact);
+        assert_eq!(converted(&old, 1, 3).0, 11);
+        old.values = &[1, 2, 3, 4, 5, 6, 7];
+        assert_eq!(converted(&old, 9, 9).0, 2);
+    }
+
     /// What this crate's own calls can't hand over: other kinds, no column, runs that don't fit.
     #[test]
     fn answers_2_and_3_of_the_converter() {
@@ -343,7 +397,7 @@ mod tests {
             cut.record.kind = kind;
             assert_eq!(converted(&cut, 9, 9).0, 3, "kind {kind}");
         }
-        assert_eq!(answer(|cut| cut.record.typ = 6), 3);
+        assert_eq!(answer(|cut| cut.record.typ = 8), 3);
         assert_eq!(answer(|cut| cut.record.typ = 255), 3);
         assert_eq!(answer(|cut| cut.record.flag = 2), 3);
         assert_eq!(answer(|cut| cut.values = &[7, 8]), 2);

@@ -1,10 +1,12 @@
-use crate::codes::{Class, ColumnType};
+use crate::codes::{Class, ColumnType, words_per_value};
 use crate::ffi::Outputs;
+use crate::ip::ip_addr;
 use crate::sections::{Cut, Sections};
 use crate::segment::{Index, Segment};
 use crate::sheet::term_text;
 use crate::terms::Terms;
 use std::fmt;
+use std::net::Ipv6Addr;
 use std::ops::Range;
 
 /// A joined column.
@@ -15,6 +17,7 @@ pub struct Joined {
     rows: u32,
     ids: Vec<u32>,
     offsets: Vec<u32>,
+    /// The values' words.
     values: Vec<u64>,
     terms: Terms,
     map: Vec<u32>,
@@ -30,6 +33,8 @@ pub enum Value<'a> {
     U64(u64),
     F64(f64),
     Bool(bool),
+    /// An IPv4 address is the one that it is mapped to; `to_ipv4_mapped` gives it back.
+    IpAddr(Ipv6Addr),
     DateTime(i64),
     Str(&'a str),
     /// A term of a Bytes column, or one of a Str column that is not UTF-8.
@@ -45,6 +50,7 @@ impl fmt::Display for Value<'_> {
             Value::U64(value) => write!(f, "{value}"),
             Value::F64(value) => write!(f, "{value:?}"),
             Value::Bool(value) => write!(f, "{value}"),
+            Value::IpAddr(address) => write!(f, "{address}"),
             Value::Str(text) => f.write_str(&term_text(text.as_bytes())),
             Value::Bytes(bytes) => f.write_str(&term_text(bytes)),
         }
@@ -76,9 +82,14 @@ impl Joined {
     }
 
     /// The values in row order as words: two's complement for I64 and DateTime, IEEE bits for F64,
-    /// ordinals for Bytes and Str.
+    /// ordinals for Bytes and Str. An IpAddr has two, which [`ip_addrs`](crate::ip_addrs) reads.
     pub fn values(&self) -> &[u64] {
         &self.values
+    }
+
+    /// How many values there are: as many as words, or half as many if they are of type IpAddr.
+    pub fn value_count(&self) -> usize {
+        self.values.len() / words_per_value(self.typ)
     }
 
     pub fn terms(&self) -> &Terms {
@@ -104,8 +115,7 @@ impl Joined {
 
     /// A row's values; none for a row past the last.
     pub fn row(&self, row: u32) -> impl ExactSizeIterator<Item = Value<'_>> {
-        let part = self.part_of(row);
-        self.values[part].iter().map(|&word| self.value(word))
+        self.values_in(self.part_of(row))
     }
 
     /// The rows that have values, each with them, in row order.
@@ -119,13 +129,16 @@ impl Joined {
         };
         (0..filled).map(|rank| {
             let row = self.ids.get(rank).map_or(rank as u32, |&id| id);
-            (
-                row,
-                self.values[self.part_at(rank)]
-                    .iter()
-                    .map(|&word| self.value(word)),
-            )
+            (row, self.values_in(self.part_at(rank)))
         })
+    }
+
+    /// The values of a part, which counts whole values.
+    fn values_in(&self, part: Range<usize>) -> impl ExactSizeIterator<Item = Value<'_>> {
+        let words = words_per_value(self.typ);
+        self.values[part.start * words..part.end * words]
+            .chunks_exact(words)
+            .map(|words| self.value(words))
     }
 
     /// The part of the values that a row has.
@@ -150,12 +163,14 @@ impl Joined {
         }
     }
 
-    fn value(&self, word: u64) -> Value<'_> {
+    fn value(&self, words: &[u64]) -> Value<'_> {
+        let word = words[0];
         let term = || self.terms.get(word as usize).unwrap_or_default();
         match self.typ {
             Some(ColumnType::I64) => Value::I64(word as i64),
             Some(ColumnType::F64) => Value::F64(f64::from_bits(word)),
             Some(ColumnType::Bool) => Value::Bool(word != 0),
+            Some(ColumnType::IpAddr) => Value::IpAddr(ip_addr(word, words[1])),
             Some(ColumnType::DateTime) => Value::DateTime(word as i64),
             Some(ColumnType::Str) => {
                 str::from_utf8(term()).map_or(Value::Bytes(term()), Value::Str)
@@ -197,14 +212,16 @@ pub(crate) fn from_outputs(outputs: Outputs, sections: &Sections) -> Joined {
         map,
         copied,
     ] = outputs.numbers;
+    let typ = ColumnType::from_code(typ as u32);
+    let words = values * words_per_value(typ) as u64;
     let lengths = first(outputs.term_lengths, terms);
     Joined {
-        typ: ColumnType::from_code(typ as u32),
+        typ,
         class: Class::from_code(class).expect("the library's classes are 0, 1 and 2"),
         rows: rows as u32,
         ids: first(outputs.ids, ids),
         offsets: first(outputs.offsets, offsets),
-        values: first(outputs.values, values),
+        values: first(outputs.values, words),
         terms: Terms::from_lengths(&lengths, first(outputs.term_bytes, bytes)),
         map: first(outputs.map, map),
         map_parts: map_parts(&sections.cut().unwrap_or_default()),

@@ -6,8 +6,8 @@ use std::io::{self, Write};
 
 impl Joined {
     /// Writes the column's listing. A list stands after its name and its number of elements;
-    /// values as unsigned words, terms in hexadecimal, an empty one as `-`. (A refusal's listing
-    /// is the line `answer` with its number alone.)
+    /// values as unsigned words, an IpAddr as its two, terms in hexadecimal, an empty one as `-`.
+    /// (A refusal's listing is the line `answer` with its number alone.)
     pub fn write_listing(&self, out: &mut dyn Write) -> io::Result<()> {
         writeln!(out, "answer 0")?;
         writeln!(out, "type {}", code_of(self.column_type()))?;
@@ -15,7 +15,7 @@ impl Joined {
         writeln!(out, "rows {}", self.rows())?;
         write_list(out, "ids", self.ids())?;
         write_list(out, "offsets", self.offsets())?;
-        write_list(out, "values", self.values())?;
+        write_counted(out, "values", self.value_count(), self.values())?;
         write!(out, "terms {}", self.terms().len())?;
         for term in self.terms().iter() {
             out.write_all(b" ")?;
@@ -35,7 +35,7 @@ impl Joined {
             ("rows", u64::from(self.rows())),
             ("ids", self.ids().len() as u64),
             ("offsets", self.offsets().len() as u64),
-            ("values", self.values().len() as u64),
+            ("values", self.value_count() as u64),
             ("terms", self.terms().len() as u64),
             ("term-bytes", self.terms().bytes().len() as u64),
             ("maps", self.map().len() as u64),
@@ -48,9 +48,20 @@ impl Joined {
 }
 
 fn write_list<T: Display>(out: &mut dyn Write, name: &str, list: &[T]) -> io::Result<()> {
-    write!(out, "{name} {}", list.len())?;
-    list.iter()
-        .try_for_each(|element| write!(out, " {element}"))?;
+    write_counted(out, name, list.len(), list)
+}
+
+/// An element may be of several numbers.
+fn write_counted<T: Display>(
+    out: &mut dyn Write,
+    name: &str,
+    count: usize,
+    numbers: &[T],
+) -> io::Result<()> {
+    write!(out, "{name} {count}")?;
+    numbers
+        .iter()
+        .try_for_each(|number| write!(out, " {number}"))?;
     writeln!(out)
 }
 

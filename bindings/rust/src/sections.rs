@@ -1,6 +1,6 @@
 //! The level of the library's own lists: what a call is lent, list by list.
 use crate::alive::{is_alive, words_for};
-use crate::codes::{ColumnType, NO_TYPE, kind, mode};
+use crate::codes::{ColumnType, NO_TYPE, kind, mode, words_per_value};
 use crate::joined::Joined;
 use crate::refusal::Refusal;
 use crate::{ffi, joined};
@@ -18,6 +18,7 @@ pub struct Record {
     /// How many row ids the segment has; the next three likewise.
     pub ids: u32,
     pub offsets: u32,
+    /// An address counts once, although it has two words.
     pub values: u32,
     pub terms: u32,
     /// 1 if the segment has an alive set, else 0.
@@ -25,6 +26,15 @@ pub struct Record {
 }
 
 impl Record {
+    pub(crate) fn words_per_value(&self) -> usize {
+        words_per_value(ColumnType::from_code(self.typ))
+    }
+
+    /// How many words of values the record announces.
+    pub(crate) fn value_words(&self) -> usize {
+        self.values as usize * self.words_per_value()
+    }
+
     /// How many alive words the record announces.
     pub(crate) fn alive_words(&self) -> usize {
         if self.flag == 1 {
@@ -61,6 +71,7 @@ pub struct Sections {
     pub records: Vec<Record>,
     pub ids: Vec<u32>,
     pub offsets: Vec<u32>,
+    /// The values' words: two for each IpAddr, the high word first, and one for any other value.
     pub values: Vec<u64>,
     pub term_lengths: Vec<u32>,
     pub term_bytes: Vec<u8>,
@@ -134,7 +145,7 @@ impl Sections {
     }
 
     /// Space for every result these sections can have. A row with a value has one of the values,
-    /// so the values bound the row ids, however many rows are announced; terms and map are bounded
+    /// so their words bound the row ids, however many rows are announced; terms and map are bounded
     /// by all terms.
     ///
     /// An ordered join that is accepted lists each alive row once. If the number of addresses is
@@ -162,6 +173,10 @@ impl Sections {
         self.records.iter().map(|r| u64::from(r.rows)).sum()
     }
 
+    pub(crate) fn all_values(&self) -> u64 {
+        self.records.iter().map(|r| u64::from(r.values)).sum()
+    }
+
     /// How many rows are not withdrawn, if the sections fit the records; else any number.
     pub(crate) fn alive_rows(&self) -> u64 {
         let mut words = self.alive.iter();
@@ -183,7 +198,7 @@ impl Sections {
         let announced: [u128; 6] = [
             sum(|r| r.ids as usize),
             sum(|r| r.offsets as usize),
-            sum(|r| r.values as usize),
+            sum(Record::value_words),
             sum(|r| r.terms as usize),
             sum(Record::alive_words),
             bytes,
@@ -214,7 +229,7 @@ impl Sections {
                 record: *r,
                 ids: take(&mut ids, r.ids as usize),
                 offsets: take(&mut offsets, r.offsets as usize),
-                values: take(&mut values, r.values as usize),
+                values: take(&mut values, r.value_words()),
                 term_lengths,
                 term_bytes: take(&mut bytes, term_bytes),
                 alive: (r.flag == 1).then(|| take(&mut alive, r.alive_words())),
@@ -236,6 +251,7 @@ pub(crate) struct Cut<'a> {
     pub record: Record,
     pub ids: &'a [u32],
     pub offsets: &'a [u32],
+    /// The values' words.
     pub values: &'a [u64],
     pub term_lengths: &'a [u32],
     pub term_bytes: &'a [u8],
@@ -258,8 +274,8 @@ impl<'a> Cut<'a> {
         self.alive.is_none_or(|words| is_alive(words, row))
     }
 
-    /// The rows that can have values, ascending, each with its part of the values. For a segment
-    /// whose lists fit its kind (answer 4).
+    /// The rows that can have values, ascending, each with its part of the values, which counts
+    /// whole values. For a segment whose lists fit its kind (answer 4).
     pub fn cells(&self) -> impl Iterator<Item = (u32, Range<usize>)> + '_ {
         let ranks = match self.record.kind {
             kind::EMPTY => 0,

@@ -1,9 +1,11 @@
 use crate::alive::{AliveSet, words_for};
-use crate::codes::{ColumnType, code_of, kind};
+use crate::codes::{ColumnType, code_of, kind, words_per_value};
+use crate::ip;
 use crate::refusal::Refusal;
 use crate::sections::{Record, Sections};
 use crate::terms::Terms;
 use std::collections::BTreeMap;
+use std::net::IpAddr;
 
 /// Which rows of a segment have values, and how many.
 #[derive(Clone, Debug, PartialEq, Eq)]
@@ -42,8 +44,9 @@ impl Index {
 ///
 /// The constructors check nothing: a join refuses, by number, whatever doesn't fit together.
 /// Values are 64-bit words: two's complement for I64 and DateTime, IEEE bits for F64, 0 or 1 for
-/// Bool, ordinals of the terms for Bytes and Str. The constructors that take rows make the words,
-/// the terms and the lists themselves.
+/// Bool, ordinals of the terms for Bytes and Str. An IpAddr has two, which
+/// [`ip_words`](crate::ip_words) makes of addresses. The constructors that take rows make the
+/// words, the terms and the lists themselves.
 #[derive(Clone, Debug, PartialEq, Eq)]
 pub struct Segment {
     typ: Option<ColumnType>,
@@ -69,9 +72,9 @@ impl Segment {
 
     /// One value in each row.
     pub fn full(typ: ColumnType, values: Vec<u64>) -> Segment {
-        let rows = values.len() as u64;
+        let rows = values.len() / typ.words_per_value();
         Segment {
-            rows,
+            rows: rows as u64,
             ..Segment::new(typ, Index::Full, 0, values)
         }
     }
@@ -151,6 +154,7 @@ impl Segment {
         self.rows
     }
 
+    /// The values' words: two for each IpAddr, which [`ip_addrs`](crate::ip_addrs) reads.
     pub fn values(&self) -> &[u64] {
         &self.values
     }
@@ -168,23 +172,47 @@ impl Segment {
 /// becomes Full if every row has one value, Optional if none has more, else new multivalued.
 impl Segment {
     pub fn i64s<R: IntoIterator<Item = i64>>(rows: impl IntoIterator<Item = R>) -> Segment {
-        Segment::from_rows(ColumnType::I64, rows, |v| v as u64)
+        Segment::from_rows(ColumnType::I64, rows, |v| [v as u64])
     }
 
     pub fn u64s<R: IntoIterator<Item = u64>>(rows: impl IntoIterator<Item = R>) -> Segment {
-        Segment::from_rows(ColumnType::U64, rows, |v| v)
+        Segment::from_rows(ColumnType::U64, rows, |v| [v])
     }
 
     pub fn f64s<R: IntoIterator<Item = f64>>(rows: impl IntoIterator<Item = R>) -> Segment {
-        Segment::from_rows(ColumnType::F64, rows, f64::to_bits)
+        Segment::from_rows(ColumnType::F64, rows, |v| [v.to_bits()])
     }
 
     pub fn bools<R: IntoIterator<Item = bool>>(rows: impl IntoIterator<Item = R>) -> Segment {
-        Segment::from_rows(ColumnType::Bool, rows, u64::from)
+        Segment::from_rows(ColumnType::Bool, rows, |v| [v.into()])
     }
 
     pub fn date_times<R: IntoIterator<Item = i64>>(rows: impl IntoIterator<Item = R>) -> Segment {
-        Segment::from_rows(ColumnType::DateTime, rows, |v| v as u64)
+        Segment::from_rows(ColumnType::DateTime, rows, |v| [v as u64])
+    }
+
+    /// Of `Ipv6Addr`, `Ipv4Addr` or `IpAddr`. An IPv4 address becomes the IPv6 address that it is
+    /// mapped to.
+    ///
+    /// ```
+    /// use jadmirus::{Order, Refusal, Segment, Value, join};
+    /// use std::net::{Ipv4Addr, Ipv6Addr};
+    ///
+    /// # fn main() -> Result<(), Refusal> {
+    /// let by_day = [
+    ///     Segment::ip_addrs([vec![Ipv6Addr::LOCALHOST, Ipv6Addr::UNSPECIFIED], vec![]]),
+    ///     Segment::ip_addrs([Some(Ipv4Addr::new(192, 0, 2, 7))]),
+    /// ];
+    /// let listeners = join(&by_day, Order::Stacked, None)?;
+    /// let mapped: Ipv6Addr = "::ffff:192.0.2.7".parse().unwrap();
+    /// assert_eq!(listeners.row(2).collect::<Vec<_>>(), [Value::IpAddr(mapped)]);
+    /// # Ok(())
+    /// # }
+    /// ```
+    pub fn ip_addrs<A: Into<IpAddr>, R: IntoIterator<Item = A>>(
+        rows: impl IntoIterator<Item = R>,
+    ) -> Segment {
+        Segment::from_rows(ColumnType::IpAddr, rows, ip::words_of)
     }
 
     pub fn strs<'a, R: IntoIterator<Item = &'a str>>(rows: impl IntoIterator<Item = R>) -> Segment {
@@ -207,7 +235,7 @@ impl Segment {
         let mut numbers: BTreeMap<&[u8], u64> = BTreeMap::new();
         let mut segment = Segment::from_rows(typ, rows, |term| {
             let next = numbers.len() as u64;
-            *numbers.entry(term).or_insert(next)
+            [*numbers.entry(term).or_insert(next)]
         });
         // The terms were numbered as they came; their ordinals go by their order.
         let mut ordinals = vec![0; numbers.len()];
@@ -222,16 +250,17 @@ impl Segment {
         segment
     }
 
-    fn from_rows<V, R: IntoIterator<Item = V>>(
+    /// A value of the type has so many words, `WORDS`.
+    fn from_rows<V, R: IntoIterator<Item = V>, const WORDS: usize>(
         typ: ColumnType,
         rows: impl IntoIterator<Item = R>,
-        mut word: impl FnMut(V) -> u64,
+        mut words: impl FnMut(V) -> [u64; WORDS],
     ) -> Segment {
         let (mut ids, mut offsets, mut values) = (Vec::new(), vec![0], Vec::new());
         let mut count = 0;
         for row in rows {
             let before = values.len();
-            values.extend(row.into_iter().map(&mut word));
+            values.extend(row.into_iter().map(&mut words));
             if values.len() > before {
                 // Cut numbers are never handed on: so many rows or values are refused as such.
                 ids.push(count as u32);
@@ -246,7 +275,7 @@ impl Segment {
         };
         Segment {
             rows: count,
-            ..Segment::new(typ, index, 0, values)
+            ..Segment::new(typ, index, 0, values.into_flattened())
         }
     }
 }
@@ -273,7 +302,7 @@ impl Sections {
             rows,
             ids: length(ids)?,
             offsets: length(offsets)?,
-            values: length(&segment.values)?,
+            values: value_count(segment.typ, &segment.values)?,
             terms: count(segment.terms.len())?,
             flag: u32::from(segment.alive.is_some()),
         };
@@ -293,6 +322,12 @@ impl Sections {
         self.term_bytes.extend_from_slice(segment.terms.bytes());
         Ok(())
     }
+}
+
+/// How many values have these words. Half an address doesn't count, so that the library finds a
+/// word too many (answer 2).
+pub(crate) fn value_count(typ: Option<ColumnType>, words: &[u64]) -> Result<u32, Refusal> {
+    count(words.len() / words_per_value(typ))
 }
 
 pub(crate) fn length<T>(list: &[T]) -> Result<u32, Refusal> {

@@ -60,7 +60,7 @@ impl Sections {
             records: words.records()?,
             ids: words.section("row id")?,
             offsets: words.section("offset")?,
-            values: words.section("value")?,
+            values: words.section("value word")?,
             term_lengths: words.section("term length")?,
             term_bytes: words.section("term byte")?,
             alive: words.section("alive word")?,

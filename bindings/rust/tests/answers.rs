@@ -54,17 +54,18 @@ fn two_for_alive_sets_of_wrong_lengths() {
     assert_eq!(time_order(&[long]), Err(Refusal::Lengths));
 }
 
+/// Type 8: document 02, (g), makes 6, the table's example, a type.
 #[test]
 fn three() {
-    let type_6 = Record {
-        typ: 6,
+    let type_8 = Record {
+        typ: 8,
         kind: 1,
         rows: 1,
         values: 1,
         ..Record::default()
     };
     let sections = Sections {
-        records: vec![type_6],
+        records: vec![type_8],
         values: vec![0],
         ..Sections::default()
     };

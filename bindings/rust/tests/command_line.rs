@@ -95,9 +95,64 @@ fn numbers_alone() {
     );
     let (out, _, status) = run(
         &["join", "--numbers", "-"],
-        b"segment type 6 kind Full values 1",
+        b"segment type 8 kind Full values 1",
     );
     assert_eq!((&*out, status), ("answer 3\n", 1));
+}
+
+/// Two listeners, none and one; a day without the column; and an IPv4 address, mapped.
+const LISTENERS: &str = "segment type IpAddr kind NewMultivalued rows 3 ids 0 2 offsets 0 2 3 \
+    values 2001:db8::1 192.0.2.7 ::1\n\
+    segment rows 1\n\
+    segment type IpAddr kind Optional rows 2 ids 1 values 2001:db8::2\n";
+
+#[test]
+fn join_of_addresses() {
+    let listing = "answer 0\ntype 6\nclass 2\nrows 6\nids 3 0 2 5\noffsets 4 0 2 3 4\n\
+        values 4 2306139568115548160 1 0 281473902969351 0 1 2306139568115548160 2\n\
+        terms 0\nmaps 0\n";
+    assert_eq!(accepted(&["join", "-"], LISTENERS.as_bytes()), listing);
+    let rows = "0 2001:db8::1 ::ffff:192.0.2.7\n2 ::1\n5 2001:db8::2\n";
+    assert_eq!(
+        accepted(&["join", "--rows", "-"], LISTENERS.as_bytes()),
+        rows
+    );
+    let numbers = accepted(&["join", "--numbers", "-"], LISTENERS.as_bytes());
+    assert!(
+        numbers.contains("\noffsets 4\nvalues 4\nterms 0\n"),
+        "{numbers}"
+    );
+    let sheet = "segment\ntype IpAddr\nkind NewMultivalued\nrows 6\nids 0 2 5\n\
+        offsets 0 2 3 4\nvalues 2001:db8::1 ::ffff:192.0.2.7 ::1 2001:db8::2\n";
+    let joined = accepted(&["join", "--output=-", "-"], LISTENERS.as_bytes());
+    assert_eq!(joined, sheet);
+    assert_eq!(accepted(&["join", "-"], joined.as_bytes()), listing);
+}
+
+#[test]
+fn wire_form_of_addresses() {
+    let sheet = "segment type IpAddr kind Full values 2001:db8::1 192.0.2.7";
+    let encoded = jadmirus(&["encode", "-"], sheet.as_bytes()).stdout;
+    let words = [
+        &[2, 0, 255, 1, 6, 1, 2, 0, 0, 2, 0, 0, 0, 0][..],
+        &[4, 0x2001_0db8_0000_0000, 1, 0, 0xffff_c000_0207, 0, 0, 0, 0],
+    ];
+    assert_eq!(encoded, wire(&words.concat()));
+    let shown = accepted(&["show", "-"], &encoded);
+    let text = "mode stacked\nrequired none\n\nsegment\ntype IpAddr\nkind Full\nrows 2\n\
+        values 2001:db8::1 ::ffff:192.0.2.7\n";
+    assert_eq!(shown, text);
+    assert_eq!(jadmirus(&["encode", "-"], shown.as_bytes()).stdout, encoded);
+    // An address without its second word: the sections stand as wholes, in words.
+    let halved = wire(&[2, 0, 255, 1, 6, 1, 1, 0, 0, 1, 0, 0, 0, 0, 1, 7, 0, 0, 0, 0]);
+    let shown = accepted(&["show", "-"], &halved);
+    assert!(shown.contains("\nrecord 6 1 1 0 0 1 0 0\n"), "{shown}");
+    assert!(shown.contains("\nvalues 7\n"), "{shown}");
+    assert_eq!(jadmirus(&["encode", "-"], shown.as_bytes()).stdout, halved);
+    let (out, _, status) = run(&["check", "-"], &halved);
+    let text = "answer 2 (lengths)\nsegment 0, words of values (an IpAddr has two): the segments \
+        up to this one announce 2, and 1 is there\n";
+    assert_eq!((&*out, status), (text, 1));
 }
 
 #[test]
@@ -138,8 +193,17 @@ fn places_of_faults() {
             "segment 0, values: the segments up to this one announce 1, and 0 are there",
         ),
         (
-            "segment type 6 kind Full values 1",
-            "segment 0, type 6: no known type",
+            "segment type 8 kind Full values 1",
+            "segment 0, type 8: no known type",
+        ),
+        (
+            "record 6 1 1 0 0 1 0 0 values 3",
+            "segment 0, words of values (an IpAddr has two): the segments up to this one announce \
+             2, and 1 is there",
+        ),
+        (
+            "required 8 segment type IpAddr kind Full values ::1",
+            "required type 8: no known type",
         ),
         (
             "mode 2",
@@ -166,6 +230,18 @@ fn places_of_faults() {
             "segment 0, term \"a\" (the 2nd): not above the one before it, \"b\"",
         ),
         (
+            "segment type IpAddr kind OldMultivalued offsets 0 1 values ::1",
+            "segment 0, kind OldMultivalued: convert it first ('jadmirus convert')",
+        ),
+        (
+            "segment type IpAddr kind Optional rows 3 ids 0 1 values ::1",
+            "segment 0, values: 1 there, and kind Optional has 2, one for each row id",
+        ),
+        (
+            "segment type IpAddr kind Full values ::1 terms \"a\"",
+            "segment 0, terms: a column of type IpAddr has none",
+        ),
+        (
             "mode ordered segment rows 1 alive 2",
             "segment 0, alive word 2 (the 1st): marks row 1, not below the number of rows, 1",
         ),
@@ -188,6 +264,14 @@ fn places_of_faults() {
         (
             "segment type Str kind Empty rows 1 segment type Bool kind Full values true",
             "types: segment 0 is Str, segment 1 is Bool, and these can't be one column",
+        ),
+        (
+            "segment type IpAddr kind Full values ::1 segment type U64 kind Full values 1",
+            "types: segment 0 is IpAddr, segment 1 is U64, and these can't be one column",
+        ),
+        (
+            "required U64 segment rows 1 segment type IpAddr kind Empty rows 1",
+            "types: the required type is U64, segment 1 is IpAddr, and these can't be one column",
         ),
         (
             "required I64 segment type U64 kind Full values 1 9223372036854775808",
@@ -256,6 +340,26 @@ fn conversion_of_a_sheet_and_of_its_wire_form() {
     ];
     assert_eq!(converted, wire(&words));
     assert_eq!(converted, encode(CONVERTED));
+}
+
+/// Each row keeps its listeners, in the notation of the sheet.
+#[test]
+fn conversion_of_addresses() {
+    let sheet = |kind: &str, lists: &str| {
+        let values = "values ::1 192.0.2.7 # IPv4\n2001:DB8::1\nwithdrawn 2\n";
+        format!("# Listeners\nsegment type IpAddr kind {kind}\n{lists}\n{values}")
+    };
+    let old = sheet("OldMultivalued", "offsets 0 2 2 3");
+    let new = sheet("NewMultivalued", "rows 3\nids 0 2\noffsets 0 2 3");
+    assert_eq!(accepted(&["convert", "-"], old.as_bytes()), new);
+    let [old, new] = [old, new].map(|sheet| jadmirus(&["encode", "-"], sheet.as_bytes()).stdout);
+    assert_eq!(jadmirus(&["convert", "-"], &old).stdout, new);
+    let words = [
+        &[2, 0, 255, 1, 6, 4, 3, 2, 3, 3, 0, 1, 2, 0, 2, 3, 0, 2, 3][..],
+        &[6, 0, 1, 0, 0xffff_c000_0207, 0x2001_0db8_0000_0000, 1],
+        &[0, 0, 1, 3, 0],
+    ];
+    assert_eq!(new, wire(&words.concat()));
 }
 
 /// Several segments, terms, an alive set, mode and addresses: all that isn't old stays.
@@ -377,6 +481,16 @@ fn refused_conversions() {
             "segment 2, row ids: 1 there, and kind OldMultivalued has none",
         ),
         (
+            4,
+            "segment type IpAddr kind OldMultivalued offsets 0 2 values ::1",
+            "segment 2, offset 2 (the 2nd): the last offset is the number of values, 1",
+        ),
+        (
+            5,
+            "segment type IpAddr kind OldMultivalued offsets 0 1 values ::1 terms \"a\"",
+            "segment 2, terms: a column of type IpAddr has none",
+        ),
+        (
             5,
             "segment type Bool kind OldMultivalued offsets 0 0 2 values 1 2",
             "segment 2, row 1, value 2 (the 2nd): a Bool is 0 or 1",
@@ -425,6 +539,13 @@ fn time_order() {
     let text = "answer 12 (times)\n\
         segment 0, row 1, time 4 (the 2nd): earlier than the one before it, 5\n";
     assert_eq!((&*out, status), (text, 1));
+    // A column of addresses has no times.
+    let (out, _, status) = run(&["order", "-"], LISTENERS.as_bytes());
+    assert_eq!((&*out, status), ("answer 12\n", 1));
+    let (out, _, _) = run(&["check", "--times", "-"], LISTENERS.as_bytes());
+    let text = "answer 12 (times)\n\
+        segment 0, type IpAddr: the time order takes DateTime columns\n";
+    assert_eq!(out, text);
 }
 
 /// Document 02, (e), in sheets: each segment's entries after its type, and the addresses.
@@ -638,6 +759,23 @@ fn faults_of_sheets() {
             "line 2: values: 'Air' is neither an ordinal nor a quoted text",
         ),
         (
+            "segment type IpAddr kind Full\nvalues ::1 0:3",
+            "line 2: values: '0:3' is no IPv6 address and no IPv4 address",
+        ),
+        (
+            "segment type IpAddr kind Full\nvalues 192.0.2.256",
+            "line 2: values: '192.0.2.256' is no IPv6 address and no IPv4 address",
+        ),
+        (
+            "segment type IpAddr kind Full\nvalues \"::1\"",
+            "line 2: values: only values of type Str or",
+        ),
+        (
+            "segment type Ip kind Full",
+            "line 1: type: 'Ip' is no type: the types are I64, U64, F64, Bytes, Str, Bool, \
+             IpAddr, DateTime, none",
+        ),
+        (
             "segment rows 1\nrows 2",
             "line 2: 'rows' stands before, in line 1, for the same",
         ),
@@ -676,6 +814,11 @@ fn faults_of_sheets() {
         (
             "addresses 0:",
             "line 1: addresses: '0:': '' is no number from 0 to 4294967295",
+        ),
+        (
+            "addresses 2001:db8::1",
+            "line 1: addresses: '2001:db8::1' is a listener's address, which stands among the \
+             values; the address of a row is written SEGMENT:ROW, as 0:3",
         ),
         ("rows 1", "line 1: 'rows' stands before the first 'segment'"),
         (

@@ -173,7 +173,7 @@ fn whole_sections() {
 #[test]
 fn other_segments_are_not_checked() {
     let old = "segment type U64 kind OldMultivalued offsets 0 1 values 7\n";
-    let wrong = "mode 9 segment type 6 kind 7 rows 1 \
+    let wrong = "mode 9 segment type 8 kind 7 rows 1 \
         segment type U64 kind Optional rows 3 ids 1 1 values 0 0\n";
     let mut beside = sections(&format!("{wrong}{old}"));
     assert_eq!(beside.convert(), Ok(()));

@@ -75,9 +75,8 @@ fn commands_of_the_readme() {
 #[test]
 fn the_month_stands_in_its_time_order() {
     let order = jadmirus(&["order", "month-times.sheet"], "");
-    assert!(
-        fs::read_to_string(folder().join("month.sheet"))
-            .unwrap()
-            .ends_with(&order)
-    );
+    for name in ["month.sheet", "month-listeners.sheet"] {
+        let sheet = fs::read_to_string(folder().join(name)).unwrap();
+        assert!(sheet.ends_with(&order), "{name}");
+    }
 }

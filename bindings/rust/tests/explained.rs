@@ -1,7 +1,8 @@
 //! Thousands of small inputs from a fixed seed, sound and damaged: the explanation is held to the
 //! library's answer, and each input must come back from its sheet and from its wire form.
+use jadmirus::explain::{self, Fault};
 use jadmirus::{
-    Address, AliveSet, ColumnType, Joined, Order, Refusal, Sections, Segment, explain, join, sheet,
+    Address, AliveSet, ColumnType, Joined, Order, Refusal, Sections, Segment, join, sheet,
     time_order,
 };
 use std::collections::BTreeSet;
@@ -43,19 +44,20 @@ const WORDS: [u64; 7] = [
 const NUMBERS: [u32; 9] = [0, 1, 2, 3, 5, 64, 65, 255, u32::MAX];
 const TERMS: [&[u8]; 6] = [b"", b"\x00", b"a", b"ab", b"b", b"\xff\"\\"];
 
-/// The values of each row.
-fn rows(chance: &mut Chance, typ: ColumnType) -> Vec<Vec<u64>> {
+/// The values of each row, each value as its words.
+fn rows(chance: &mut Chance, typ: ColumnType) -> Vec<Vec<Vec<u64>>> {
     let most = chance.one_of(&[1, 1, 1, 3]);
     let rows = chance.one_of(&[0, 1, 2, 3, 5, 64, 70]);
     let mut time = 0;
     let mut value = |chance: &mut Chance| match typ {
-        ColumnType::Bool => chance.below(2) as u64,
-        ColumnType::Bytes | ColumnType::Str => chance.below(TERMS.len()) as u64,
+        ColumnType::Bool => vec![chance.below(2) as u64],
+        ColumnType::Bytes | ColumnType::Str => vec![chance.below(TERMS.len()) as u64],
         ColumnType::DateTime => {
             time += chance.below(3) as u64;
-            time
+            vec![time]
         }
-        _ => chance.one_of(&WORDS),
+        ColumnType::IpAddr => vec![chance.one_of(&WORDS), chance.one_of(&WORDS)],
+        _ => vec![chance.one_of(&WORDS)],
     };
     let full = chance.once_in(3);
     let mut row = |chance: &mut Chance| {
@@ -71,7 +73,7 @@ fn segment(chance: &mut Chance, typ: ColumnType) -> Segment {
     if chance.once_in(8) {
         return Segment::no_column(rows.len() as u32);
     }
-    let words: Vec<u64> = rows.concat();
+    let words: Vec<u64> = rows.concat().concat();
     let ends = rows.iter().scan(0, |end, row| {
         *end += row.len() as u32;
         Some(*end)
@@ -100,6 +102,10 @@ fn segment(chance: &mut Chance, typ: ColumnType) -> Segment {
 /// A sound call, mostly of one type.
 fn call(chance: &mut Chance) -> Sections {
     let typ = chance.one_of(&ColumnType::ALL);
+    call_of(chance, typ)
+}
+
+fn call_of(chance: &mut Chance, typ: ColumnType) -> Sections {
     let ordered = chance.once_in(2);
     let mut segments = Vec::new();
     for _ in 0..chance.below(4) {
@@ -227,8 +233,9 @@ fn damage_record(chance: &mut Chance, s: &mut Sections, number: u32) {
             (record.offsets, _) = (record.offsets - 1, s.offsets.pop());
         }
         7 if last => {
-            record.values += 1;
-            s.values.push(number.into());
+            record.values = record.values.saturating_add(1);
+            let words = if record.typ == 6 { 2 } else { 1 };
+            s.values.extend(vec![u64::from(number); words]);
         }
         _ if last => {
             record.terms += 1;
@@ -257,7 +264,7 @@ fn consistent(joined: &Joined, segments: usize) {
     let rows = (0..joined.rows()).map(|row| (row, joined.row(row).len()));
     assert!(filled.eq(rows.filter(|(_, values)| *values > 0)));
     let values = (0..joined.rows()).flat_map(|row| joined.row(row));
-    assert_eq!(values.count(), joined.values().len());
+    assert_eq!(values.count(), joined.value_count());
     // A column without values is dropped from the next join.
     if !joined.values().is_empty() {
         let again = join(&[Segment::from(joined.clone())], Order::Stacked, None).unwrap();
@@ -276,11 +283,19 @@ fn consistent(joined: &Joined, segments: usize) {
     }
 }
 
+/// The answer's number, which is the explanation's.
+fn agreed(found: Option<Fault>, answer: Option<Refusal>, sections: &Sections) -> u32 {
+    let refusal = found.as_ref().map(|fault| fault.refusal);
+    assert_eq!(refusal, answer, "{found:?} {sections:?}");
+    answer.map_or(0, Refusal::number)
+}
+
 #[test]
 fn answers_are_explained() {
     let mut chance = Chance(0x9e37_79b9_7f4a_7c15);
     let (mut met, mut met_converting) = (BTreeSet::new(), BTreeSet::new());
-    for case in 0..20_000 {
+    let mut met_with_addresses = BTreeSet::new();
+    for _ in 0..20_000 {
         let mut sections = call(&mut chance);
         if chance.once_in(4) {
             age(&mut chance, &mut sections);
@@ -288,46 +303,81 @@ fn answers_are_explained() {
         for _ in 0..chance.below(3) {
             damage(&mut chance, &mut sections);
         }
-        let text = || format!("case {case}: {sections:?}");
         let joined = sections.join();
         if let Ok(joined) = &joined
             && joined.rows() < 1000
         {
             consistent(joined, sections.records.len());
         }
-        let join = joined.err();
-        let fault = explain::join(&sections);
-        assert_eq!(
-            fault.as_ref().map(|f| f.refusal),
-            join,
-            "{} {fault:?}",
-            text()
-        );
+        let join = agreed(explain::join(&sections), joined.err(), &sections);
         let times = sections.time_order().err();
-        let fault = explain::time_order(&sections);
-        assert_eq!(
-            fault.as_ref().map(|f| f.refusal),
-            times,
-            "{} {fault:?}",
-            text()
-        );
-        met.extend([join, times].map(|answer| answer.map_or(0, Refusal::number)));
+        let times = agreed(explain::time_order(&sections), times, &sections);
+        met.extend([join, times]);
+        if sections.records.iter().any(|record| record.typ == 6) {
+            met_with_addresses.extend([join, times]);
+        }
         let mut converted = sections.clone();
         let conversion = converted.convert().err();
-        let fault = explain::convert(&sections);
-        assert_eq!(
-            fault.as_ref().map(|f| f.refusal),
-            conversion,
-            "{} {fault:?}",
-            text()
-        );
-        assert!(conversion.is_none() || converted == sections, "{}", text());
-        met_converting.insert(conversion.map_or(0, Refusal::number));
+        assert!(conversion.is_none() || converted == sections);
+        met_converting.insert(agreed(explain::convert(&sections), conversion, &sections));
         comes_back(&sections);
     }
     // 1 needs 257 segments; 8 and 11 need less space than is ever lent.
-    assert_eq!(Vec::from_iter(met), [0, 2, 3, 4, 5, 6, 7, 9, 10, 12, 19]);
+    for met in [met, met_with_addresses] {
+        assert_eq!(Vec::from_iter(met), [0, 2, 3, 4, 5, 6, 7, 9, 10, 12, 19]);
+    }
     assert_eq!(Vec::from_iter(met_converting), [0, 2, 3, 4, 5, 6]);
+}
+
+/// The column of numbers that the high words are (0), or the low ones (1).
+fn half(addresses: &Sections, place: usize) -> Sections {
+    let mut half = addresses.clone();
+    for record in half.records.iter_mut().filter(|record| record.typ == 6) {
+        record.typ = 1;
+    }
+    if half.required == 6 {
+        half.required = 1;
+    }
+    half.values = half.values.into_iter().skip(place).step_by(2).collect();
+    half
+}
+
+/// A join of addresses is one of their high words and one of their low words, refused ones too.
+#[test]
+fn addresses_are_pairs_of_numbers() {
+    let mut chance = Chance(0xadd5_e55e_5add_5e55);
+    let mut joins = 0;
+    for _ in 0..5_000 {
+        let mut sections = call_of(&mut chance, ColumnType::IpAddr);
+        let number = chance.one_of(&NUMBERS);
+        match chance.below(6) {
+            0 => damage_list(&mut chance, &mut sections.ids, number),
+            1 => damage_list(&mut chance, &mut sections.offsets, number),
+            2 => sections.addresses.truncate(chance.below(3)),
+            _ => {}
+        }
+        let halves = [0, 1].map(|place| half(&sections, place).join());
+        let (joined, [high, low]) = match (sections.join(), halves) {
+            (Ok(joined), [Ok(high), Ok(low)]) => (joined, [high, low]),
+            (joined, [high, low]) => {
+                assert_eq!(
+                    [joined.as_ref().err(); 2],
+                    [high.as_ref().err(), low.as_ref().err()]
+                );
+                continue;
+            }
+        };
+        let pairs = high.values().iter().zip(low.values());
+        let words: Vec<u64> = pairs.flat_map(|(&high, &low)| [high, low]).collect();
+        assert_eq!(joined.values(), words);
+        let lists = |j: &Joined| (j.class(), j.rows(), j.ids().to_vec(), j.offsets().to_vec());
+        assert_eq!(
+            [lists(&joined), lists(&joined)],
+            [lists(&high), lists(&low)]
+        );
+        joins += usize::from(joined.value_count() > 0);
+    }
+    assert!(joins > 1_000);
 }
 
 /// Old segments, converted, are just the new ones that hold the same rows.

@@ -3,6 +3,7 @@ use jadmirus::{
     Address, AliveSet, Class, ColumnType, Joined, OldSegment, Order, Refusal, Segment, Value,
     convert, join, time_order,
 };
+use std::net::Ipv6Addr;
 
 fn stacked(segments: &[Segment]) -> Joined {
     join(segments, Order::Stacked, None).unwrap()
@@ -295,6 +296,7 @@ fn handed_on() {
         stacked(&[Segment::u64s([vec![1, 2], vec![], vec![3]])]),
         stacked(&[Segment::no_column(3)]),
         stacked(&[Segment::byte_strings([Some(&b"\xff"[..]), Some(b"")])]),
+        stacked(&[Segment::ip_addrs([Some(Ipv6Addr::LOCALHOST), None])]),
     ];
     for column in columns {
         let again = stacked(&[Segment::from(column.clone())]);
@@ -323,6 +325,9 @@ fn rows_of_each_type() {
     assert_eq!(bools.row(0).next(), Some(Value::Bool(true)));
     let times = stacked(&[Segment::date_times([[-5]])]);
     assert_eq!(times.row(0).next(), Some(Value::DateTime(-5)));
+    let listeners = stacked(&[Segment::ip_addrs([[Ipv6Addr::LOCALHOST]])]);
+    let local = Value::IpAddr(Ipv6Addr::LOCALHOST);
+    assert_eq!(listeners.row(0).next(), Some(local));
     let doubles = stacked(&[Segment::f64s([[0.5], [f64::INFINITY]])]);
     assert_eq!(doubles.row(1).next(), Some(Value::F64(f64::INFINITY)));
     let names = stacked(&[Segment::strs([vec!["b", "aa"], vec!["ab"], vec!["b"]])]);

@@ -27,7 +27,7 @@ use Rattle.column_index.proofs.Sound.{asc-step, asc-fall, fall-last}
 use Rattle.stands.specs.declared.Stand.{Stand}
 use Rattle.stands.specs.Stand.{many, standOf, standAt}
 use Rattle.stands.specs.Width.{idPart, idsOf}
-use Rattle.stands.specs.Look.{idsAt, offsetsAt, wordsAt, startIn, endIn, widthIn}
+use Rattle.stands.specs.Look.{idsAt, offsetsAt, aliveSetAt, startIn, endIn, widthIn}
 use Rattle.stands.specs.Stack.{segmentWidths, stackedWidths, SoundAt}
 use Rattle.stands.proofs.Stack.{width-empty, width-full, width-none, width-optional, width-multi}
 use Rattle.stands.proofs.Bulk.{some, seg-ids-empty, seg-ids-full, seg-ids-listed, ids-length, seg-sum}
@@ -347,19 +347,19 @@ listed-ids p a b = ap₂ (λ (x y : Bool). cond x 0 (cond y (p .rows) (many (p .
     go false = refl
 
 module _ {p : Stand} {ids offsets words : List ℕ} (k : Countable p ids offsets words) (set : p .flag ≡ 1) where
-  words-long : length (wordsAt p words) ≡ many (p .words)
-  words-long = run-length (p .words .from) (p .words .to) words (k .words-lie .ends)
+  words-long : length (aliveSetAt p words) ≡ many (p .alive)
+  words-long = run-length (p .alive .from) (p .alive .to) words (k .alive-lie .ends)
 
-  pub rows-there : p .rows ≤ 64 * length (wordsAt p words)
+  pub rows-there : p .rows ≤ 64 * length (aliveSetAt p words)
   rows-there = omega (arith, words-long, k .enough set)
 
   module _ (rk : Ranked (p .kind)) where
-    pub ids-ready : Ids (p .kind) (idsAt p ids) (offsetsAt p offsets) (wordsAt p words)
+    pub ids-ready : Ids (p .kind) (idsAt p ids) (offsetsAt p offsets) (aliveSetAt p words)
     ids-ready =
         record {
-          below = λ j h. let a = own-small (wordsAt p words) (k .sound) rk j h in omega (arith, rows-there);
+          below = λ j h. let a = own-small (aliveSetAt p words) (k .sound) rk j h in omega (arith, rows-there);
           several = λ n j h. pair n j h;
-          small = let a = ids-values (wordsAt p words) (k .sound) rk in let b = alive-le p ids offsets (wordsAt p words) in let d = seg-sum (k .sound) in let e = k .few in omega arith;
+          small = let a = ids-values (aliveSetAt p words) (k .sound) rk in let b = alive-le p ids offsets (aliveSetAt p words) in let d = seg-sum (k .sound) in let e = k .few in omega arith;
           few = few-ids;
         }
       where
@@ -385,10 +385,10 @@ module _ {p : Stand} {ids offsets words : List ℕ} (k : Countable p ids offsets
 module _ (p : Stand) (ids offsets words : List ℕ) where
   pub census-alive : {c : Census} → p .flag ≡ 1 → c ≡ aliveCensus p ids offsets words → c ≡ censusIn p ids offsets words
   unfolding censusIn aliveIn countedIn
-  census-alive e f = f ∙ ap (λ (b : Bool). censusOf (cond b (count (bitAt (wordsAt p words)) (upTo (p .rows))) (p .rows)) (cond b (aliveWidths p ids offsets (wordsAt p words) 0 (p .rows)) (segmentWidths p ids offsets))) (sym (eq-eqb (p .flag) 1 e))
+  census-alive e f = f ∙ ap (λ (b : Bool). censusOf (cond b (count (bitAt (aliveSetAt p words)) (upTo (p .rows))) (p .rows)) (cond b (aliveWidths p ids offsets (aliveSetAt p words) 0 (p .rows)) (segmentWidths p ids offsets))) (sym (eq-eqb (p .flag) 1 e))
 
   pub census-whole : {n m : ℕ} → (p .flag ≡ 1 → ⊥) → n ≡ length (idsOf 0 (segmentWidths p ids offsets)) → m ≡ sum (segmentWidths p ids offsets) → record { alive = p .rows; listed = n; values = m } ≡ censusIn p ids offsets words
   unfolding censusIn aliveIn countedIn
   census-whole e f g =
       (λ i. record { alive = p .rows; listed = f i; values = g i })
-      ∙ ap (λ (b : Bool). censusOf (cond b (count (bitAt (wordsAt p words)) (upTo (p .rows))) (p .rows)) (cond b (aliveWidths p ids offsets (wordsAt p words) 0 (p .rows)) (segmentWidths p ids offsets))) (sym (ne-eqb (p .flag) 1 e))
+      ∙ ap (λ (b : Bool). censusOf (cond b (count (bitAt (aliveSetAt p words)) (upTo (p .rows))) (p .rows)) (cond b (aliveWidths p ids offsets (aliveSetAt p words) 0 (p .rows)) (segmentWidths p ids offsets))) (sym (ne-eqb (p .flag) 1 e))

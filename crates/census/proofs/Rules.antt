@@ -18,10 +18,9 @@ use Rattle.lists.proofs.Lists.{empty-length}
 use Rattle.stands.specs.declared.Stand.{Stand}
 use Rattle.stands.specs.Stand.{many}
 use Rattle.stands.specs.Width.{idPart}
-use Rattle.stands.specs.Look.{wordsAt, widthIn}
+use Rattle.stands.specs.Look.{aliveSetAt, widthIn}
 use Rattle.stands.specs.Stack.{segmentWidths}
-use Rattle.stands.proofs.Cells.{cell-length}
-use Rattle.stands.proofs.Bridge.{Stands, cell-stands, count-stands, inside-stands, sound-stands}
+use Rattle.stands.proofs.Bridge.{Stands, row-width, sound-stands}
 use Rattle.stands.proofs.Bulk.{seg-sum}
 use Rattle.census.specs.declared.Census.{Census}
 use Rattle.census.specs.Census.{censusOf, aliveWidth, aliveWidths, countedIn, aliveIn, censusIn}
@@ -77,38 +76,35 @@ module _ (b t : ℕ → Bool) (w f : ℕ → ℕ) where
           }
 
 module _ {p : Stand} {ids offsets values words : List ℕ} {s : Segment} (st : Stands p ids offsets values words s) (fit : T (indexFits s)) where
-  width-is : (r : ℕ) → r < s .rows → widthIn p ids offsets r ≡ length (rowValues s r)
-  width-is r h = sym (cell-length p ids offsets values r (inside-stands st fit r h)) ∙ ap length (cell-stands st fit r)
-
   -- how many values each alive row has
   abbrev widths : List ℕ
   widths = map (λ r. length (rowValues s r)) (aliveRows s)
 
-  alive-same : hasAliveSet s ≡ true → Same (count (bitAt (wordsAt p words)) (upTo (p .rows))) (aliveWidths p ids offsets (wordsAt p words) 0 (p .rows)) (length (aliveRows s)) widths
+  alive-same : hasAliveSet s ≡ true → Same (count (bitAt (aliveSetAt p words)) (upTo (p .rows))) (aliveWidths p ids offsets (aliveSetAt p words) 0 (p .rows)) (length (aliveRows s)) widths
   unfolding aliveWidth isAlive aliveRows
   alive-same e =
       subst (λ (l : List ℕ). Same (count (bitAt l) (upTo (p .rows))) (map (λ r. cond (bitAt l r) (widthIn p ids offsets r) 0) (upFrom 0 (p .rows))) (length (filter (λ r. cond (hasAliveSet s) (bitAt (s .alive) r) true) (upTo (s .rows)))) (map (λ r. length (rowValues s r)) (filter (λ r. cond (hasAliveSet s) (bitAt (s .alive) r) true) (upTo (s .rows)))))
-      (sym (st .words-are))
+      (sym (st .alive-are))
       (subst (λ (n : ℕ). Same (count (bitAt (s .alive)) (upTo n)) (map (λ r. cond (bitAt (s .alive) r) (widthIn p ids offsets r) 0) (upFrom 0 n)) (length (filter (λ r. cond (hasAliveSet s) (bitAt (s .alive) r) true) (upTo (s .rows)))) (map (λ r. length (rowValues s r)) (filter (λ r. cond (hasAliveSet s) (bitAt (s .alive) r) true) (upTo (s .rows)))))
       (sym (st .rows))
       (passed (bitAt (s .alive)) (λ r. cond (hasAliveSet s) (bitAt (s .alive) r) true) (widthIn p ids offsets) (λ r. length (rowValues s r)) 0 (s .rows)
-      (λ r h. sym (ap (λ (b : Bool). cond b (bitAt (s .alive) r) true) e)) (λ r h. width-is r (omega arith))))
+      (λ r h. sym (ap (λ (b : Bool). cond b (bitAt (s .alive) r) true) e)) (λ r h. row-width st fit r (omega arith))))
 
   -- the census of the definitions' alive rows
   alive-census : hasAliveSet s ≡ true → censusIn p ids offsets words ≡ censusOf (length (aliveRows s)) widths
   unfolding censusIn aliveIn countedIn
   alive-census e =
       let k = alive-same e in
-      ap (λ (b : Bool). censusOf (cond b (count (bitAt (wordsAt p words)) (upTo (p .rows))) (p .rows)) (cond b (aliveWidths p ids offsets (wordsAt p words) 0 (p .rows)) (segmentWidths p ids offsets))) (ap (λ (n : ℕ). eqb n 1) (st .flag) ∙ e)
+      ap (λ (b : Bool). censusOf (cond b (count (bitAt (aliveSetAt p words)) (upTo (p .rows))) (p .rows)) (cond b (aliveWidths p ids offsets (aliveSetAt p words) 0 (p .rows)) (segmentWidths p ids offsets))) (ap (λ (n : ℕ). eqb n 1) (st .flag) ∙ e)
       ∙ (λ i. record {
         alive = k .many i;
-        listed = (sym (count-is (aliveWidths p ids offsets (wordsAt p words) 0 (p .rows))) ∙ k .listed ∙ count-is widths) i;
+        listed = (sym (count-is (aliveWidths p ids offsets (aliveSetAt p words) 0 (p .rows))) ∙ k .listed ∙ count-is widths) i;
         values = k .values i;
       })
 
   whole-values : hasAliveSet s ≡ false → censusIn p ids offsets words .values ≡ length (s .values)
   unfolding censusIn
-  whole-values e = ap sum (sym (counted-whole p ids offsets words (λ q. eqb-false (s .flag) 1 e (sym (st .flag) ∙ q)))) ∙ seg-sum (sound-stands st fit) ∙ sym (count-stands st)
+  whole-values e = ap sum (sym (counted-whole p ids offsets words (λ q. eqb-false (s .flag) 1 e (sym (st .flag) ∙ q)))) ∙ seg-sum (sound-stands st fit) ∙ st .count
 
   pub class-is : classBy p (censusIn p ids offsets words) ≡ classOf s
   unfolding classBy classOf aliveClass
@@ -124,9 +120,9 @@ module _ {p : Stand} {ids offsets values words : List ℕ} {s : Segment} (st : S
     where
       zero-sum : sum widths ≡ 0
       zero-sum =
-          let a = alive-le p ids offsets (wordsAt p words) in
+          let a = alive-le p ids offsets (aliveSetAt p words) in
           let b = seg-sum (sound-stands st fit) in
-          let d = count-stands st in
+          let d = st .count in
           let f = eqb-true (length (s .values)) 0 (sym (empty-length (s .values)) ∙ q) in
           let g = alive-same e .values in
           omega arith

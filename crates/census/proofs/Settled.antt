@@ -17,7 +17,7 @@ use Rattle.stands.specs.declared.Span.{Span}
 use Rattle.stands.specs.declared.Stand.{Stand}
 use Rattle.stands.specs.Stand.{many, standOf, numbersOf, standAt}
 use Rattle.stands.specs.Width.{idsOf}
-use Rattle.stands.specs.Look.{idsAt, offsetsAt, wordsAt, startIn, endIn, widthIn}
+use Rattle.stands.specs.Look.{idsAt, offsetsAt, aliveSetAt, startIn, endIn, widthIn}
 use Rattle.stands.specs.Stack.{segmentWidths}
 use Rattle.stands.proofs.Stack.{width-empty}
 use Rattle.stands.proofs.Bulk.{seg-sum}
@@ -47,8 +47,8 @@ module _ (p : Stand) (ids offsets words : List ℕ) where
   unfolding countedIn segmentWidths widthIn startIn endIn widthOf
   dropped-values m v = go (eqb (p .flag) 1)
     where
-      go : (b : Bool) → sum (cond b (aliveWidths (dropped p m v) ids offsets (wordsAt (dropped p m v) words) 0 (p .rows)) (map (widthIn (dropped p m v) ids offsets) (upTo (p .rows)))) ≡ 0
-      go true = sym (empty-sum (dropped p m v) ids offsets (wordsAt p words) refl 0 (p .rows))
+      go : (b : Bool) → sum (cond b (aliveWidths (dropped p m v) ids offsets (aliveSetAt (dropped p m v) words) 0 (p .rows)) (map (widthIn (dropped p m v) ids offsets) (upTo (p .rows)))) ≡ 0
+      go true = sym (empty-sum (dropped p m v) ids offsets (aliveSetAt p words) refl 0 (p .rows))
       go false = none-sum (widthIn (dropped p m v) ids offsets) (λ r. width-empty 0 (idsAt (dropped p m v) ids) (offsetsAt (dropped p m v) offsets) r refl) 0 (p .rows)
 
   dropped-census : (m : ℕ) (v : Span) → censusIn (dropped p m v) ids offsets words ≡ record { alive = censusIn p ids offsets words .alive; listed = 0; values = 0 }
@@ -76,8 +76,8 @@ module _ (p : Stand) (ids offsets words : List ℕ) where
     unfolding censusIn countedIn
     few-values = go (eqb (p .flag) 1)
       where
-        go : (b : Bool) → sum (cond b (aliveWidths p ids offsets (wordsAt p words) 0 (p .rows)) (segmentWidths p ids offsets)) ≤ 4294967296
-        go true = let a = alive-le p ids offsets (wordsAt p words) in let b = seg-sum (k .sound) in let d = k .few in omega arith
+        go : (b : Bool) → sum (cond b (aliveWidths p ids offsets (aliveSetAt p words) 0 (p .rows)) (segmentWidths p ids offsets)) ≤ 4294967296
+        go true = let a = alive-le p ids offsets (aliveSetAt p words) in let b = seg-sum (k .sound) in let d = k .few in omega arith
         go false = let b = seg-sum (k .sound) in let d = k .few in omega arith
 
     pub few-listed : censusIn p ids offsets words .listed ≤ 4294967296

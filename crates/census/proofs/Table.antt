@@ -10,7 +10,8 @@ use lib.Dec.{T, eqb, ltb, leb}
 use lib.Ieee.Fits.{and-l, and-r}
 use Rattle.definitions.specs.Lists.{sum, all, concat, filter, isEmpty, termsAscending}
 use Rattle.definitions.specs.Segment.{Segment, cut}
-use Rattle.definitions.specs.Row.{isHeld, asEmpty, effective, heldOf}
+use Rattle.definitions.specs.Words.{wordsPerValue, valuesIn}
+use Rattle.definitions.specs.Row.{noType, isHeld, asEmpty, effective, heldOf}
 use Rattle.definitions.specs.Types.{hasTerms, BoolType}
 use Rattle.definitions.specs.Class.{classOf, greatestClass}
 use Rattle.definitions.specs.Join.{absent}
@@ -78,11 +79,14 @@ kept-stands m w st =
       ids-are = st .ids-are;
       offsets-are = st .offsets-are;
       values-are = st .values-are;
-      words-are = st .words-are;
+      count = st .count;
+      unit = st .unit;
+      long = st .long;
+      alive-are = st .alive-are;
       ids-lie = st .ids-lie;
       offsets-lie = st .offsets-lie;
       values-lie = st .values-lie;
-      words-lie = st .words-lie;
+      alive-lie = st .alive-lie;
       enough = st .enough;
     }
 
@@ -90,7 +94,7 @@ none-lies : {w : Span} {l : List ℕ} → Lies w l → Lies (record { from = w .
 none-lies h = let a = h .rises in let b = h .ends in record { rises = omega arith; ends = omega arith }
 
 dropped-stands : {p : Stand} {ids offsets values words : List ℕ} {s : Segment} (m : ℕ) (w : Span) → Stands p ids offsets values words s → Stands (dropped p m w) ids offsets values words (asEmpty s)
-unfolding asEmpty
+unfolding asEmpty valuesIn wordsPerValue
 dropped-stands {p} {ids} {offsets} {values} m w st =
     record {
       kind = refl;
@@ -98,12 +102,15 @@ dropped-stands {p} {ids} {offsets} {values} m w st =
       flag = st .flag;
       ids-are = none-run (p .ids .from) ids;
       offsets-are = none-run (p .offsets .from) offsets;
-      values-are = none-run (p .values .from) values;
-      words-are = st .words-are;
+      values-are = ap (valuesIn noType) (none-run (p .values .from) values);
+      count = refl;
+      unit = refl;
+      long = omega arith;
+      alive-are = st .alive-are;
       ids-lie = none-lies (st .ids-lie);
       offsets-lie = none-lies (st .offsets-lie);
       values-lie = none-lies (st .values-lie);
-      words-lie = st .words-lie;
+      alive-lie = st .alive-lie;
       enough = st .enough;
     }
 

@@ -11,7 +11,7 @@ use Rattle.segment.specs.Kind.{byIndex}
 use Rattle.runs.specs.Put.{Below}
 use Rattle.stands.specs.declared.Stand.{Stand}
 use Rattle.stands.specs.Stand.{many, Lies, standOf}
-use Rattle.stands.specs.Look.{wordsAt, widthIn}
+use Rattle.stands.specs.Look.{aliveSetAt, widthIn}
 use Rattle.stands.specs.Width.{idsOf}
 use Rattle.stands.specs.Stack.{segmentWidths, SoundAt}
 use Rattle.lists.specs.Sums.{sumBelow}
@@ -31,10 +31,10 @@ abbrev pub aliveWidths : Stand → List ℕ → List ℕ → List ℕ → ℕ �
 aliveWidths p ids offsets words r n = map (aliveWidth p ids offsets words) (upFrom r n)
 
 unfoldable pub countedIn : Stand → List ℕ → List ℕ → List ℕ → List ℕ
-countedIn p ids offsets words = cond (eqb (p .flag) 1) (aliveWidths p ids offsets (wordsAt p words) 0 (p .rows)) (segmentWidths p ids offsets)
+countedIn p ids offsets words = cond (eqb (p .flag) 1) (aliveWidths p ids offsets (aliveSetAt p words) 0 (p .rows)) (segmentWidths p ids offsets)
 
 unfoldable pub aliveIn : Stand → List ℕ → ℕ
-aliveIn p words = cond (eqb (p .flag) 1) (count (bitAt (wordsAt p words)) (upTo (p .rows))) (p .rows)
+aliveIn p words = cond (eqb (p .flag) 1) (count (bitAt (aliveSetAt p words)) (upTo (p .rows))) (p .rows)
 
 unfoldable pub censusIn : Stand → List ℕ → List ℕ → List ℕ → Census
 censusIn p ids offsets words = censusOf (aliveIn p words) (countedIn p ids offsets words)
@@ -42,7 +42,7 @@ censusIn p ids offsets words = censusOf (aliveIn p words) (countedIn p ids offse
 -- with an alive set
 abbrev pub aliveCensus : Stand → List ℕ → List ℕ → List ℕ → Census
 aliveCensus p ids offsets words =
-    censusOf (count (bitAt (wordsAt p words)) (upTo (p .rows))) (aliveWidths p ids offsets (wordsAt p words) 0 (p .rows))
+    censusOf (count (bitAt (aliveSetAt p words)) (upTo (p .rows))) (aliveWidths p ids offsets (aliveSetAt p words) 0 (p .rows))
 
 -- all segments
 unfoldable pub countedAll : List (List ℕ) → List ℕ → List ℕ → List ℕ → List ℕ
@@ -82,6 +82,6 @@ pub record Ids (kind : ℕ) (ids offsets words : List ℕ) : Type 0 where
 pub record Countable (p : Stand) (ids offsets words : List ℕ) : Type 0 where
   pub sound : SoundAt p ids offsets
   pub rows : p .rows ≤ 4294967296
-  pub few : many (p .values) ≤ 4294967296
-  pub words-lie : Lies (p .words) words
-  pub enough : p .flag ≡ 1 → p .rows ≤ 64 * many (p .words)
+  pub few : p .count ≤ 4294967296
+  pub alive-lie : Lies (p .alive) words
+  pub enough : p .flag ≡ 1 → p .rows ≤ 64 * many (p .alive)

@@ -28,12 +28,14 @@ kept p m w =
       held = 1;
       rows = p .rows;
       work = p .work;
+      count = p .count;
+      unit = p .unit;
       ids = p .ids;
       offsets = p .offsets;
       values = p .values;
       terms = p .terms;
       text = w;
-      words = p .words;
+      alive = p .alive;
       map = span m (many (p .terms));
     }
 
@@ -47,12 +49,14 @@ dropped p m w =
       held = 0;
       rows = p .rows;
       work = p .work;
+      count = 0;
+      unit = 1;
       ids = noneOf (p .ids);
       offsets = noneOf (p .offsets);
       values = noneOf (p .values);
       terms = noneOf (p .terms);
       text = record { from = w .to; to = w .to };
-      words = p .words;
+      alive = p .alive;
       map = record { from = m; to = m };
     }
 

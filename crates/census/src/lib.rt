@@ -1,10 +1,9 @@
 // One count of each segment's rows, and what follows from it: which columns are held, the class of the joined column and the lengths of its lists
 // (columnar/merge/mod.rs, `is_empty_after_merge`; column_index/merge/mod.rs, `detect_cardinality`, `detect_cardinality_single_column_index`).
 ghost use mathlib.Core.Path.{_≡_};
-ghost use mathlib.Core.Bool.{cond, _&&_, not};
-ghost use Prim.Native.Nat.{suc, _<_, _≤_, _+_, _-_, _*_, max};
-ghost use lib.ListN.{length, getD};
-ghost use lib.Dec.{eqb};
+ghost use mathlib.Core.Bool.{cond};
+ghost use Prim.Native.Nat.{_<_, _≤_, _+_, _-_, _*_, max};
+ghost use lib.ListN.{length};
 ghost use Rattle.definitions.specs.Lists.{sum};
 ghost use Rattle.definitions.specs.Row.{bitAt};
 ghost use Rattle.lists.specs.Sums.{sumBelow};
@@ -95,8 +94,8 @@ fn alive_census(p: Stand, ids: &[u32], offsets: &[u32], words: &[u64]) -> Census
     requires { ⌜ p .flag ≡ 1 ⌝ }
     ensures { λ c. ⌜ c ≡ aliveCensus p (now (ids .entry)) (now (offsets .entry)) (now (words .entry)) ⌝ }
 {
-    let a = p.words.from;
-    let b = p.words.to;
+    let a = p.alive.from;
+    let b = p.alive.to;
     let n = alive_set::alive_before(&words[a..b], p.rows);
     if p.kind == 0 {
         return Census {
@@ -135,7 +134,7 @@ pub fn count(p: Stand, ids: &[u32], offsets: &[u32], words: &[u64]) -> Census
     Census {
         alive: p.rows,
         listed: listed_rows(p),
-        values: p.values.to - p.values.from,
+        values: p.count,
     }
 }
 
@@ -226,6 +225,8 @@ fn dropped_at(p: Stand, map: usize, text: Span) -> Stand
     let mut q = p;
     q.kind = 0;
     q.held = 0;
+    q.count = 0;
+    q.unit = 1;
     q.ids.to = p.ids.from;
     q.offsets.to = p.offsets.from;
     q.values.to = p.values.from;

@@ -1,5 +1,6 @@
 -- A list that is written only where it is wanted, and a turn of the loop over the addresses. Assumes nothing.
-use Prim.Native.Nat.{ℕ, suc, _+_, _-_, _≤_, _<_}
+use Prim.Native.Nat.{ℕ, suc, _+_, _-_, _*_, _≤_, _<_}
+use native.Mathlib.Nat.{mul-le-mul-right}
 use native.Mathlib.Numerals.{add-one}
 use native.Mathlib.Omega.{arith}
 use mathlib.Core.Path.{_≡_, refl, sym, ap, ap₂, _∙_, subst}
@@ -7,14 +8,17 @@ use mathlib.Core.List.{List, [], _∷_, _++_}
 use mathlib.Core.Bool.{Bool, true, false, cond, false≢true}
 use lib.ListN.{length, getD, set, drop, drop-of-length-le}
 use lib.Seq.{drop-cons}
+use Rattle.definitions.specs.Lists.{sum}
+use Rattle.lists.proofs.Parts.{run-length}
 use Rattle.runs.specs.Put.{put, putIf, RoomIf}
 use Rattle.runs.proofs.Laws.{Filling, fill-start, fill-end, fill-room, fill-more, put-nil, put-one}
 use Rattle.stands.specs.Width.{idPart, idsOf, totalsOf}
+use Rattle.stands.specs.declared.Span.{Span}
 use Rattle.stands.specs.declared.Stand.{Stand}
-use Rattle.stands.specs.Stand.{run, standAt}
-use Rattle.stands.specs.Look.{addressed, rowOf, startIn, endIn, widthIn, cellIn, widths, Inside}
-use Rattle.stands.proofs.Cells.{cell-run, cell-length}
-use Rattle.stands.proofs.Laws.{first-set, fill-second, part-none, part-some, part-length, ids-step, totals-step, widthNow}
+use Rattle.stands.specs.Stand.{part, many, Lies, standAt}
+use Rattle.stands.specs.Look.{addressed, rowOf, startIn, endIn, widthIn, wordsOf, cellIn, widths, Inside}
+use Rattle.stands.proofs.Cells.{cell-in, cell-run}
+use Rattle.stands.proofs.Laws.{first-set, fill-second, part-none, part-some, part-length, widths-step, ids-step, totals-step, widthNow}
 use Rattle.column_values_merge.specs.Word.{newWords, Worded}
 use Rattle.column_values_merge.proofs.Laws.{words-length}
 use Rattle.column_index_shuffled.specs.Order.{orderedWords, Ordered}
@@ -99,14 +103,14 @@ module _ (b : Bool) (x : ℕ) (vs old : List ℕ) (r : RoomIf b 0 (length (x ∷
 
 -- ---- a turn at the address j: s is the segment that was read and p where it stands, x and y where the row's values were found
 
-module _ {to : ℕ} {addresses stands : List (List ℕ)} {ids offsets values table : List ℕ} (l : Ordered to addresses stands ids offsets values table) {j s : ℕ} (h : j < length addresses)
+module _ {addresses stands : List (List ℕ)} {ids offsets values table : List ℕ} (l : Ordered addresses stands ids offsets values table) {j s : ℕ} (h : j < length addresses)
     (e : s ≡ getD (getD addresses j []) 0 0) where
   abbrev row : ℕ
   row = rowOf (getD addresses j [])
 
   -- what is left, from address k on
-  abbrev wordsFrom : ℕ → List ℕ
-  wordsFrom k = orderedWords to stands ids offsets values table (drop k addresses)
+  abbrev wordsFrom : ℕ → ℕ → List ℕ
+  wordsFrom to k = orderedWords to stands ids offsets values table (drop k addresses)
 
   abbrev widthsFrom : ℕ → List ℕ
   widthsFrom k = widths stands ids offsets (drop k addresses)
@@ -125,42 +129,58 @@ module _ {to : ℕ} {addresses stands : List (List ℕ)} {ids offsets values tab
       pub row-rises : x ≤ y
       row-rises = omega (arith, row-inside .within .rises)
 
-      pub row-end : p .values .from + y ≤ length values
-      row-end = omega (arith, row-inside .inside, row-inside .values-lie .rises, row-inside .values-lie .ends)
-
-      lent : run (p .values .from + x) (p .values .from + y) values ≡ cellIn p ids offsets values row
-      lent = rw (xe, ye) (cell-run p ids offsets values row row-inside)
-
-      pub row-worded : Worded p table (run (p .values .from + x) (p .values .from + y) values)
-      row-worded = rw lent (subst (λ (q : Stand). Worded q table (cellIn q ids offsets values row)) (sym here) (l .each j h .2))
+      words-end : p .values .from + y * p .unit ≤ length values
+      words-end = rw ye (let c = cell-in p ids offsets values row row-inside in omega (arith, row-inside .values-lie .rises, row-inside .values-lie .ends))
 
       row-width : y - x ≡ widthNow stands ids offsets addresses j
       unfolding widthIn
       row-width = ap₂ (λ (m n : ℕ). m - n) ye xe ∙ ap (λ (q : Stand). widthIn q ids offsets row) here
 
-      abbrev words : List ℕ
-      words = newWords to p table (run (p .values .from + x) (p .values .from + y) values)
+      widths-now : sum (widthsFrom j) ≡ (y - x) + sum (widthsFrom (j + 1))
+      widths-now = ap sum (widths-step stands ids offsets addresses j h) ∙ ap (λ (n : ℕ). n + sum (widthsFrom (j + 1))) (sym row-width)
 
-      words-now : wordsFrom j ≡ words ++ wordsFrom (j + 1)
+      -- no running total of values is too large
+      module _ (t : ℕ) (f : t + sum (widthsFrom j) ≡ sum (widths stands ids offsets addresses)) where
+        pub total-fits : t + (y - x) ≤ 4294967295
+        total-fits = omega (arith, widths-now, l .count)
+
+        pub total-more : t + (y - x) + sum (widthsFrom (j + 1)) ≡ sum (widths stands ids offsets addresses)
+        total-more = omega (arith, widths-now)
+
+      -- where the row's words stand
+      abbrev r : Span
+      r = wordsOf p x y
+
+      pub row-lies : Lies r values
+      row-lies = record { rises = let k = mul-le-mul-right (p .unit) row-rises in omega arith; ends = words-end }
+
+      lent : part r values ≡ cellIn p ids offsets values row
+      lent = rw (xe, ye) (cell-run p ids offsets values row row-inside)
+
+      pub row-worded : Worded p table (part r values)
+      row-worded = rw lent (subst (λ (q : Stand). Worded q table (cellIn q ids offsets values row)) (sym here) (l .each j h .2))
+
+      abbrev words : ℕ → List ℕ
+      words to = newWords to p table (part r values)
+
+      words-now : (to : ℕ) → wordsFrom to j ≡ words to ++ wordsFrom to (j + 1)
       unfolding orderedWords
-      words-now =
+      words-now to =
           rw (add-one j, drop-cons addresses j [] h)
-          (ap (λ (q : Stand). newWords to q table (cellIn q ids offsets values row) ++ wordsFrom (suc j)) (sym here) ∙ ap (λ (c : List ℕ). newWords to p table c ++ wordsFrom (suc j)) (sym lent))
+          (ap (λ (q : Stand). newWords to q table (cellIn q ids offsets values row) ++ wordsFrom to (suc j)) (sym here) ∙ ap (λ (c : List ℕ). newWords to p table c ++ wordsFrom to (suc j)) (sym lent))
 
-      words-count : length words ≡ y - x
-      unfolding widthIn
-      words-count =
-          words-length to (p .typ) (p .map) table (run (p .values .from + x) (p .values .from + y) values) ∙ ap length lent ∙ cell-length p ids offsets values row row-inside ∙ ap₂ (λ (m n : ℕ). m - n) (sym ye) (sym xe)
+      words-count : (to : ℕ) → length (words to) ≡ many r
+      words-count to = words-length to (p .typ) (p .map) table (part r values) ∙ run-length (r .from) (r .to) values words-end
 
-      module _ {whole old out : List ℕ} {at : ℕ} (g : Filling 0 whole old (wordsFrom j) out at) where
-        pub words-room : at + (y - x) ≤ length out
-        words-room = rw (← words-count) (fill-room g words (wordsFrom (j + 1)) words-now)
+      module _ (to : ℕ) {whole old out : List ℕ} {at : ℕ} (g : Filling 0 whole old (wordsFrom to j) out at) where
+        pub words-room : at + many r ≤ length out
+        words-room = rw (← words-count to) (fill-room g (words to) (wordsFrom to (j + 1)) (words-now to))
 
-        pub words-more : {out′ : List ℕ} {at′ : ℕ} → at′ ≡ at + (y - x) → out′ ≡ put at words out → Filling 0 whole old (wordsFrom (j + 1)) out′ at′
-        words-more {out′} {at′} q o = fill-more g words (wordsFrom (j + 1)) words-now out′ at′ (q ∙ ap (λ (n : ℕ). at + n) (sym words-count)) o
+        pub words-more : {out′ : List ℕ} {at′ : ℕ} → at′ ≡ at + many r → out′ ≡ put at (words to) out → Filling 0 whole old (wordsFrom to (j + 1)) out′ at′
+        words-more {out′} {at′} q o = fill-more g (words to) (wordsFrom to (j + 1)) (words-now to) out′ at′ (q ∙ ap (λ (n : ℕ). at + n) (sym (words-count to))) o
 
-      totals-now : (t u : ℕ) → u ≡ t + (y - x) → totalsOf t (widthsFrom j) ≡ idPart u (y - x) ++ totalsOf u (widthsFrom (j + 1))
-      totals-now t u f = rw f (totals-step stands ids offsets addresses j h t (y - x) row-width)
+      totals-now : (t : ℕ) → totalsOf t (widthsFrom j) ≡ idPart (t + (y - x)) (y - x) ++ totalsOf (t + (y - x)) (widthsFrom (j + 1))
+      totals-now t = totals-step stands ids offsets addresses j h t (y - x) row-width
 
       module _ {b : Bool} {whole old out : List ℕ} {at : ℕ} where
         module _ (g : Partly b whole old (idsOf j (widthsFrom j)) out at) where
@@ -172,16 +192,17 @@ module _ {to : ℕ} {addresses stands : List (List ℕ)} {ids offsets values tab
               partly-more g (idPart j (y - x)) (idsOf (j + 1) (widthsFrom (j + 1))) (ids-step stands ids offsets addresses j h (y - x) row-width) out′ (at + w)
               (ap (λ (n : ℕ). at + n) (q ∙ sym (part-length j (y - x)))) o
 
-        module _ (t u : ℕ) (f : u ≡ t + (y - x)) where
-          pub totals-room : Partly b whole old (totalsOf t (widthsFrom j)) out at → RoomIf b at (length (idPart u (y - x))) (length out)
-          totals-room g = partly-room g (idPart u (y - x)) (totalsOf u (widthsFrom (j + 1))) (totals-now t u f)
+        module _ (t : ℕ) (g : Partly b whole old (totalsOf t (widthsFrom j)) out at) where
+          pub totals-room : RoomIf b at (length (idPart (t + (y - x)) (y - x))) (length out)
+          totals-room = partly-room g (idPart (t + (y - x)) (y - x)) (totalsOf (t + (y - x)) (widthsFrom (j + 1))) (totals-now t)
 
           -- n is how many rows were listed: the totals stand one place behind the ids
-          pub totals-more : (n w : ℕ) → at ≡ n + 1 → Partly b whole old (totalsOf t (widthsFrom j)) out at → {out′ : List ℕ} → w ≡ length (idPart 0 (y - x)) → out′ ≡ putIf b at (idPart u (y - x)) out
-              → Partly b whole old (totalsOf u (widthsFrom (j + 1))) out′ (n + w + 1)
-          totals-more n w c g {out′} q o = partly-more g (idPart u (y - x)) (totalsOf u (widthsFrom (j + 1))) (totals-now t u f) out′ (n + w + 1) (omega (arith, part-length u (y - x))) o
+          pub totals-more : (n w : ℕ) → at ≡ n + 1 → {out′ : List ℕ} → w ≡ length (idPart 0 (y - x)) → out′ ≡ putIf b at (idPart (t + (y - x)) (y - x)) out
+              → Partly b whole old (totalsOf (t + (y - x)) (widthsFrom (j + 1))) out′ (n + w + 1)
+          totals-more n w c {out′} q o =
+              partly-more g (idPart (t + (y - x)) (y - x)) (totalsOf (t + (y - x)) (widthsFrom (j + 1))) (totals-now t) out′ (n + w + 1) (omega (arith, part-length (t + (y - x)) (y - x))) o
 
-pub words-end : (to : ℕ) (stands : List (List ℕ)) (ids offsets values table : List ℕ) (addresses : List (List ℕ)) (j : ℕ) → length addresses ≤ j
+pub words-none : (to : ℕ) (stands : List (List ℕ)) (ids offsets values table : List ℕ) (addresses : List (List ℕ)) (j : ℕ) → length addresses ≤ j
     → orderedWords to stands ids offsets values table (drop j addresses) ≡ []
 unfolding orderedWords
-words-end to stands ids offsets values table addresses j h = rw (drop-of-length-le addresses h)
+words-none to stands ids offsets values table addresses j h = rw (drop-of-length-le addresses h)

@@ -130,7 +130,7 @@ fn guess(p: Stand, row: u32, work: &[u8]) -> usize {
 
 // ---- the rows
 
-// Each row is looked up once: its number and the running total are written if it has a value and the class has them, and its words.
+// Each row is looked up once: its number and the running total of values, t, are written if it has a value and the class has them, and its words at v.
 fn write_rows(
     class: u32,
     to: u32,
@@ -145,7 +145,7 @@ fn write_rows(
     out_offsets: &mut [u32],
     out_values: &mut [u64],
 )
-    requires { ⌜ Ordered to (now addresses) (now stands) (now ids) (now offsets) (now values) (now map) ⌝ }
+    requires { ⌜ Ordered (now addresses) (now stands) (now ids) (now offsets) (now values) (now map) ⌝ }
     requires { ⌜ RoomIf (not (eqb class 0)) 0 (length (idsOf 0 (widths (now stands) (now ids) (now offsets) (now addresses)))) (length (now «out_ids»)) ⌝ }
     requires { ⌜ RoomIf (eqb class 2) 0 (length (0 ∷ totalsOf 0 (widths (now stands) (now ids) (now offsets) (now addresses)))) (length (now «out_offsets»)) ⌝ }
     requires { ⌜ length (orderedWords to (now stands) (now ids) (now offsets) (now values) (now map) (now addresses)) ≤ length (now «out_values») ⌝ }
@@ -156,6 +156,7 @@ fn write_rows(
     put_part(class == 2, 1, 0, out_offsets, 0);
     let mut j: usize = 0;
     let mut n: usize = 0;
+    let mut t: usize = 0;
     let mut v: usize = 0;
     while j < addresses.len() {
         let a = addresses[j];
@@ -165,8 +166,9 @@ fn write_rows(
         let g = stands::range_in(p, ids, offsets, a[1], near);
         let w = g.end - g.start;
         v = column_values_merge::append_row(to, p, g, values, map, out_values, v);
+        t += w;
         put_part(class != 0, w, j as u32, out_ids, n);
-        put_part(class == 2, w, v as u32, out_offsets, n + 1);
+        put_part(class == 2, w, t as u32, out_offsets, n + 1);
         n += stands::one_if(w);
         j += 1;
     }
@@ -187,7 +189,7 @@ pub fn ordered_rows(
     out_offsets: &mut [u32],
     out_values: &mut [u64],
 )
-    requires { ⌜ Ordered to (now addresses) (now stands) (now ids) (now offsets) (now values) (now map) ⌝ }
+    requires { ⌜ Ordered (now addresses) (now stands) (now ids) (now offsets) (now values) (now map) ⌝ }
     requires { ⌜ RoomIf (not (eqb class 0)) 0 (length (idsOf 0 (widths (now stands) (now ids) (now offsets) (now addresses)))) (length (now «out_ids»)) ⌝ }
     requires { ⌜ RoomIf (eqb class 2) 0 (length (0 ∷ totalsOf 0 (widths (now stands) (now ids) (now offsets) (now addresses)))) (length (now «out_offsets»)) ⌝ }
     requires { ⌜ length (orderedWords to (now stands) (now ids) (now offsets) (now values) (now map) (now addresses)) ≤ length (now «out_values») ⌝ }

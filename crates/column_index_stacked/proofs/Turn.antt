@@ -8,7 +8,7 @@ use Rattle.runs.specs.Put.{put}
 use Rattle.runs.proofs.Laws.{Filling, fill-room, fill-more}
 use Rattle.stands.specs.declared.Stand.{Stand}
 use Rattle.stands.specs.Width.{idsOf, totalsOf}
-use Rattle.stands.specs.Stand.{many, standAt}
+use Rattle.stands.specs.Stand.{standAt}
 use Rattle.stands.specs.Stack.{segmentWidths, stackedWidths, allRows, SoundAt, AllSound}
 use Rattle.stands.proofs.Stack.{ids-append, totals-append}
 use Rattle.stands.proofs.Bulk.{seg-length, seg-sum, stacked-step, stacked-end, rows-step, values-step}
@@ -29,8 +29,8 @@ module _ {stands : List (List ℕ)} {ids offsets : List ℕ} (l : AllSound stand
   step : stackedWidths (drop s stands) ids offsets ≡ own ++ rest
   step = stacked-step stands ids offsets s h ∙ ap (λ (q : Stand). segmentWidths q ids offsets ++ rest) (sym e)
 
-  pub now-values : sum (stackedWidths (drop s stands) ids offsets) ≡ many (p .values) + sum rest
-  now-values = values-step l h ∙ ap (λ (q : Stand). many (q .values) + sum rest) (sym e)
+  pub now-values : sum (stackedWidths (drop s stands) ids offsets) ≡ p .count + sum rest
+  now-values = values-step l h ∙ ap (λ (q : Stand). q .count + sum rest) (sym e)
 
   module _ {start : ℕ} {whole old out : List ℕ} {at : ℕ} (f : ℕ) where
     module _ (g : Filling start whole old (idsOf f (stackedWidths (drop s stands) ids offsets)) out at) where
@@ -44,15 +44,15 @@ module _ {stands : List (List ℕ)} {ids offsets : List ℕ} (l : AllSound stand
       ids-more {out′} {at′} = fill-more g (idsOf f own) (idsOf (f + p .rows) rest) ids-left out′ at′
 
     module _ (g : Filling start whole old (totalsOf f (stackedWidths (drop s stands) ids offsets)) out at) where
-      totals-left : totalsOf f (stackedWidths (drop s stands) ids offsets) ≡ totalsOf f own ++ totalsOf (f + many (p .values)) rest
+      totals-left : totalsOf f (stackedWidths (drop s stands) ids offsets) ≡ totalsOf f own ++ totalsOf (f + p .count) rest
       totals-left = ap (totalsOf f) step ∙ totals-append f own rest ∙ ap (λ (n : ℕ). totalsOf f own ++ totalsOf (f + n) rest) (seg-sum now-sound)
 
       pub totals-room : at + length (totalsOf f own) ≤ length out
-      totals-room = fill-room g (totalsOf f own) (totalsOf (f + many (p .values)) rest) totals-left
+      totals-room = fill-room g (totalsOf f own) (totalsOf (f + p .count) rest) totals-left
 
       pub totals-more : {out′ : List ℕ} {at′ : ℕ} → at′ ≡ at + length (totalsOf f own) → out′ ≡ put at (totalsOf f own) out
-          → Filling start whole old (totalsOf (f + many (p .values)) rest) out′ at′
-      totals-more {out′} {at′} = fill-more g (totalsOf f own) (totalsOf (f + many (p .values)) rest) totals-left out′ at′
+          → Filling start whole old (totalsOf (f + p .count) rest) out′ at′
+      totals-more {out′} {at′} = fill-more g (totalsOf f own) (totalsOf (f + p .count) rest) totals-left out′ at′
 
 module _ (stands : List (List ℕ)) (ids offsets : List ℕ) (f s : ℕ) (h : length stands ≤ s) where
   pub ids-end : idsOf f (stackedWidths (drop s stands) ids offsets) ≡ []

@@ -8,7 +8,6 @@ ghost use lib.Dec.{eqb};
 ghost use Rattle.definitions.specs.Lists.{sum};
 ghost use Rattle.runs.specs.Put.{put, putIf, RoomIf};
 ghost use Rattle.stands.specs.Width.{idsOf, totalsOf};
-ghost use Rattle.stands.specs.Stand.{many};
 ghost use Rattle.stands.specs.Stack.{segmentWidths, stackedWidths, allRows, SoundAt, AllSound};
 ghost use Rattle.column_values_merge.specs.Stack.{stackedWords};
 ghost use Rattle.column_index_stacked.specs.Stacked.{Stacked};
@@ -53,7 +52,7 @@ fn put_segment_totals(
     at: usize,
 ) -> usize
     requires { ⌜ SoundAt p (now ids) (now offsets) ⌝ }
-    requires { ⌜ total + many (p .values) < 4294967295 ⌝ }
+    requires { ⌜ total + p .count < 4294967295 ⌝ }
     requires { ⌜ at + length (totalsOf total (segmentWidths p (now ids) (now offsets))) ≤ length (now out) ⌝ }
     ensures { λ e. ⌜ e ≡ at + length (totalsOf total (segmentWidths p (now (ids .entry)) (now (offsets .entry)))) ⌝ }
     ensures { λ _. ⌜ now (out .exit) ≡ put at (totalsOf total (segmentWidths p (now (ids .entry)) (now (offsets .entry)))) (now (out .entry)) ⌝ }
@@ -116,7 +115,7 @@ pub fn stacked_offsets(
     while s < stands.len() {
         let p = stands::stand_at(stands, s);
         at = put_segment_totals(p, ids, offsets, total, out, at);
-        total += (p.values.to - p.values.from) as u32;
+        total += p.count as u32;
         s += 1;
     }
     at

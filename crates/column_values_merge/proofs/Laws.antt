@@ -1,21 +1,23 @@
 -- What becomes of a run of words, and a turn of the loop over segments. Assumes nothing.
-use Prim.Native.Nat.{ℕ, _+_, _-_, _≤_, _<_, zero-le, suc-le-suc}
+use Prim.Native.Nat.{ℕ, suc, _+_, _-_, _*_, _≤_, _<_, zero-le, suc-le-suc}
+use native.Mathlib.Nat.{zero-mul, one-mul}
 use native.Mathlib.Numerals.{add-one}
 use native.Mathlib.Omega.{arith}
-use mathlib.Core.Path.{_≡_, refl, sym, ap, _∙_, subst}
-use mathlib.Core.List.{List, [], _∷_, _++_, map-id}
+use mathlib.Core.Path.{_≡_, refl, sym, ap, ap₂, _∙_, subst}
+use mathlib.Core.List.{List, [], _∷_, _++_, map, map-id, map-append}
 use mathlib.Core.Bool.{Bool, true, false, cond}
-use lib.ListN.{length, getD, take, drop, length-map, drop-of-length-le, set}
+use lib.ListN.{length, getD, take, drop, length-map, drop-of-length-le}
 use lib.Seq.{drop-cons}
 use Rattle.definitions.specs.Types.{hasTerms, integerOf, doubleOf, coerced}
 use Rattle.lists.proofs.Parts.{run-length, part-at}
 use Rattle.numerical.proofs.Laws as one
 use Rattle.runs.specs.Put.{put, looked}
-use Rattle.runs.proofs.Laws.{Filling, fill-room, fill-more, looked-length, put-one, put-nil}
+use Rattle.runs.proofs.Laws.{Filling, fill-room, fill-more, looked-length, put-nil, put-put, below-part}
 use Rattle.stands.specs.declared.Span.{Span}
 use Rattle.stands.specs.declared.Stand.{Stand}
 use Rattle.stands.specs.Stand.{run, part, many, Lies, standAt}
-use Rattle.stands.specs.Look.{valuesAt}
+use Rattle.stands.specs.Look.{valuesAt, wordsOf}
+use Rattle.stands.proofs.Cells.{words-many}
 use Rattle.column_values_merge.specs.Word.{doubles, coercedAll, wordsBy, Words, newWords, Worded}
 use Rattle.column_values_merge.specs.Stack.{stackedWords, AllWorded}
 use Rattle.definitions.proofs.Lists.{getD-in, map-mem}
@@ -58,17 +60,12 @@ unfolding wordsBy looked
 looked-one to type u table w x e h q =
     ap (λ (n : ℕ). n ∷ []) (q ∙ sym (part-at (u .to - u .from) (u .from) table w (omega arith))) ∙ ap (λ (b : Bool). cond b (looked (part u table) (w ∷ [])) (coercedAll type to (w ∷ []))) (sym e)
 
-pub run-one : (a b : ℕ) (l : List ℕ) → b ≡ a + 1 → a < length l → run a b l ≡ getD l a 0 ∷ []
-run-one a b l e h =
-    let k : b - a ≡ 1 = omega arith in
-    ap (λ (n : ℕ). take n (drop a l)) k ∙ ap (take 1) (drop-cons l a 0 h)
-
 pub ordinal-in : (type : ℕ) (u : Span) (table : List ℕ) (w : ℕ) → Words type u table (w ∷ []) → hasTerms type ≡ true → u .from + w < u .to
 ordinal-in type u table w g e =
     let k : w < length (part u table) = g .ordinals e 0 (suc-le-suc zero-le) in
     omega (arith, g .map-lies .rises, run-length (u .from) (u .to) table (g .map-lies .ends))
 
--- a row of no value
+-- no words
 pub words-none : (to type : ℕ) (u : Span) (table : List ℕ) → wordsBy to type u table [] ≡ []
 unfolding wordsBy looked coercedAll
 words-none to type u table = go (hasTerms type)
@@ -76,22 +73,6 @@ words-none to type u table = go (hasTerms type)
     go : (b : Bool) → _≡_ {A = List ℕ} (cond b [] []) []
     go true = refl
     go false = refl
-
-pub none-put : (to type : ℕ) (u : Span) (table l out : List ℕ) (a b at : ℕ) → b ≡ a → out ≡ put at (wordsBy to type u table (run a b l)) out
-none-put to type u table l out a b at e =
-    sym (put-nil at out) ∙ ap (λ (vs : List ℕ). put at vs out) (sym (ap (wordsBy to type u table) empty ∙ words-none to type u table))
-  where
-    empty : run a b l ≡ []
-    empty = ap (λ (n : ℕ). take n (drop a l)) (let z : b - a ≡ 0 = omega arith in z)
-
--- a row of one value
-pub one-worded : {type : ℕ} {u : Span} {table : List ℕ} (l : List ℕ) (a b : ℕ) → b ≡ a + 1 → a < length l → Words type u table (run a b l) → Words type u table (getD l a 0 ∷ [])
-one-worded {type} {u} {table} l a b e h g = subst (λ (vs : List ℕ). Words type u table vs) (run-one a b l e h) g
-
-pub one-put : (to type : ℕ) (u : Span) (table l out out′ : List ℕ) (a b at x : ℕ) → b ≡ a + 1 → a < length l → at < length out
-    → x ∷ [] ≡ wordsBy to type u table (getD l a 0 ∷ []) → out′ ≡ set out at x → out′ ≡ put at (wordsBy to type u table (run a b l)) out
-one-put to type u table l out out′ a b at x e h i q s =
-    s ∙ put-one at x out i ∙ ap (λ (vs : List ℕ). put at vs out) (q ∙ ap (wordsBy to type u table) (sym (run-one a b l e h)))
 
 module _ (to type : ℕ) (u : Span) (table vs : List ℕ) where
   pub words-looked : hasTerms type ≡ true → looked (part u table) vs ≡ wordsBy to type u table vs
@@ -109,6 +90,66 @@ module _ (to type : ℕ) (u : Span) (table vs : List ℕ) where
       go : (b : Bool) → length (cond b (looked (part u table) vs) (coercedAll type to vs)) ≡ length vs
       go true = looked-length (part u table) vs
       go false = coerced-length type to vs
+
+words-append : (to type : ℕ) (u : Span) (table vs ws : List ℕ) → wordsBy to type u table (vs ++ ws) ≡ wordsBy to type u table vs ++ wordsBy to type u table ws
+unfolding wordsBy looked coercedAll
+words-append to type u table vs ws = go (hasTerms type)
+  where
+    go : (b : Bool) → cond b (map (λ x. getD (part u table) x 0) (vs ++ ws)) (map (coerced type to) (vs ++ ws))
+        ≡ cond b (map (λ x. getD (part u table) x 0) vs) (map (coerced type to) vs) ++ cond b (map (λ x. getD (part u table) x 0) ws) (map (coerced type to) ws)
+    go true = map-append (λ x. getD (part u table) x 0) vs ws
+    go false = map-append (coerced type to) vs ws
+
+-- each of two words is as both are
+one-of-two : {type : ℕ} {u : Span} {table : List ℕ} (x y : ℕ) → Words type u table (x ∷ y ∷ []) → Words type u table (x ∷ []) × Words type u table (y ∷ [])
+one-of-two {type} {u} {table} x y g = (
+  record { code = g .code; map-lies = g .map-lies; ordinals = λ e. below-part (length (part u table)) 0 1 (x ∷ y ∷ []) (g .ordinals e) },
+  record { code = g .code; map-lies = g .map-lies; ordinals = λ e. below-part (length (part u table)) 1 1 (x ∷ y ∷ []) (g .ordinals e) },
+)
+
+-- a row of no value, and of one
+module _ (p : Stand) (x y : ℕ) where
+  pub no-words : y - x ≡ 0 → many (wordsOf p x y) ≡ 0
+  no-words e = words-many p x y ∙ ap (λ (n : ℕ). n * p .unit) e ∙ zero-mul (p .unit)
+
+  pub value-words : {k : ℕ} → y - x ≡ 1 → p .unit ≡ k → many (wordsOf p x y) ≡ k
+  value-words {k} e f = words-many p x y ∙ ap₂ _*_ e f ∙ one-mul k
+
+-- a row, by how many words it has
+module _ (to type : ℕ) (u : Span) (table l : List ℕ) (a b : ℕ) where
+  pub none-put : (out : List ℕ) (at : ℕ) → b - a ≡ 0 → out ≡ put at (wordsBy to type u table (run a b l)) out
+  none-put out at e =
+      sym (put-nil at out) ∙ ap (λ (vs : List ℕ). put at vs out) (sym (ap (λ (n : ℕ). wordsBy to type u table (take n (drop a l))) e ∙ words-none to type u table))
+
+  module _ (e : b - a ≡ 1) (h : b ≤ length l) where
+    one-run : run a b l ≡ getD l a 0 ∷ []
+    one-run = ap (λ (n : ℕ). take n (drop a l)) e ∙ ap (take 1) (drop-cons l a 0 (omega arith))
+
+    pub one-worded : Words type u table (run a b l) → Words type u table (getD l a 0 ∷ [])
+    one-worded g = subst (λ (vs : List ℕ). Words type u table vs) one-run g
+
+    pub one-put : (out : List ℕ) {out′ : List ℕ} (at : ℕ) → out′ ≡ put at (wordsBy to type u table (getD l a 0 ∷ [])) out → out′ ≡ put at (wordsBy to type u table (run a b l)) out
+    one-put out at q = q ∙ ap (λ (vs : List ℕ). put at (wordsBy to type u table vs) out) (sym one-run)
+
+  module _ (e : b - a ≡ 2) (h : b ≤ length l) where
+    two-run : run a b l ≡ getD l a 0 ∷ getD l (a + 1) 0 ∷ []
+    two-run =
+        ap (λ (n : ℕ). take n (drop a l)) e
+        ∙ ap (take 2) (drop-cons l a 0 (omega arith) ∙ ap (λ (vs : List ℕ). getD l a 0 ∷ vs) (drop-cons l (suc a) 0 (omega arith)))
+        ∙ ap (λ (n : ℕ). getD l a 0 ∷ getD l n 0 ∷ []) (sym (add-one a))
+
+    pub two-worded : Words type u table (run a b l) → Words type u table (getD l a 0 ∷ []) × Words type u table (getD l (a + 1) 0 ∷ [])
+    two-worded g = one-of-two (getD l a 0) (getD l (a + 1) 0) (subst (λ (vs : List ℕ). Words type u table vs) two-run g)
+
+    -- one word after the other
+    pub two-put : (out : List ℕ) {mid out′ : List ℕ} (at : ℕ) → at + (b - a) ≤ length out → mid ≡ put at (wordsBy to type u table (getD l a 0 ∷ [])) out
+        → out′ ≡ put (at + 1) (wordsBy to type u table (getD l (a + 1) 0 ∷ [])) mid → out′ ≡ put at (wordsBy to type u table (run a b l)) out
+    two-put out at room p q =
+        q
+        ∙ ap (put (at + 1) (wordsBy to type u table (getD l (a + 1) 0 ∷ []))) p
+        ∙ ap (λ (n : ℕ). put (at + n) (wordsBy to type u table (getD l (a + 1) 0 ∷ [])) (put at (wordsBy to type u table (getD l a 0 ∷ [])) out)) (sym (words-length to type u table (getD l a 0 ∷ [])))
+        ∙ put-put at (wordsBy to type u table (getD l a 0 ∷ [])) out (rw (words-length to type u table (getD l a 0 ∷ [])) (omega arith)) (wordsBy to type u table (getD l (a + 1) 0 ∷ []))
+        ∙ ap (λ (vs : List ℕ). put at vs out) (sym (words-append to type u table (getD l a 0 ∷ []) (getD l (a + 1) 0 ∷ [])) ∙ ap (wordsBy to type u table) (sym two-run))
 
 -- ---- a turn at the segment s
 

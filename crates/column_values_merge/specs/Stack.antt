@@ -1,4 +1,4 @@
--- The segments' values as the joined column has them, one segment after another. Assumes nothing.
+-- The words of the segments' values as the joined column has them, one segment after another. Assumes nothing.
 use Prim.Native.Nat.{ℕ, _<_}
 use mathlib.Core.List.{List, [], _∷_, _++_}
 use lib.ListN.{length}

@@ -1,10 +1,11 @@
 // Values of the joined column: column_values/merge.rs (`MergedColumnValues`), merge_dict_column.rs (`RemappedTermOrdinalsValues`) and the coercions of merge/mod.rs.
 ghost use mathlib.Core.Path.{_≡_};
 ghost use mathlib.Core.List.{[], _∷_};
-ghost use Prim.Native.Nat.{_<_, _≤_, _+_, _-_};
+ghost use Prim.Native.Nat.{_<_, _≤_, _+_};
 ghost use lib.ListN.{length};
 ghost use Rattle.runs.specs.Put.{put};
-ghost use Rattle.stands.specs.Stand.{run};
+ghost use Rattle.stands.specs.Stand.{part, many, Lies};
+ghost use Rattle.stands.specs.Look.{wordsOf};
 ghost use Rattle.column_values_merge.specs.Word.{doubles, coercedAll, wordsBy, Words, newWords, Worded};
 ghost use Rattle.column_values_merge.specs.Stack.{stackedWords, AllWorded};
 use stands::Span;
@@ -76,7 +77,17 @@ fn new_word(to: u32, typ: usize, part: Span, word: u64, map: &[u32]) -> u64
     numerical::coerce(t, to, word)
 }
 
-// Writes the words of one row, which stand from g.start to g.end behind the segment's first value; returns the index after them.
+// Writes one word as the joined column has it.
+fn put_word(to: u32, typ: usize, part: Span, word: u64, map: &[u32], out: &mut [u64], at: usize)
+    requires { ⌜ Words typ part (now map) (word ∷ []) ⌝ }
+    requires { ⌜ at < length (now out) ⌝ }
+    ensures { λ _. ⌜ now (out .exit) ≡ put at (wordsBy to typ part (now (map .entry)) (word ∷ [])) (now (out .entry)) ⌝ }
+{
+    out[at] = new_word(to, typ, part, word, map);
+}
+
+// Writes the words of a row whose values are those of the segment from g.start to g.end; returns the index after them. A value of one word or two is not
+// copied as a run.
 pub fn append_row(
     to: u32,
     p: Stand,
@@ -87,27 +98,37 @@ pub fn append_row(
     at: usize,
 ) -> usize
     requires { ⌜ g .start ≤ g .end ⌝ }
-    requires { ⌜ p .values .from + g .end ≤ length (now values) ⌝ }
-    requires { ⌜ Worded p (now map) (run (p .values .from + g .start) (p .values .from + g .end) (now values)) ⌝ }
-    requires { ⌜ at + (g .end - g .start) ≤ length (now out) ⌝ }
-    ensures { λ e. ⌜ e ≡ at + (g .end - g .start) ⌝ }
-    ensures { λ _. ⌜ now (out .exit) ≡ put at (newWords to p (now (map .entry)) (run (p .values .from + g .start) (p .values .from + g .end) (now (values .entry)))) (now (out .entry)) ⌝ }
+    requires { ⌜ Lies (wordsOf p (g .start) (g .end)) (now values) ⌝ }
+    requires { ⌜ Worded p (now map) (part (wordsOf p (g .start) (g .end)) (now values)) ⌝ }
+    requires { ⌜ at + many (wordsOf p (g .start) (g .end)) ≤ length (now out) ⌝ }
+    ensures { λ e. ⌜ e ≡ at + many (wordsOf p (g .start) (g .end)) ⌝ }
+    ensures { λ _. ⌜ now (out .exit) ≡ put at (newWords to p (now (map .entry)) (part (wordsOf p (g .start) (g .end)) (now (values .entry)))) (now (out .entry)) ⌝ }
 {
-    let w = g.end - g.start;
-    if w == 0 {
+    let n = g.end - g.start;
+    if n == 0 {
         return at;
     }
-    let start = p.values.from + g.start;
-    if w == 1 {
-        out[at] = new_word(to, p.typ, p.map, values[start], map);
-        return at + 1;
+    let a = p.values.from + g.start * p.unit;
+    if n == 1 {
+        if p.unit == 1 {
+            put_word(to, p.typ, p.map, values[a], map, out, at);
+            return at + 1;
+        }
+        if p.unit == 2 {
+            let first = values[a];
+            let second = values[a + 1];
+            let next = at + 1;
+            put_word(to, p.typ, p.map, first, map, out, at);
+            put_word(to, p.typ, p.map, second, map, out, next);
+            return at + 2;
+        }
     }
-    let end = p.values.from + g.end;
-    append_words(to, p.typ, p.map, &values[start..end], map, out, at);
-    at + w
+    let b = p.values.from + g.end * p.unit;
+    append_words(to, p.typ, p.map, &values[a..b], map, out, at);
+    at + (b - a)
 }
 
-// The segments' values, one segment after another; returns their number.
+// The segments' values, one segment after another; returns the number of their words.
 pub fn stacked_values(
     to: u32,
     stands: &[StandNumbers],

@@ -17,7 +17,7 @@ use Rattle.definitions.specs.Convert.{ConvertInput, converted, oldSegment, conv
 use Rattle.definitions.proofs.Checks.{first-stays, first-passed, all-passed, passes}
 use Rattle.definitions.proofs.Lists.{or-both, or-holds}
 use Rattle.lists.proofs.Tests.{true-T}
-use Rattle.definitions.proofs.Sections.{cut-length}
+use Rattle.definitions.proofs.Sections.{cut-length, values-many}
 use Rattle.segment.specs.Records.{recordIn, sectionsIn}
 use Rattle.segment.specs.declared.Record.{Record}
 use Rattle.runs.specs.Put.{put}
@@ -140,7 +140,7 @@ module _ (r : Record) (ids offsets values lengths bytes alive outIds outOffsets 
                 rows = r .rows;
                 ids = ids-long i;
                 offsets = offsets-long i;
-                values = length-take-le (r .values) values (let x = runs .values in omega arith) i;
+                values = values-many (recordIn r) values (let x = runs .words in omega arith) i;
                 terms = (cut-length (take (r .terms) lengths) bytes ∙ length-take-le (r .terms) lengths (let x = runs .terms in omega arith)) i;
                 flag = r .flag;
               }

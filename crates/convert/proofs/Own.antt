@@ -11,12 +11,14 @@ use lib.Seq.{take-all}
 use lib.Dec.{eqb, ltb, leb}
 use borrow.Author.Tests.{eq-eqb, ne-eqb, eqb-true, lt-ltb, not-false}
 use Rattle.definitions.specs.Lists.{sum, isEmpty, last, notFalling, notFallingFrom}
-use Rattle.definitions.specs.Segment.{SegmentRecord, Sections, byKind, aliveWords, firstSegment}
+use Rattle.definitions.specs.Words.{valuesIn}
+use Rattle.definitions.specs.Segment.{SegmentRecord, Sections, byKind, aliveWords, recordWords, firstSegment}
 use Rattle.definitions.specs.Row.{noType}
 use Rattle.definitions.specs.Types.{isKnownType}
 use Rattle.definitions.specs.Checks.{firstOf}
 use Rattle.definitions.specs.Answer.{lengthsWrong, codesKnown, offsetsFit, emptyFits, fullFits, optionalFits, oldFits, newFits, listsFit, valuesFit, bitPastRows}
 use Rattle.definitions.specs.Convert.{isConvertible}
+use Rattle.definitions.proofs.Sections.{values-many}
 use Rattle.lists.proofs.Numbers.{not-ltb}
 use Rattle.lists.proofs.Lists.{empty-length}
 use Rattle.lists.proofs.Tests.{both-true, taken, other}
@@ -34,16 +36,16 @@ assoc6 false b c d e f = refl
 pub lengths-are : (r : SegmentRecord) (s : Sections) → lengthsWrong (r ∷ []) s ≡ not (fitsLengths r s)
 unfolding lengthsWrong fitsLengths
 lengths-are r s =
-    rw (add-zero (r .ids), add-zero (r .offsets), add-zero (r .values), add-zero (r .terms), add-zero (aliveWords r))
+    rw (add-zero (r .ids), add-zero (r .offsets), add-zero (recordWords r), add-zero (r .terms), add-zero (aliveWords r))
     (ap not
-    (assoc6 (eqb (r .ids) (length (s .ids))) (eqb (r .offsets) (length (s .offsets))) (eqb (r .values) (length (s .values))) (eqb (r .terms) (length (s .termLengths)))
+    (assoc6 (eqb (r .ids) (length (s .ids))) (eqb (r .offsets) (length (s .offsets))) (eqb (recordWords r) (length (s .values))) (eqb (r .terms) (length (s .termLengths)))
     (eqb (sum (s .termLengths)) (length (s .termBytes))) (eqb (aliveWords r) (length (s .alive)))))
 
 -- what it says: each run is as long as the record has it
 pub record Exact (r : SegmentRecord) (s : Sections) : Type 0 where
   pub ids : r .ids ≡ length (s .ids)
   pub offsets : r .offsets ≡ length (s .offsets)
-  pub values : r .values ≡ length (s .values)
+  pub words : recordWords r ≡ length (s .values)
   pub terms : r .terms ≡ length (s .termLengths)
   pub bytes : sum (s .termLengths) ≡ length (s .termBytes)
   pub alive : aliveWords r ≡ length (s .alive)
@@ -53,13 +55,13 @@ unfolding fitsLengths
 exact r s h =
     let a = both-true (eqb (r .ids) (length (s .ids))) _ h in
     let b = both-true (eqb (r .offsets) (length (s .offsets))) _ (a .1) in
-    let c = both-true (eqb (r .values) (length (s .values))) _ (b .1) in
+    let c = both-true (eqb (recordWords r) (length (s .values))) _ (b .1) in
     let d = both-true (eqb (r .terms) (length (s .termLengths))) _ (c .1) in
     let e = both-true (eqb (sum (s .termLengths)) (length (s .termBytes))) _ (d .1) in
     record {
       ids = eqb-true (r .ids) (length (s .ids)) (a .0);
       offsets = eqb-true (r .offsets) (length (s .offsets)) (b .0);
-      values = eqb-true (r .values) (length (s .values)) (c .0);
+      words = eqb-true (recordWords r) (length (s .values)) (c .0);
       terms = eqb-true (r .terms) (length (s .termLengths)) (d .0);
       bytes = eqb-true (sum (s .termLengths)) (length (s .termBytes)) (e .0);
       alive = eqb-true (aliveWords r) (length (s .alive)) (e .1);
@@ -131,11 +133,11 @@ module _ (r : SegmentRecord) (s : Sections) (x : Exact r s) where
   unfolding firstSegment listsFit oldFits offsetsFit
   lists-is k =
       ap (λ (n : ℕ). byKind n (emptyFits (firstSegment r s)) (fullFits (firstSegment r s)) (optionalFits (firstSegment r s)) (oldFits (firstSegment r s)) (newFits (firstSegment r s))) k
-      ∙ old-is (r .rows) (r .values) (take (r .ids) (s .ids)) (take (r .offsets) (s .offsets)) (take (r .values) (s .values)) (ap length (whole (x .values)) ∙ sym (x .values))
+      ∙ old-is (r .rows) (r .values) (take (r .ids) (s .ids)) (take (r .offsets) (s .offsets)) (valuesIn (r .type) (take (recordWords r) (s .values))) (values-many r (s .values) (omega (arith, x .words)))
       ∙ ap₂ (λ (a b : List ℕ). fitsOld (r .rows) (r .values) a b) (whole (x .ids)) (whole (x .offsets))
 
   values-is : valuesFit (firstSegment r s) ≡ fitsValues r (s .values) (s .termLengths) (s .termBytes)
-  values-is = values-first r s ∙ ap₂ (λ (a b : List ℕ). fitsValues r a b (s .termBytes)) (whole (x .values)) (whole (x .terms))
+  values-is = values-first r s ∙ ap₂ (λ (a b : List ℕ). fitsValues r a b (s .termBytes)) (whole (x .words)) (whole (x .terms))
 
   alive-is : bitPastRows (firstSegment r s) ≡ not (fitsAlive 1 r (s .alive))
   unfolding fitsAlive

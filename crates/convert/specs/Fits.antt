@@ -5,7 +5,7 @@ use mathlib.Core.Bool.{Bool, _&&_, cond, not}
 use lib.ListN.{length}
 use lib.Dec.{eqb, ltb}
 use Rattle.definitions.specs.Lists.{sum}
-use Rattle.definitions.specs.Segment.{SegmentRecord, Sections, aliveWords, firstSegment}
+use Rattle.definitions.specs.Segment.{SegmentRecord, Sections, aliveWords, recordWords, firstSegment}
 use Rattle.definitions.specs.Row.{noType}
 use Rattle.definitions.specs.Types.{isKnownType}
 use Rattle.definitions.specs.Checks.{Check, check, firstOf}
@@ -20,7 +20,7 @@ unfoldable pub fitsLengths : SegmentRecord → Sections → Bool
 fitsLengths r s =
     eqb (r .ids) (length (s .ids))
     && (eqb (r .offsets) (length (s .offsets))
-    && (eqb (r .values) (length (s .values))
+    && (eqb (recordWords r) (length (s .values))
     && (eqb (r .terms) (length (s .termLengths))
     && (eqb (sum (s .termLengths)) (length (s .termBytes)) && eqb (aliveWords r) (length (s .alive))))))
 

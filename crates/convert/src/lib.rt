@@ -40,7 +40,7 @@ fn lengths_fit(
     if segment::wide(r.offsets) != offsets.len() {
         return false;
     }
-    if segment::wide(r.values) != values.len() {
+    if segment::value_words(r) != values.len() {
         return false;
     }
     if segment::wide(r.terms) != lengths.len() {

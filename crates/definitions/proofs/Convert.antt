@@ -1,6 +1,6 @@
 -- The converter's laws: each row keeps its values, the converted segment passes the checks, it is held and of the class as before, and the join of converted
 -- segments is the join of the old ones. Assumes nothing.
-use Prim.Native.Nat.{ℕ, suc, _+_, _≤_, _<_}
+use Prim.Native.Nat.{ℕ, suc, _+_, _*_, _≤_, _<_}
 use native.Mathlib.Nat.{le-refl, le-of-eq, add-zero, zero-add}
 use native.Mathlib.Omega.{arith}
 use mathlib.Core.Path.{_≡_, refl, sym, ap, ap₂, _∙_, subst}
@@ -12,7 +12,8 @@ use lib.Dec.{T, eqb, ltb, leb, eqb→eq, eqb-refl, lt→ltb, ltb→lt, nltb→le
 use lib.Ieee.Fits.{and-i, and-l, and-r}
 use lib.Ieee.Bits.{is-true}
 use Rattle.definitions.specs.Lists.{sum, upTo, all, any, filter, concat, elem, greatest, isEmpty, notFalling, ascendingFrom, ascending, last, termsAscending}
-use Rattle.definitions.specs.Segment.{Segment, SegmentRecord, Sections, Address, byKind, cut, aliveWords, firstSegment, segmentsFrom, recordOf}
+use Rattle.definitions.specs.Words.{wordsPerValue, valuesIn}
+use Rattle.definitions.specs.Segment.{Segment, SegmentRecord, Sections, Address, byKind, cut, aliveWords, recordWords, firstSegment, segmentsFrom, recordOf}
 use Rattle.definitions.specs.Row.{rank, oneAt, between, ifListed, rowValues, hasValue, hasAliveSet, isAlive, aliveRows, isPresent, isDropped, isHeld, asEmpty, effective}
 use Rattle.definitions.specs.Types.{isKnownType, hasTerms, BoolType}
 use Rattle.definitions.specs.Class.{rowClass, kindClass, aliveClass, classOf}
@@ -20,7 +21,7 @@ use Rattle.definitions.specs.Join.{idsFrom, totalsFrom, isUsed, keptTerm
 use Rattle.definitions.specs.Answer.{lengthsWrong, codesKnown, isOld, idsFit, offsetsFit, emptyFits, fullFits, optionalFits, oldFits, newFits, listsFit, valuesFit, bitPastRows}
 use Rattle.definitions.specs.Convert.{rowCells, converted, ConvertInput, oldSegment, isConvertible, convertChecks, convertAnswer}
 use Rattle.definitions.proofs.Lists.{and3, and4, up-length, up-at}
-use Rattle.definitions.proofs.Sections.{cut-length}
+use Rattle.definitions.proofs.Sections.{cut-length, values-many}
 use Rattle.definitions.proofs.Slices.{walk-slices, fall-step, first-zero, last-at}
 use Rattle.definitions.proofs.Checks.{all-passed, passes}
 use Rattle.definitions.proofs.Decode.{multi-at, length-totals, ids-are}
@@ -299,7 +300,7 @@ whole-run n l e = take-all n l (omega arith)
 
 -- what 2 says of one record
 pub record Exact (r : SegmentRecord) (s : Sections) : Type 0 where
-  pub values : take (r .values) (s .values) ≡ s .values
+  pub words : recordWords r ≡ length (s .values)
   pub terms : take (r .terms) (s .termLengths) ≡ s .termLengths
   pub bytes : sum (s .termLengths) ≡ length (s .termBytes)
   pub alive : aliveWords r ≡ length (s .alive)
@@ -309,7 +310,7 @@ unfolding lengthsWrong
 exact r s e =
     let a = eqb (r .ids + 0) (length (s .ids)) in
     let b = a && eqb (r .offsets + 0) (length (s .offsets)) in
-    let c = b && eqb (r .values + 0) (length (s .values)) in
+    let c = b && eqb (recordWords r + 0) (length (s .values)) in
     let d = c && eqb (r .terms + 0) (length (s .termLengths)) in
     let f = d && eqb (sum (s .termLengths)) (length (s .termBytes)) in
     let g = not-false (f && eqb (aliveWords r + 0) (length (s .alive))) e in
@@ -317,7 +318,7 @@ exact r s e =
     let q = and-l d (eqb (sum (s .termLengths)) (length (s .termBytes))) p in
     let t = and-l c (eqb (r .terms + 0) (length (s .termLengths))) q in
     record {
-      values = whole-run (r .values) (s .values) (eqb→eq (r .values + 0) (length (s .values)) (and-r b (eqb (r .values + 0) (length (s .values))) t));
+      words = sym (add-zero (recordWords r)) ∙ eqb→eq (recordWords r + 0) (length (s .values)) (and-r b (eqb (recordWords r + 0) (length (s .values))) t);
       terms = whole-run (r .terms) (s .termLengths) (eqb→eq (r .terms + 0) (length (s .termLengths)) (and-r c (eqb (r .terms + 0) (length (s .termLengths))) q));
       bytes = eqb→eq (sum (s .termLengths)) (length (s .termBytes)) (and-r d (eqb (sum (s .termLengths)) (length (s .termBytes))) p);
       alive = sym (add-zero (aliveWords r)) ∙ eqb→eq (aliveWords r + 0) (length (s .alive)) (and-r f (eqb (aliveWords r + 0) (length (s .alive))) g);
@@ -327,26 +328,25 @@ same-length : (n : ℕ) (l : List ℕ) → n ≡ length l → eqb (n + 0) (lengt
 same-length n l e = is-true (eqb (n + 0) (length l)) (subst (λ (m : ℕ). T (eqb m (length l))) (sym (add-zero n ∙ e)) (eqb-refl (length l)))
 
 pub left-lengths : (i : ConvertInput) → convertAnswer i ≡ 0 → lengthsWrong (leftRecord i ∷ []) (leftSections i) ≡ false
-unfolding convertAnswer convertChecks lengthsWrong recordOf converted firstSegment aliveWords
+unfolding convertAnswer convertChecks lengthsWrong recordOf converted firstSegment aliveWords recordWords
 left-lengths i e =
     let x = exact (i .given) (i .sections) (passes (all-passed (convertChecks i) 0 tt e .0) 2) in
     let c = converted (oldSegment i) in
     rw (
       same-length (length (c .ids)) (c .ids) refl,
       same-length (length (c .offsets)) (c .offsets) refl,
-      same-length (length (c .values)) (i .sections .values) (ap length (x .values)),
+      same-length (length (c .values) * wordsPerValue (i .given .type)) (i .sections .values) (ap (λ (n : ℕ). n * wordsPerValue (i .given .type)) (values-many (i .given) (i .sections .values) (omega (arith, x .words))) ∙ x .words),
       same-length (length (c .terms)) (i .sections .termLengths) (cut-length (take (i .given .terms) (i .sections .termLengths)) (i .sections .termBytes) ∙ ap length (x .terms)),
       is-true (eqb (sum (i .sections .termLengths)) (length (i .sections .termBytes))) (subst (λ (n : ℕ). T (eqb (sum (i .sections .termLengths)) n)) (x .bytes) (eqb-refl (sum (i .sections .termLengths)))),
       same-length (aliveWords (i .given)) (i .sections .alive) (x .alive),
     )
 
 pub left-segment : (i : ConvertInput) → convertAnswer i ≡ 0 → segmentsFrom (leftRecord i ∷ []) (leftSections i) ≡ converted (oldSegment i) ∷ []
-unfolding convertAnswer convertChecks recordOf converted firstSegment aliveWords
+unfolding convertAnswer convertChecks recordOf converted firstSegment aliveWords recordWords
 left-segment i e =
     let x = exact (i .given) (i .sections) (passes (all-passed (convertChecks i) 0 tt e .0) 2) in
     let c = converted (oldSegment i) in
-    let vs = i .sections .values in
-    let ls = i .sections .termLengths in
+    let many = values-many (i .given) (i .sections .values) (omega (arith, x .words)) in
     ap (λ (s : Segment). s ∷ [])
     (λ j.
     record {
@@ -355,7 +355,7 @@ left-segment i e =
       rows = i .given .rows;
       ids = take-all (length (c .ids)) (c .ids) (le-refl (length (c .ids))) j;
       offsets = take-all (length (c .offsets)) (c .offsets) (le-refl (length (c .offsets))) j;
-      values = again (i .given .values) vs (x .values) j;
+      values = valuesIn (i .given .type) (take (many j * wordsPerValue (i .given .type)) (i .sections .values));
       terms = terms-again j;
       flag = i .given .flag;
       alive = take (aliveWords (i .given)) (i .sections .alive);

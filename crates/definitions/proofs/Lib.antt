@@ -1,6 +1,7 @@
 pub mod Lists
 pub mod Slices
 pub mod Decode
+pub mod Words
 pub mod Sections
 pub mod Outcome
 pub mod Terms
@@ -15,6 +16,7 @@ pub mod Entry
 pub mod Turn
 pub mod Demand
 pub mod Alike
+pub mod Halves
 pub mod Convert
 pub mod Double
 pub mod Pattern

@@ -1,6 +1,6 @@
--- The laws of a call's outcome: its number is the table's answer, the column of an accepted call is read back from the outputs, and its terms are copied
--- once. Assumes nothing.
-use Prim.Native.Nat.{ℕ}
+-- The laws of a call's outcome: its number is the table's answer, the column of an accepted call is read back from the outputs and listed as it is, and its
+-- terms are copied once. Assumes nothing.
+use Prim.Native.Nat.{ℕ, _*_}
 use mathlib.Core.Path.{_≡_, refl, sym, ap, _∙_, subst}
 use mathlib.Core.List.{List, map}
 use mathlib.Core.Bool.{Bool, true, false, cond}
@@ -9,11 +9,14 @@ use lib.ListN.{length, take, drop, length-map}
 use lib.Seq.{take-append-seam, take-at}
 use lib.Dec.{T, eqb, eqb→eq}
 use Rattle.definitions.specs.Lists.{concat}
+use Rattle.definitions.specs.Words.{wordsPerValue, valueWords}
 use Rattle.definitions.specs.Segment.{cut}
 use Rattle.definitions.specs.Join.{Joined}
 use Rattle.definitions.specs.Answer.{answer, joinOf}
 use Rattle.definitions.specs.Outcome.{Buffers, Numbers, accepted, refused, numberOf, written, numbersOf, refusedBuffers, acceptedBuffers, Lent, inputOf, joinOutcome, readBack}
+use Rattle.definitions.specs.Listing.{acceptedText, columnText, answerText, listing}
 use Rattle.definitions.proofs.Lists.{length-concat}
+use Rattle.definitions.proofs.Words.{length-words, values-first}
 use Rattle.definitions.proofs.Sections.{cut-concat}
 
 -- the terms stand in their two outputs
@@ -33,7 +36,7 @@ read-back j b =
       rows = j .column .rows;
       ids = take-append-seam (j .column .ids) (drop (length (j .column .ids)) (b .ids)) i;
       offsets = take-append-seam (j .column .offsets) (drop (length (j .column .offsets)) (b .offsets)) i;
-      values = take-append-seam (j .column .values) (drop (length (j .column .values)) (b .values)) i;
+      values = values-first (j .column .type) (j .column .values) (drop (length (valueWords (j .column .type) (j .column .values))) (b .values)) i;
       terms = terms-back (j .column .terms) (b .termLengths) (b .termBytes) i;
     }
 
@@ -69,3 +72,20 @@ copied-once l n = go (eqb (answer (inputOf l)) 0)
         let q : numbersOf (joinOf (inputOf l)) ≡ n = cc in
         ap (λ (m : Numbers). m .copied) (sym q) ∙ sym (length-concat (joinOf (inputOf l) .column .terms))
     go false p = absurd (let z : _≡_ {A = ℕ} 0 1 = cc in omega arith)
+
+-- an accepted call's listing is that of the joined column and its map
+pub listing-is : (l : Lent) → answer (inputOf l) ≡ 0 → listing (joinOutcome l) ≡ columnText (joinOf (inputOf l) .column) (joinOf (inputOf l) .map)
+unfolding listing joinOutcome columnText numbersOf acceptedBuffers
+listing-is l e =
+    let j = joinOf (inputOf l) in
+    let c = j .column in
+    let b = l .buffers in
+    let words = valueWords (c .type) (c .values) in
+    ap (λ (n : ℕ). answerText (cond (eqb n 0) (acceptedBuffers j b) (refusedBuffers b)) (cond (eqb n 0) (accepted (numbersOf j)) (refused n))) e
+    ∙ λ i.
+    acceptedText (c .type) (c .class) (c .rows)
+    (take-append-seam (c .ids) (drop (length (c .ids)) (b .ids)) i)
+    (take-append-seam (c .offsets) (drop (length (c .offsets)) (b .offsets)) i)
+    (length (c .values)) (take-at words (drop (length words) (b .values)) (length (c .values) * wordsPerValue (c .type)) (length-words (c .type) (c .values)) i)
+    (terms-back (c .terms) (b .termLengths) (b .termBytes) i)
+    (take-append-seam (j .map) (drop (length (j .map)) (b .map)) i)

@@ -1,15 +1,17 @@
 -- Segments laid out in sections and cut out of them again. Assumes nothing.
-use Prim.Native.Nat.{ℕ, suc}
+use Prim.Native.Nat.{ℕ, suc, _*_, _≤_}
 use mathlib.Core.Path.{_≡_, refl, ap, ap₂, _∙_}
 use mathlib.Core.List.{List, [], _∷_, _++_, map, append-assoc, map-append}
 use lib.ListN.{length, take, drop, length-map}
-use lib.Seq.{take-append-seam, drop-append-seam, take-at, drop-at}
+use lib.Seq.{length-take-le, take-append-seam, drop-append-seam, take-at, drop-at}
 use lib.Dec.{T, eqb→eq}
 use lib.Ieee.Fits.{and-l, and-r}
 use Rattle.definitions.specs.Lists.{sum, concat, all}
-use Rattle.definitions.specs.Segment.{Segment, SegmentRecord, recordFrom, recordNumbers, Address, Space, aliveWords, cut, firstSegment, afterFirst, segmentsFrom, segmentsOf, recordOf, sectionsOf, Input}
+use Rattle.definitions.specs.Words.{wordsPerValue, valueWords, valuesIn}
+use Rattle.definitions.specs.Segment.{Segment, SegmentRecord, recordFrom, recordNumbers, Address, Space, aliveWords, recordWords, cut, firstSegment, afterFirst, segmentsFrom, segmentsOf, recordOf, sectionsOf, Input}
 use Rattle.definitions.specs.Book.{isSegment}
 use Rattle.definitions.proofs.Lists.{length-concat, concat-append}
+use Rattle.definitions.proofs.Words.{length-words, length-values, values-first}
 
 pub cut-length : (ls bytes : List ℕ) → length (cut ls bytes) ≡ length ls
 cut-length [] bytes = refl
@@ -39,7 +41,7 @@ alive-length s h = eqb→eq (length (s .alive)) (aliveWords (recordOf s)) h
 
 -- the first segment's runs stand first
 first-back : (s : Segment) (ss : List Segment) → T (isSegment s) → firstSegment (recordOf s) (sectionsOf (s ∷ ss)) ≡ s
-unfolding firstSegment recordOf sectionsOf
+unfolding firstSegment recordOf sectionsOf recordWords
 first-back s ss h =
     λ i.
     record {
@@ -48,7 +50,7 @@ first-back s ss h =
       rows = s .rows;
       ids = take-append-seam (s .ids) (concat (map (λ (t : Segment). t .ids) ss)) i;
       offsets = take-append-seam (s .offsets) (concat (map (λ (t : Segment). t .offsets) ss)) i;
-      values = take-append-seam (s .values) (concat (map (λ (t : Segment). t .values) ss)) i;
+      values = values-first (s .type) (s .values) (concat (map (λ (t : Segment). valueWords (t .type) (t .values)) ss)) i;
       terms = terms-first (s .terms) (concat (map (λ (t : Segment). t .terms) ss)) i;
       flag = s .flag;
       alive = take-at (s .alive) (concat (map (λ (t : Segment). t .alive) ss)) (aliveWords (recordOf s)) (alive-length s h) i;
@@ -56,13 +58,13 @@ first-back s ss h =
 
 -- and the others' behind them
 after-back : (s : Segment) (ss : List Segment) → T (isSegment s) → afterFirst (recordOf s) (sectionsOf (s ∷ ss)) ≡ sectionsOf ss
-unfolding afterFirst recordOf sectionsOf
+unfolding afterFirst recordOf sectionsOf recordWords
 after-back s ss h =
     λ i.
     record {
       ids = drop-append-seam (s .ids) (concat (map (λ (t : Segment). t .ids) ss)) i;
       offsets = drop-append-seam (s .offsets) (concat (map (λ (t : Segment). t .offsets) ss)) i;
-      values = drop-append-seam (s .values) (concat (map (λ (t : Segment). t .values) ss)) i;
+      values = drop-at (valueWords (s .type) (s .values)) (concat (map (λ (t : Segment). valueWords (t .type) (t .values)) ss)) (length (s .values) * wordsPerValue (s .type)) (length-words (s .type) (s .values)) i;
       termLengths = lengths-after (s .terms) (concat (map (λ (t : Segment). t .terms) ss)) i;
       termBytes = bytes-after (s .terms) (concat (map (λ (t : Segment). t .terms) ss)) i;
       alive = drop-at (s .alive) (concat (map (λ (t : Segment). t .alive) ss)) (aliveWords (recordOf s)) (alive-length s h) i;
@@ -73,6 +75,11 @@ segments-back [] h = refl
 segments-back (s ∷ ss) h =
     ap₂ (λ (x : Segment) (l : List Segment). x ∷ l) (first-back s ss (and-l (isSegment s) (all isSegment ss) h))
     (ap (segmentsFrom (map recordOf ss)) (after-back s ss (and-l (isSegment s) (all isSegment ss) h)) ∙ segments-back ss (and-r (isSegment s) (all isSegment ss) h))
+
+-- a section that holds a record's words holds its values
+pub values-many : (r : SegmentRecord) (words : List ℕ) → recordWords r ≤ length words → length (valuesIn (r .type) (take (recordWords r) words)) ≡ r .values
+unfolding recordWords
+values-many r words h = length-values (r .type) (r .values) (take (recordWords r) words) (length-take-le (recordWords r) words h)
 
 -- segments laid out as an input
 unfoldable pub flatten : ℕ → ℕ → List Segment → List Address → Space → Input

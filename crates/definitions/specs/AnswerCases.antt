@@ -87,7 +87,7 @@ codeCases =
     ∷ gives 0 (stacked 3 [])
     ∷ gives 0 (stacked 4 [])
     ∷ gives 0 (stacked 5 [])
-    ∷ gives 3 (stacked 6 [])
+    ∷ gives 0 (stacked 6 [])
     ∷ gives 0 (stacked 7 [])
     ∷ gives 3 (stacked 8 [])
     ∷ gives 3 (stacked 254 [])
@@ -126,7 +126,7 @@ oldCases =
     ∷ gives 3 (stacked 255 (oldFive ∷ one 9 5 ∷ []))
     ∷ gives 3 (alone (plain 255 3 0 [] [] [] []))
     ∷ gives 3 (lentTo (call [] 2 255 []) (oldFive ∷ []))
-    ∷ gives 3 (stacked 6 (oldFive ∷ []))
+    ∷ gives 3 (stacked 8 (oldFive ∷ []))
     -- it comes before 4 to 7: ids 1 1 beside it; lists of its own that are wrong; a Bool above 1; an alive set in a stacked join; too many rows
     ∷ gives 19 (stacked 255 (plain 1 2 2 (1 ∷ 1 ∷ []) [] (5 ∷ 6 ∷ []) [] ∷ oldFive ∷ []))
     ∷ gives 19 (alone (plain 1 3 3 [] (0 ∷ 2 ∷ 1 ∷ 3 ∷ []) (5 ∷ 6 ∷ 7 ∷ []) []))
@@ -202,6 +202,7 @@ valueCases =
     ∷ gives 5 (alone (str (0 ∷ []) ((255 ∷ []) ∷ a ∷ [])))
     ∷ gives 5 (alone (plain 3 1 1 [] [] (0 ∷ []) (b ∷ a ∷ [])))
     -- terms on another type, and on kind 0
+    ∷ gives 5 (alone (plain 6 1 1 [] [] (0 ∷ []) (a ∷ [])))
     ∷ gives 5 (alone (plain 1 1 1 [] [] (0 ∷ []) (a ∷ [])))
     ∷ gives 5 (alone (plain 5 1 1 [] [] (0 ∷ []) (a ∷ [])))
     ∷ gives 5 (alone (plain 7 1 1 [] [] (0 ∷ []) (a ∷ [])))
@@ -263,6 +264,15 @@ many-values values h = rw h refl
 fewer-values : (values : List ℕ) → length values ≡ 4294967293 → aboveSum (plain 4 4 1 [] [] values [] ∷ str (0 ∷ []) (a ∷ []) ∷ []) ≡ false
 unfolding aboveSum
 fewer-values values h = rw h refl
+
+-- addresses are counted, and not their words
+many-addresses : (values : List ℕ) → length values ≡ 4294967294 → aboveSum (plain 6 1 4294967294 [] [] values [] ∷ plain 6 2 0 (0 ∷ []) [] (5 ∷ []) [] ∷ []) ≡ true
+unfolding aboveSum
+many-addresses values h = rw h refl
+
+fewer-addresses : (values : List ℕ) → length values ≡ 4294967293 → aboveSum (plain 6 1 4294967293 [] [] values [] ∷ plain 6 2 0 (0 ∷ []) [] (5 ∷ []) [] ∷ []) ≡ false
+unfolding aboveSum
+fewer-addresses values h = rw h refl
 
 many-bytes : (terms : List (List ℕ)) → length (concat terms) ≡ 4294967294 → aboveSum (plain 4 4 1 [] [] [] terms ∷ str (0 ∷ []) (a ∷ []) ∷ []) ≡ true
 unfolding aboveSum
@@ -414,10 +424,10 @@ orderCases : List AnswerCase
 orderCases =
     -- 1 and 2: 257 records that announce a value each
     gives 1 (lentOf 0 255 (replicate 257 (1 ∷ 1 ∷ 1 ∷ 0 ∷ 0 ∷ 1 ∷ 0 ∷ 0 ∷ [])) [] [] [] [] [] [] [] (memory 12 12))
-    -- 2 and 3: type 6 with a value that is not there
-    ∷ gives 2 (lentOf 0 255 ((6 ∷ 1 ∷ 1 ∷ 0 ∷ 0 ∷ 1 ∷ 0 ∷ 0 ∷ []) ∷ []) [] [] [] [] [] [] [] (memory 12 12))
-    -- 3 and 4: the first segment has a value too few, and the second has type 6
-    ∷ gives 3 (stacked 255 (plain 1 1 2 [] [] (5 ∷ []) [] ∷ one 6 5 ∷ []))
+    -- 2 and 3: type 8 with a value that is not there
+    ∷ gives 2 (lentOf 0 255 ((8 ∷ 1 ∷ 1 ∷ 0 ∷ 0 ∷ 1 ∷ 0 ∷ 0 ∷ []) ∷ []) [] [] [] [] [] [] [] (memory 12 12))
+    -- 3 and 4: the first segment has a value too few, and the second has type 8
+    ∷ gives 3 (stacked 255 (plain 1 1 2 [] [] (5 ∷ []) [] ∷ one 8 5 ∷ []))
     -- 4 and 5: the first has a Bool above 1, and the second a value too few
     ∷ gives 4 (stacked 255 (one 5 2 ∷ plain 5 1 2 [] [] (1 ∷ []) [] ∷ []))
     -- 5 and 6: the first has an alive set, and the second a Bool above 1

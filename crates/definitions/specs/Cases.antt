@@ -4,6 +4,7 @@ use Prim.Native.Nat.{ℕ}
 use mathlib.Core.Path.{_≡_, refl}
 use mathlib.Core.List.{List, [], _∷_, map}
 use lib.ListN.{replicate}
+use Rattle.definitions.specs.Words.{ipAddrOf}
 use Rattle.definitions.specs.Segment.{Segment, Address, address as at}
 use Rattle.definitions.specs.Join.{kindOf, asSegment}
 use Rattle.definitions.specs.Outcome.{Lent, lentOf, Outcome, accepted, refused}
@@ -102,7 +103,7 @@ examples : List Example
 examples =
     joins (stacked 255 (replicate 257 (none 0)))
     ∷ joins (announced ((1 ∷ 1 ∷ 1 ∷ 0 ∷ 0 ∷ 1 ∷ 0 ∷ 0 ∷ []) ∷ []))
-    ∷ joins (stacked 255 (one 6 0 ∷ []))
+    ∷ joins (stacked 255 (one 8 0 ∷ []))
     ∷ joins (stacked 255 (plain 1 2 2 (1 ∷ 1 ∷ []) [] (5 ∷ 6 ∷ []) [] ∷ []))
     ∷ joins (stacked 255 (str (0 ∷ 1 ∷ []) (b ∷ a ∷ []) ∷ []))
     ∷ joins (inOrder 255 (withAlive (2 ∷ []) (one 1 5) ∷ []) [])
@@ -277,6 +278,14 @@ turns =
     ∷ turn (oldFive ∷ one 1 5 ∷ []) (call (1 ∷ 0 ∷ []) 0 255 [] ∷ call (1 ∷ []) 0 255 [] ∷ call (0 ∷ 1 ∷ []) 1 255 [] ∷ [])
     (agree (19 ∷ 0 ∷ 19 ∷ []) (first oldFive ∷ gave 1 0 1 [] [] (5 ∷ []) [] ∷ []) ((0 ∷ []) ∷ (1 ∷ []) ∷ [])
     ((at 0 0 ∷ at 0 1 ∷ at 0 2 ∷ []) ∷ (at 1 0 ∷ []) ∷ []))
+    -- addresses: two weeks in order, a play of the one withdrawn; an order that lists no row is refused; behind a third week, of kind 4, the result is handed on
+    ∷ turn
+    (withAlive (2 ∷ []) (full 6 (ipAddrOf 1 2 ∷ ipAddrOf 3 4 ∷ [])) ∷ plain 6 2 2 (1 ∷ []) [] (ipAddrOf 0xffffffffffffffff 0 ∷ []) [] ∷ plain 6 4 1 (0 ∷ []) (0 ∷ 2 ∷ []) (ipAddrOf 7 8 ∷ ipAddrOf 5 6 ∷ []) [] ∷ [])
+    (call (1 ∷ 0 ∷ []) 1 255 (at 0 1 ∷ at 1 1 ∷ at 0 0 ∷ []) ∷ call (0 ∷ 1 ∷ []) 1 255 [] ∷ call (0 ∷ 1 ∷ []) 0 255 [] ∷ [])
+    (agree (0 ∷ 9 ∷ 0 ∷ [])
+    (gave 6 2 4 (0 ∷ 1 ∷ 2 ∷ []) (0 ∷ 2 ∷ 3 ∷ 4 ∷ []) (ipAddrOf 7 8 ∷ ipAddrOf 5 6 ∷ ipAddrOf 0xffffffffffffffff 0 ∷ ipAddrOf 3 4 ∷ []) [] ∷ [])
+    ((2 ∷ 1 ∷ 0 ∷ []) ∷ [])
+    ((at 2 0 ∷ at 1 1 ∷ at 0 1 ∷ at 1 0 ∷ []) ∷ []))
     -- both joins require F64; the one join requires it too
     ∷ turn (one 0 5 ∷ one 1 7 ∷ []) (call (0 ∷ []) 0 2 [] ∷ call (1 ∷ 0 ∷ []) 0 2 [] ∷ [])
     (agree (0 ∷ 0 ∷ []) (gave 2 0 2 [] [] (0x4014000000000000 ∷ 0x401c000000000000 ∷ []) [] ∷ []) ((0 ∷ 1 ∷ []) ∷ []) ((at 0 0 ∷ at 1 0 ∷ []) ∷ []))

@@ -4,6 +4,7 @@ use Prim.Native.Nat.{ℕ}
 use mathlib.Core.Path.{_≡_, refl}
 use mathlib.Core.List.{List, [], _∷_, map}
 use lib.ListN.{replicate}
+use Rattle.definitions.specs.Words.{ipAddrOf}
 use Rattle.definitions.specs.Segment.{Segment, SegmentRecord, Sections, Address, recordOf, recordFrom, sectionsOf, address as at}
 use Rattle.definitions.specs.Convert.{converted, isConvertible, convertTooShort, convertChecks, convertAnswer, convertedTo, unconverted, ConvertOutcome, convertOutcome}
 use Rattle.definitions.specs.Sheet.{plain, withAlive, a, b, five, oldFive, nine, outcomeOf, accepts}
@@ -56,6 +57,8 @@ conversions =
     ∷ case (conversion 1 2 (withAlive (2 ∷ []) (plain 1 3 2 [] (0 ∷ 1 ∷ 1 ∷ []) (7 ∷ []) []))) (gives (1 ∷ 4 ∷ 2 ∷ 1 ∷ 2 ∷ 1 ∷ 0 ∷ 1 ∷ []) (0 ∷ []) (0 ∷ 1 ∷ []))
     -- terms
     ∷ case (conversion 1 2 (plain 4 3 1 [] (0 ∷ 3 ∷ []) (1 ∷ 0 ∷ 1 ∷ []) (a ∷ b ∷ []))) (gives (4 ∷ 4 ∷ 1 ∷ 1 ∷ 2 ∷ 3 ∷ 2 ∷ 0 ∷ []) (0 ∷ []) (0 ∷ 3 ∷ []))
+    -- addresses: the record counts them, and not their words
+    ∷ case (conversion 1 2 (plain 6 3 2 [] (0 ∷ 2 ∷ 2 ∷ []) (ipAddrOf 1 2 ∷ ipAddrOf 3 4 ∷ []) [])) (gives (6 ∷ 4 ∷ 2 ∷ 1 ∷ 2 ∷ 2 ∷ 0 ∷ 0 ∷ []) (0 ∷ []) (0 ∷ 2 ∷ []))
     -- DateTime, Bytes and Bool
     ∷ case (conversion 1 2 (plain 7 3 1 [] (0 ∷ 1 ∷ []) (5 ∷ []) [])) (gives (7 ∷ 4 ∷ 1 ∷ 1 ∷ 2 ∷ 1 ∷ 0 ∷ 0 ∷ []) (0 ∷ []) (0 ∷ 1 ∷ []))
     ∷ case (conversion 1 2 (plain 3 3 1 [] (0 ∷ 1 ∷ []) (0 ∷ []) (a ∷ []))) (gives (3 ∷ 4 ∷ 1 ∷ 1 ∷ 2 ∷ 1 ∷ 1 ∷ 0 ∷ []) (0 ∷ []) (0 ∷ 1 ∷ []))
@@ -81,6 +84,12 @@ laid flag i o v t ids offsets values termLengths termBytes alive =
     given 9 9 (recordFrom (4 ∷ 3 ∷ 1 ∷ i ∷ o ∷ v ∷ t ∷ flag ∷ []))
     (record { ids = ids; offsets = offsets; values = values; termLengths = termLengths; termBytes = termBytes; alive = alive })
 
+-- one row of the type, with so many values and the last offset; then the words of the values
+abbrev listening : ℕ → ℕ → ℕ → List ℕ → ConvertOutcome
+listening type v end words =
+    given 9 9 (recordFrom (type ∷ 3 ∷ 1 ∷ 0 ∷ 2 ∷ v ∷ 0 ∷ 0 ∷ []))
+    (record { ids = []; offsets = 0 ∷ end ∷ []; values = words; termLengths = []; termBytes = []; alive = [] })
+
 answerCases : List Case
 answerCases =
     -- 2: as announced; then each section too short or too long
@@ -103,9 +112,13 @@ answerCases =
     ∷ answers 2 (given 9 9 (recordFrom (1 ∷ 1 ∷ 1 ∷ 0 ∷ 0 ∷ 1 ∷ 0 ∷ 0 ∷ [])) (sectionsOf []))
     -- 2, and 3 after it: flag 2 adds no alive words
     ∷ answers 2 (laid 2 0 2 1 1 [] (0 ∷ 1 ∷ []) (0 ∷ []) (1 ∷ []) (97 ∷ []) (1 ∷ []))
+    -- addresses: 2 counts words, one too few and one too many; an unknown type has one a value
+    ∷ answers 2 (listening 6 1 1 (1 ∷ []))
+    ∷ answers 2 (listening 6 1 1 (1 ∷ 2 ∷ 3 ∷ []))
+    ∷ answers 2 (listening 8 1 1 (1 ∷ 2 ∷ []))
     -- 3: the flag; the type; no column, with lists and without; each other kind, and an unknown one
     ∷ answers 3 (laid 2 0 2 1 1 [] (0 ∷ 1 ∷ []) (0 ∷ []) (1 ∷ []) (97 ∷ []) [])
-    ∷ answers 3 (conversion 9 9 (plain 6 3 1 [] (0 ∷ 1 ∷ []) (5 ∷ []) []))
+    ∷ answers 3 (conversion 9 9 (plain 8 3 1 [] (0 ∷ 1 ∷ []) (5 ∷ []) []))
     ∷ answers 3 (conversion 9 9 (plain 255 3 0 [] (0 ∷ []) [] []))
     ∷ answers 3 (conversion 9 9 (plain 255 3 0 [] [] [] []))
     ∷ answers 3 (conversion 9 9 (plain 255 0 3 [] [] [] []))
@@ -115,10 +128,9 @@ answerCases =
     ∷ answers 3 (conversion 9 9 five)
     ∷ answers 3 (conversion 9 9 (plain 1 5 3 [] (0 ∷ 2 ∷ 2 ∷ 3 ∷ []) (7 ∷ 8 ∷ 9 ∷ []) []))
     ∷ answers 3 (conversion 9 9 (plain 1 7 3 [] (0 ∷ 2 ∷ 2 ∷ 3 ∷ []) (7 ∷ 8 ∷ 9 ∷ []) []))
-    ∷ answers 3 (conversion 9 9 (plain 8 3 1 [] (0 ∷ 1 ∷ []) (5 ∷ []) []))
     -- 3, and 4 after it: kind 1 of a value too few
     ∷ answers 3 (conversion 9 9 (plain 1 1 2 [] [] (5 ∷ []) []))
-    ∷ answers 3 (conversion 9 9 (plain 6 3 2 [] (0 ∷ 1 ∷ []) (5 ∷ []) []))
+    ∷ answers 3 (conversion 9 9 (plain 8 3 2 [] (0 ∷ 1 ∷ []) (5 ∷ []) []))
     -- 4: no ids, and rows + 1 offsets, also of 0 rows; 4294967295 rows would need more than a record can announce
     ∷ answers 4 (conversion 9 9 (plain 1 3 0 [] [] [] []))
     ∷ answers 4 (conversion 9 9 (plain 1 3 1 (0 ∷ []) (0 ∷ 1 ∷ []) (5 ∷ []) []))
@@ -131,6 +143,8 @@ answerCases =
     ∷ answers 4 (conversion 9 9 (plain 1 3 3 [] (0 ∷ 2 ∷ 1 ∷ 3 ∷ []) (5 ∷ 6 ∷ 7 ∷ []) []))
     ∷ answers 4 (conversion 9 9 (plain 1 3 1 [] (0 ∷ 1 ∷ []) (5 ∷ 6 ∷ []) []))
     ∷ answers 4 (conversion 9 9 (plain 1 3 1 [] (0 ∷ 2 ∷ []) (5 ∷ []) []))
+    -- the number of addresses, not of their words
+    ∷ answers 4 (listening 6 2 4 (1 ∷ 2 ∷ 3 ∷ 4 ∷ []))
     -- 4, and 5 after it
     ∷ answers 4 (conversion 9 9 (plain 5 3 2 [] (0 ∷ 1 ∷ []) (2 ∷ []) []))
     -- 5: a Bool above 1; an ordinal not below the terms; terms that fall; terms on another type; 6 after it
@@ -138,6 +152,7 @@ answerCases =
     ∷ answers 5 (conversion 9 9 (plain 4 3 1 [] (0 ∷ 1 ∷ []) (1 ∷ []) (a ∷ [])))
     ∷ answers 5 (conversion 9 9 (plain 3 3 1 [] (0 ∷ 1 ∷ []) (0 ∷ []) (b ∷ a ∷ [])))
     ∷ answers 5 (conversion 9 9 (plain 1 3 1 [] (0 ∷ 1 ∷ []) (0 ∷ []) (a ∷ [])))
+    ∷ answers 5 (conversion 9 9 (plain 6 3 1 [] (0 ∷ 1 ∷ []) (0 ∷ []) (a ∷ [])))
     ∷ answers 5 (conversion 9 9 (withAlive (2 ∷ []) (plain 5 3 1 [] (0 ∷ 1 ∷ []) (2 ∷ []) [])))
     -- 6: a bit past the rows; 11 after it
     ∷ case (conversion 0 0 (withAlive (4 ∷ []) (plain 1 3 2 [] (0 ∷ 1 ∷ 1 ∷ []) (7 ∷ []) []))) (refuses 6 0 0)

@@ -1,6 +1,6 @@
 -- What the joining program writes (document 01, C1): a line for the answer, and of an accepted join eight lines more. Total on any bytes read.
 -- Assumes nothing.
-use Prim.Native.Nat.{ℕ, zero, suc, _+_, _/_, _%_}
+use Prim.Native.Nat.{ℕ, zero, suc, _+_, _*_, _/_, _%_}
 use Prim.Native.Char.{code}
 use Prim.Native.String.{String, [] as []ˢ, _∷_ as _∷ˢ_}
 use mathlib.Core.List.{List, [], _∷_, _++_}
@@ -8,8 +8,10 @@ use mathlib.Core.Path.{_≡_}
 use mathlib.Core.Bool.{cond}
 use lib.ListN.{length, take}
 use lib.Dec.{ltb}
+use Rattle.definitions.specs.Words.{wordsPerValue, valueWords}
+use Rattle.definitions.specs.Segment.{cut}
 use Rattle.definitions.specs.Join.{Column}
-use Rattle.definitions.specs.Outcome.{Buffers, Answer, accepted, refused, Outcome, readBack, joinOutcome}
+use Rattle.definitions.specs.Outcome.{Buffers, Answer, accepted, refused, Outcome, joinOutcome}
 use Rattle.definitions.specs.Wire.{bytesFit, lentBy}
 
 -- the codes of a text's characters: in ASCII, its bytes
@@ -63,9 +65,13 @@ termsText (t ∷ ts) = (space ++ termText t) ++ termsText ts
 unfoldable pub valueLine : List ℕ → ℕ → List ℕ
 valueLine name n = name ++ (decimal n ++ newline)
 
+-- a name, a count and numbers
+unfoldable pub countedLine : List ℕ → ℕ → List ℕ → List ℕ
+countedLine name n ns = name ++ (decimal n ++ (numbersText ns ++ newline))
+
 -- a name, a count and the elements
-unfoldable pub listLine : List ℕ → List ℕ → List ℕ
-listLine name ns = name ++ (decimal (length ns) ++ (numbersText ns ++ newline))
+abbrev pub listLine : List ℕ → List ℕ → List ℕ
+listLine name ns = countedLine name (length ns) ns
 
 unfoldable pub termsLine : List ℕ → List (List ℕ) → List ℕ
 termsLine name ts = name ++ (decimal (length ts) ++ (termsText ts ++ newline))
@@ -105,26 +111,32 @@ mapsName = text "maps "
 unfoldable pub numbersPart : ℕ → ℕ → ℕ → List ℕ
 numbersPart type class rows = valueLine typeName type ++ (valueLine className class ++ valueLine rowsName rows)
 
--- row ids, offsets and values
-unfoldable pub listsPart : List ℕ → List ℕ → List ℕ → List ℕ
-listsPart ids offsets values = listLine idsName ids ++ (listLine offsetsName offsets ++ listLine valuesName values)
+-- row ids, offsets and so many values, each as its words
+unfoldable pub listsPart : List ℕ → List ℕ → ℕ → List ℕ → List ℕ
+listsPart ids offsets values words = listLine idsName ids ++ (listLine offsetsName offsets ++ countedLine valuesName values words)
 
 -- terms and map
 unfoldable pub termsPart : List (List ℕ) → List ℕ → List ℕ
 termsPart terms map = termsLine termsName terms ++ listLine mapsName map
 
 -- all nine lines
-unfoldable pub acceptedText : ℕ → ℕ → ℕ → List ℕ → List ℕ → List ℕ → List (List ℕ) → List ℕ → List ℕ
-acceptedText type class rows ids offsets values terms map =
-    valueLine answerName 0 ++ (numbersPart type class rows ++ (listsPart ids offsets values ++ termsPart terms map))
+unfoldable pub acceptedText : ℕ → ℕ → ℕ → List ℕ → List ℕ → ℕ → List ℕ → List (List ℕ) → List ℕ → List ℕ
+acceptedText type class rows ids offsets values words terms map =
+    valueLine answerName 0 ++ (numbersPart type class rows ++ (listsPart ids offsets values words ++ termsPart terms map))
 
--- a column and its map
+-- a column and its map: values are counted, an address as one, and each is printed as its words. An accepted call's listing is this (proofs/Outcome)
 unfoldable pub columnText : Column → List ℕ → List ℕ
-columnText c m = acceptedText (c .type) (c .class) (c .rows) (c .ids) (c .offsets) (c .values) (c .terms) m
+columnText c m = acceptedText (c .type) (c .class) (c .rows) (c .ids) (c .offsets) (length (c .values)) (valueWords (c .type) (c .values)) (c .terms) m
 
--- the column and the map as they stand in the outputs; a refusal is the first line alone
+-- the column and the map as they stand in the outputs, values in words; a refusal is the first line alone
 abbrev pub answerText : Buffers → Answer → List ℕ
-answerText b (accepted n) = columnText (readBack n b) (take (n .map) (b .map))
+answerText b (accepted n) =
+    acceptedText (n .type) (n .class) (n .rows)
+    (take (n .ids) (b .ids))
+    (take (n .offsets) (b .offsets))
+    (n .values) (take (n .values * wordsPerValue (n .type)) (b .values))
+    (cut (take (n .terms) (b .termLengths)) (b .termBytes))
+    (take (n .map) (b .map))
 answerText b (refused k) = valueLine answerName k
 
 unfoldable pub listing : Outcome → List ℕ

@@ -1,16 +1,17 @@
 -- What a call of the joiner gives and leaves in the lent memory (document 01, "Answers of the joiner"): a refusal changes no output, output
 -- beyond the lists keeps its elements, and the working bytes are zero on return. Assumes nothing.
-use Prim.Native.Nat.{ℕ}
+use Prim.Native.Nat.{ℕ, _*_}
 use mathlib.Core.List.{List, _++_, map}
 use mathlib.Core.Bool.{cond}
 use lib.ListN.{length, take, drop, replicate}
 use lib.Dec.{eqb}
 use Rattle.definitions.specs.Lists.{sum, concat}
+use Rattle.definitions.specs.Words.{wordsPerValue, valueWords, valuesIn}
 use Rattle.definitions.specs.Segment.{SegmentRecord, Sections, Address, Input, Space, recordFrom, addressFrom, cut}
 use Rattle.definitions.specs.Join.{Column, Joined}
 use Rattle.definitions.specs.Answer.{answer, joinOf}
 
--- the lent memory that a call may write: six outputs and the working bytes
+-- the lent memory that a call may write: six outputs, values in words, and the working bytes
 pub record Buffers : Type 0 where
   pub ids : List ℕ
   pub offsets : List ℕ
@@ -20,7 +21,7 @@ pub record Buffers : Type 0 where
   pub map : List ℕ
   pub working : List ℕ
 
--- the numbers that come with acceptance: type, class and rows, the number of elements of each list, and the term bytes copied (document 02, (d))
+-- the numbers that come with acceptance: type, class and rows, the number of elements of each list, an address being one, and the term bytes copied (document 02, (d))
 pub record Numbers : Type 0 where
   pub type : ℕ
   pub class : ℕ
@@ -135,7 +136,7 @@ acceptedBuffers j b =
     record {
       ids = written (j .column .ids) (b .ids);
       offsets = written (j .column .offsets) (b .offsets);
-      values = written (j .column .values) (b .values);
+      values = written (valueWords (j .column .type) (j .column .values)) (b .values);
       termLengths = written (map length (j .column .terms)) (b .termLengths);
       termBytes = written (concat (j .column .terms)) (b .termBytes);
       map = written (j .map) (b .map);
@@ -159,6 +160,6 @@ readBack n b =
       rows = n .rows;
       ids = take (n .ids) (b .ids);
       offsets = take (n .offsets) (b .offsets);
-      values = take (n .values) (b .values);
+      values = valuesIn (n .type) (take (n .values * wordsPerValue (n .type)) (b .values));
       terms = cut (take (n .terms) (b .termLengths)) (b .termBytes);
     }

@@ -8,12 +8,12 @@ use lib.ListN.{length, take, replicate}
 use Rattle.definitions.specs.Lists.{concat, allBelow}
 use Rattle.definitions.specs.Outcome.{spaceOf}
 use Rattle.definitions.specs.Wire.{wordsIn, wordsOf, sectionsBy, wordSections, endsFrom, widthsFit, wordsFit, wholeWords, bytesFit, grouped, recordGroups, addressGroups, programBuffers, lentFrom, lentBy}
-use Rattle.definitions.specs.Listing.{text, decimal, hexadecimal, termText, numbersText, termsText, valueLine, listLine, termsLine, numbersPart, listsPart, termsPart, acceptedText, columnText, listing, reply}
+use Rattle.definitions.specs.Listing.{text, decimal, hexadecimal, termText, numbersText, termsText, valueLine, countedLine, termsLine, numbersPart, listsPart, termsPart, acceptedText, listing, reply}
 use Rattle.definitions.specs.Sheet.{outcomeOf}
 
 -- the definitions of the input and of the listing are opened here, and those of the join with outcomeOf
 printed : List ℕ → List ℕ
-unfolding outcomeOf wordsIn wordsOf sectionsBy wordSections endsFrom allBelow widthsFit wordsFit wholeWords bytesFit grouped recordGroups addressGroups programBuffers lentFrom lentBy decimal hexadecimal termText numbersText termsText valueLine listLine termsLine numbersPart listsPart termsPart acceptedText columnText listing reply
+unfolding outcomeOf wordsIn wordsOf sectionsBy wordSections endsFrom allBelow widthsFit wordsFit wholeWords bytesFit grouped recordGroups addressGroups programBuffers lentFrom lentBy decimal hexadecimal termText numbersText termsText valueLine countedLine termsLine numbersPart listsPart termsPart acceptedText listing reply
 printed bytes = reply bytes
 
 -- n as k bytes, the lowest first
@@ -72,6 +72,10 @@ strange =
 number : ℕ → ℕ → List ℕ
 number required w = 2 ∷ 0 ∷ required ∷ 1 ∷ 1 ∷ 1 ∷ 1 ∷ 0 ∷ 0 ∷ 1 ∷ 0 ∷ 0 ∷ 0 ∷ 0 ∷ 1 ∷ w ∷ 0 ∷ 0 ∷ 0 ∷ 0 ∷ []
 
+-- addresses, Full, of so many rows; their words after the number of words
+streamed : ℕ → List ℕ → List ℕ
+streamed rows words = (2 ∷ 0 ∷ 255 ∷ 1 ∷ 6 ∷ 1 ∷ rows ∷ 0 ∷ 0 ∷ rows ∷ 0 ∷ 0 ∷ 0 ∷ 0 ∷ []) ++ (words ++ (0 ∷ 0 ∷ 0 ∷ 0 ∷ []))
+
 -- U64 kind 4, 4 rows, ids 1 3, offsets 0 2 3, values 7 8 9
 kinds : List ℕ
 kinds = 2 ∷ 0 ∷ 255 ∷ 1 ∷ 1 ∷ 4 ∷ 4 ∷ 2 ∷ 3 ∷ 3 ∷ 0 ∷ 0 ∷ 2 ∷ 1 ∷ 3 ∷ 3 ∷ 0 ∷ 2 ∷ 3 ∷ 3 ∷ 7 ∷ 8 ∷ 9 ∷ 0 ∷ 0 ∷ 0 ∷ 0 ∷ []
@@ -99,9 +103,9 @@ onlyRows n words s r =
 many : ℕ → List ℕ
 many n = (2 ∷ 0 ∷ 255 ∷ 257 ∷ []) ++ (concat (replicate 257 (255 ∷ 0 ∷ 0 ∷ 0 ∷ 0 ∷ 0 ∷ 0 ∷ 0 ∷ [])) ++ (0 ∷ 0 ∷ 0 ∷ 1 ∷ n ∷ 0 ∷ 0 ∷ 0 ∷ []))
 
--- type 6, of n rows and n values, all 0: 8 * (19 + n) bytes
+-- type 8, of n rows and n values, all 0: 8 * (19 + n) bytes
 long : ℕ → List ℕ
-long n = input (2 ∷ 0 ∷ 255 ∷ 1 ∷ 6 ∷ 1 ∷ n ∷ 0 ∷ 0 ∷ n ∷ 0 ∷ 0 ∷ 0 ∷ 0 ∷ n ∷ []) ++ replicate (8 * (n + 4)) 0
+long n = input (2 ∷ 0 ∷ 255 ∷ 1 ∷ 8 ∷ 1 ∷ n ∷ 0 ∷ 0 ∷ n ∷ 0 ∷ 0 ∷ 0 ∷ 0 ∷ n ∷ []) ++ replicate (8 * (n + 4)) 0
 
 -- ---- the table
 
@@ -119,7 +123,13 @@ replies =
     ∷ case (input (number 255 0xffffffffffffffff)) "answer 0\ntype 1\nclass 0\nrows 1\nids 0\noffsets 0\nvalues 1 18446744073709551615\nterms 0\nmaps 0\n"
     -- C11's refusal, and that of an unknown required type
     ∷ case (input (number 0 9223372036854775808)) "answer 10\n"
-    ∷ case (input (number 6 5)) "answer 3\n"
+    ∷ case (input (number 8 5)) "answer 3\n"
+    -- two addresses, each as its two words; the greatest high word; two addresses with a word too few; two in one row
+    ∷ case (input (streamed 2 (4 ∷ 1 ∷ 2 ∷ 3 ∷ 4 ∷ []))) "answer 0\ntype 6\nclass 0\nrows 2\nids 0\noffsets 0\nvalues 2 1 2 3 4\nterms 0\nmaps 0\n"
+    ∷ case (input (streamed 1 (2 ∷ 0xffffffffffffffff ∷ 0 ∷ []))) "answer 0\ntype 6\nclass 0\nrows 1\nids 0\noffsets 0\nvalues 1 18446744073709551615 0\nterms 0\nmaps 0\n"
+    ∷ case (input (streamed 2 (3 ∷ 1 ∷ 2 ∷ 3 ∷ []))) "answer 2\n"
+    ∷ case (input (2 ∷ 0 ∷ 255 ∷ 1 ∷ 6 ∷ 4 ∷ 2 ∷ 1 ∷ 2 ∷ 2 ∷ 0 ∷ 0 ∷ 1 ∷ 1 ∷ 2 ∷ 0 ∷ 2 ∷ 4 ∷ 3 ∷ 4 ∷ 1 ∷ 2 ∷ 0 ∷ 0 ∷ 0 ∷ 0 ∷ []))
+    "answer 0\ntype 6\nclass 2\nrows 2\nids 1 1\noffsets 2 0 2\nvalues 2 3 4 1 2\nterms 0\nmaps 0\n"
     -- kind 3, and the same row in kind 4
     ∷ case (input (upOffset 3 [] 1)) "answer 19\n"
     ∷ case (input (upOffset 4 (0 ∷ []) 1)) "answer 0\ntype 1\nclass 2\nrows 1\nids 1 0\noffsets 2 0 1\nvalues 1 5\nterms 0\nmaps 0\n"
@@ -172,7 +182,7 @@ replies =
     ∷ []
 
 replies-hold : map (λ c. printed (c .bytes)) replies ≡ map (λ c. c .text) replies
-unfolding printed bytesOf input case one two six strange number kinds both listed upOffset onlyRows many long replies
+unfolding printed bytesOf input case one two six strange number streamed kinds both listed upOffset onlyRows many long replies
 replies-hold = refl
 
 -- ---- what the program lends: 65,536 working bytes and 8,192 elements of each output list. An input of 65,536 bytes has fewer than 8,192 words beside

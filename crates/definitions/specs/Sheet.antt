@@ -3,7 +3,8 @@ use Prim.Native.Nat.{ℕ}
 use mathlib.Core.List.{List, [], _∷_, map}
 use lib.ListN.{length, take, replicate}
 use lib.Ieee.{ofInt, toBits}
-use Rattle.definitions.specs.Segment.{Segment, Address, aliveWords, firstSegment, afterFirst, segmentsOf, recordOf, sectionsOf, address as at}
+use Rattle.definitions.specs.Words.{wordsPerValue, valueWords, valuesIn}
+use Rattle.definitions.specs.Segment.{Segment, Address, aliveWords, recordWords, firstSegment, afterFirst, segmentsOf, recordOf, sectionsOf, address as at}
 use Rattle.definitions.specs.Row.{rowValues, bitAt, isAlive, aliveRows, isDropped, isHeld, heldOf, asEmpty, effective, noType}
 use Rattle.definitions.specs.Types.{isKnownType, isNumerical, hasTerms, sameCategory, hasType, everyValue, onlyType, numericalType, typeOf, signedOf, integerOf, doubleOf, coerced, isCoercible}
 use Rattle.definitions.specs.Class.{kindClass, aliveClass, classOf, greatestClass}
@@ -114,7 +115,7 @@ lending memory l =
 
 -- What a call gives and leaves. Every definition is opened here, once: what names this helper on its line opens them all
 unfoldable pub outcomeOf : Lent → Outcome
-unfolding ofInt toBits aliveWords firstSegment afterFirst segmentsOf recordOf sectionsOf rowValues bitAt isAlive aliveRows isDropped isHeld heldOf asEmpty effective isKnownType isNumerical hasTerms sameCategory hasType everyValue onlyType numericalType typeOf signedOf integerOf doubleOf coerced isCoercible kindClass aliveClass classOf greatestClass rowOrder isUsed keptTerms termsOf ordinalOf mapOf newWord cellOf encode joinedType joinedClass joinedCells joinedColumn joinRules tooManySegments lengthsWrong codesKnown noColumnIsBare segmentCodesWrong codesWrong someOld idsFit offsetsFit emptyFits fullFits optionalFits oldFits newFits listsFit listsWrong valuesFit valuesWrong bitPastRows aliveWrong sumsTooLarge workingTooSmall isAliveAt aliveAddresses listsAliveRows addressesWrong presentTypes oneCategory allCoercible typesWrong outputTooShort joinChecks answer spaceOf numbersOf refusedBuffers acceptedBuffers inputOf joinOutcome readBack lentTo
+unfolding ofInt toBits wordsPerValue valueWords valuesIn aliveWords recordWords firstSegment afterFirst segmentsOf recordOf sectionsOf rowValues bitAt isAlive aliveRows isDropped isHeld heldOf asEmpty effective isKnownType isNumerical hasTerms sameCategory hasType everyValue onlyType numericalType typeOf signedOf integerOf doubleOf coerced isCoercible kindClass aliveClass classOf greatestClass rowOrder isUsed keptTerms termsOf ordinalOf mapOf newWord cellOf encode joinedType joinedClass joinedCells joinedColumn joinRules tooManySegments lengthsWrong codesKnown noColumnIsBare segmentCodesWrong codesWrong someOld idsFit offsetsFit emptyFits fullFits optionalFits oldFits newFits listsFit listsWrong valuesFit valuesWrong bitPastRows aliveWrong sumsTooLarge workingTooSmall isAliveAt aliveAddresses listsAliveRows addressesWrong presentTypes oneCategory allCoercible typesWrong outputTooShort joinChecks answer spaceOf numbersOf refusedBuffers acceptedBuffers inputOf joinOutcome readBack lentTo
 outcomeOf l = joinOutcome l
 
 -- what a listing shows: the answer, and the column and the map as they stand in the outputs

@@ -92,14 +92,14 @@ answerCases =
     unsortedBy 1 (replicate 257 (withAlive [] (one 7 5))) 0
     ∷ sortedAs (replicate 256 (none 0)) []
     -- 2, and 3 after it
-    ∷ unsortedBy 2 (withAlive [] (one 6 5) ∷ []) 1
+    ∷ unsortedBy 2 (withAlive [] (one 8 5) ∷ []) 1
     -- 3: an unknown type; type 255 with a kind; 4 after it
-    ∷ unsortedBy 3 (one 6 5 ∷ []) 1
+    ∷ unsortedBy 3 (one 8 5 ∷ []) 1
     ∷ unsortedBy 3 (plain 255 1 0 [] [] [] [] ∷ []) 0
-    ∷ unsortedBy 3 (plain 6 1 2 [] [] (5 ∷ []) [] ∷ []) 2
+    ∷ unsortedBy 3 (plain 8 1 2 [] [] (5 ∷ []) [] ∷ []) 2
     -- 19: kind 3, in the second segment; 3 before it, in the second segment; 4 after it, in the first
     ∷ unsortedBy 19 (one 7 5 ∷ plain 7 3 1 [] (0 ∷ 1 ∷ []) (6 ∷ []) [] ∷ []) 2
-    ∷ unsortedBy 3 (plain 7 3 1 [] (0 ∷ 1 ∷ []) (6 ∷ []) [] ∷ one 6 5 ∷ []) 2
+    ∷ unsortedBy 3 (plain 7 3 1 [] (0 ∷ 1 ∷ []) (6 ∷ []) [] ∷ one 8 5 ∷ []) 2
     ∷ unsortedBy 19 (plain 7 1 2 [] [] (5 ∷ []) [] ∷ plain 7 3 1 [] (0 ∷ 1 ∷ []) (6 ∷ []) [] ∷ []) 3
     -- 4: too few values; 5 after it
     ∷ unsortedBy 4 (plain 5 1 2 [] [] (2 ∷ []) [] ∷ []) 2
@@ -127,6 +127,8 @@ timeChecks =
     -- another type, in the second segment, and of a column without values
     unsortedBy 12 (one 7 5 ∷ one 0 5 ∷ []) 2
     ∷ unsortedBy 12 (dropped 1 1 ∷ []) 1
+    ∷ unsortedBy 12 (one 7 5 ∷ one 6 5 ∷ []) 2
+    ∷ unsortedBy 12 (dropped 6 1 ∷ []) 1
     -- a row of several times, though they are equal; a withdrawn one
     ∷ unsortedBy 12 (plain 7 4 1 (0 ∷ []) (0 ∷ 2 ∷ []) (5 ∷ 5 ∷ []) [] ∷ []) 1
     ∷ unsortedBy 12 (withAlive (1 ∷ []) (plain 7 4 2 (0 ∷ 1 ∷ []) (0 ∷ 1 ∷ 3 ∷ []) (5 ∷ 6 ∷ 6 ∷ []) []) ∷ []) 1

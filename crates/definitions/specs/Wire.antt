@@ -27,7 +27,7 @@ wordsOf bytes = wordsIn (length bytes / 8) bytes
 
 -- ---- sections
 
--- how many words an element has: mode and required type, records, row ids, offsets, values, term lengths, term bytes, alive words, addresses
+-- how many words an element has: mode and required type, records, row ids, offsets, words of values, term lengths, term bytes, alive words, addresses
 abbrev pub elementWords : List ℕ
 elementWords = 1 ∷ recordWidth ∷ 1 ∷ 1 ∷ 1 ∷ 1 ∷ 1 ∷ 1 ∷ 2 ∷ []
 
@@ -93,7 +93,7 @@ recordGroups ss = grouped recordWidth (length (sectionAt ss 1) / recordWidth) (s
 unfoldable pub addressGroups : List (List ℕ) → List (List ℕ)
 addressGroups ss = grouped 2 (length (sectionAt ss 8) / 2) (sectionAt ss 8)
 
--- what the joining program lends: 65,536 working bytes and 8,192 elements of each output list, all zero
+-- what the joining program lends: 65,536 working bytes and 8,192 elements of each output list, of that of values as many words, all zero
 unfoldable pub programBuffers : Buffers
 programBuffers =
     record {

@@ -9,15 +9,15 @@ use lib.Seq.{drop-cons, drop-drop}
 use native.Mathlib.Nat.{add-sub-cancel-left}
 use Rattle.definitions.specs.Segment.{cut}
 use Rattle.definitions.proofs.Sections.{cut-length}
-use Rattle.definitions.specs.Listing.{decimal, numbersText, termText, termsText, hexadecimal, valueLine, listLine, termsLine, digit, newline, space, numbersPart, listsPart, termsPart, typeName, className, rowsName, idsName, offsetsName, valuesName, termsName, mapsName, answerName, acceptedText}
+use Rattle.definitions.specs.Listing.{decimal, numbersText, termText, termsText, hexadecimal, valueLine, countedLine, listLine, termsLine, digit, newline, space, numbersPart, listsPart, termsPart, typeName, className, rowsName, idsName, offsetsName, valuesName, termsName, mapsName, answerName, acceptedText}
 
 pub value-is : (name : List ℕ) (n : ℕ) → valueLine name n ≡ name ++ (decimal n ++ newline)
 unfolding valueLine
 value-is name n = refl
 
-pub list-is : (name ns : List ℕ) → listLine name ns ≡ name ++ (decimal (length ns) ++ (numbersText ns ++ newline))
-unfolding listLine
-list-is name ns = refl
+pub counted-is : (name : List ℕ) (n : ℕ) (ns : List ℕ) → countedLine name n ns ≡ name ++ (decimal n ++ (numbersText ns ++ newline))
+unfolding countedLine
+counted-is name n ns = refl
 
 pub numbers-step : (ns : List ℕ) (i x : ℕ) → i < length ns → x ≡ getD ns i 0 → numbersText (drop i ns) ≡ space ++ (decimal x ++ numbersText (drop (i + 1) ns))
 unfolding numbersText
@@ -64,15 +64,15 @@ pub numbers-part-is : (t c r : ℕ) → numbersPart t c r ≡ valueLine typeName
 unfolding numbersPart
 numbers-part-is t c r = refl
 
-pub lists-part-is : (ids offsets values : List ℕ) → listsPart ids offsets values ≡ listLine idsName ids ++ (listLine offsetsName offsets ++ listLine valuesName values)
+pub lists-part-is : (ids offsets : List ℕ) (n : ℕ) (words : List ℕ) → listsPart ids offsets n words ≡ listLine idsName ids ++ (listLine offsetsName offsets ++ countedLine valuesName n words)
 unfolding listsPart
-lists-part-is ids offsets values = refl
+lists-part-is ids offsets n words = refl
 
 pub terms-part-is : (ts : List (List ℕ)) (m : List ℕ) → termsPart ts m ≡ termsLine termsName ts ++ listLine mapsName m
 unfolding termsPart
 terms-part-is ts m = refl
 
-pub accepted-is : (t c r : ℕ) (ids offsets values : List ℕ) (ts : List (List ℕ)) (m : List ℕ)
-    → acceptedText t c r ids offsets values ts m ≡ valueLine answerName 0 ++ (numbersPart t c r ++ (listsPart ids offsets values ++ termsPart ts m))
+pub accepted-is : (t c r : ℕ) (ids offsets : List ℕ) (n : ℕ) (words : List ℕ) (ts : List (List ℕ)) (m : List ℕ)
+    → acceptedText t c r ids offsets n words ts m ≡ valueLine answerName 0 ++ (numbersPart t c r ++ (listsPart ids offsets n words ++ termsPart ts m))
 unfolding acceptedText
-accepted-is t c r ids offsets values ts m = refl
+accepted-is t c r ids offsets n words ts m = refl

@@ -2,19 +2,20 @@
 use mathlib.Core.Path.{_≡_, refl, sym, ap, _∙_, subst}
 use mathlib.Core.List.{List, [], _∷_, map}
 use mathlib.Core.Bool.{Bool, true, false, cond, not}
-use Prim.Native.Nat.{ℕ, _+_, _≤_}
+use Prim.Native.Nat.{ℕ, _+_, _*_, _≤_}
 use native.Mathlib.Omega.{arith}
 use borrow.Author.Tests.{not-true}
 use lib.Dec.{eqb}
 use lib.ListN.{length, take, drop, length-append, length-map, length-take}
 use lib.Seq.{take-at}
 use Rattle.definitions.specs.Lists.{sum, concat}
-use Rattle.definitions.specs.Segment.{cut}
+use Rattle.definitions.specs.Words.{wordsPerValue, valueWords}
+use Rattle.definitions.proofs.Words.{length-words}
 use Rattle.definitions.specs.Join.{Joined}
 use Rattle.definitions.specs.Answer.{answer, joinOf}
-use Rattle.definitions.specs.Outcome.{Buffers, Numbers, Answer, accepted, refused, written, numbersOf, refusedBuffers, acceptedBuffers, Lent, Outcome, inputOf, joinOutcome, readBack}
+use Rattle.definitions.specs.Outcome.{Buffers, Answer, accepted, refused, written, numbersOf, refusedBuffers, acceptedBuffers, Lent, Outcome, inputOf, joinOutcome}
 use Rattle.definitions.specs.Wire.{bytesFit, lentBy}
-use Rattle.definitions.specs.Listing.{valueLine, answerName, acceptedText, columnText, answerText, listing, reply}
+use Rattle.definitions.specs.Listing.{valueLine, answerName, answerText, listing, reply}
 use Rattle.listing.specs.Shown.{outputs, Announced, AnnouncedBy, Short}
 use Rattle.listing.proofs.Lengths.{value-length, listing-room}
 
@@ -39,7 +40,7 @@ column-readable j b =
     record {
       ids = written-room (j .column .ids) (b .ids);
       offsets = written-room (j .column .offsets) (b .offsets);
-      values = written-room (j .column .values) (b .values);
+      values = omega (arith, written-room (valueWords (j .column .type) (j .column .values)) (b .values), length-words (j .column .type) (j .column .values));
       terms = omega (arith, written-room (map length ts) (b .termLengths), length-map ts length);
       bytes = terms-room ts (b .termLengths) (b .termBytes);
       maps = written-room (j .map) (b .map);
@@ -59,7 +60,6 @@ outcome-readable l = go (eqb (answer (inputOf l)) 0)
 
 -- only the six lists are printed
 text-outputs : (b : Buffers) (a : Answer) → answerText (outputs (b .ids) (b .offsets) (b .values) (b .termLengths) (b .termBytes) (b .map)) a ≡ answerText b a
-unfolding columnText readBack
 text-outputs b (accepted n) = refl
 text-outputs b (refused k) = refl
 
@@ -72,23 +72,10 @@ short-take n l h = omega (arith, length-take n l)
 
 -- no answer's text is longer than the program's buffer
 pub text-room : (b : Buffers) (a : Answer) → Short b → length (answerText b a) ≤ 786432
-unfolding columnText readBack
 text-room b (accepted n) s =
-    listing-room (n .type) (n .class) (n .rows) (take (n .ids) (b .ids)) (take (n .offsets) (b .offsets)) (take (n .values) (b .values)) (take (n .terms) (b .termLengths)) (b .termBytes) (take (n .map) (b .map))
-    (short-take (n .ids) (b .ids) (s .ids)) (short-take (n .offsets) (b .offsets) (s .offsets)) (short-take (n .values) (b .values) (s .values)) (short-take (n .terms) (b .termLengths) (s .terms)) (s .bytes) (short-take (n .map) (b .map) (s .maps))
+    listing-room (n .type) (n .class) (n .rows) (take (n .ids) (b .ids)) (take (n .offsets) (b .offsets)) (n .values) (take (n .values * wordsPerValue (n .type)) (b .values)) (take (n .terms) (b .termLengths)) (b .termBytes) (take (n .map) (b .map))
+    (short-take (n .ids) (b .ids) (s .ids)) (short-take (n .offsets) (b .offsets) (s .offsets)) (short-take (n .values * wordsPerValue (n .type)) (b .values) (s .values)) (short-take (n .terms) (b .termLengths) (s .terms)) (s .bytes) (short-take (n .map) (b .map) (s .maps))
 text-room b (refused k) s = omega (arith, value-length answerName k)
-
--- an accepted column's text, as the code writes it
-module _ (n : Numbers) (b : Buffers) where
-  abbrev columnLines : List ℕ
-  columnLines = acceptedText (n .type) (n .class) (n .rows) (take (n .ids) (b .ids)) (take (n .offsets) (b .offsets)) (take (n .values) (b .values)) (cut (take (n .terms) (b .termLengths)) (b .termBytes)) (take (n .map) (b .map))
-
-  pub column-text : columnLines ≡ answerText b (accepted n)
-  unfolding columnText readBack
-  column-text = refl
-
-  pub column-room : (k : ℕ) → Short b → 786432 ≤ k → length columnLines ≤ k
-  column-room k s h = omega (arith, ap length column-text, text-room b (accepted n) s)
 
 -- ---- the reply
 

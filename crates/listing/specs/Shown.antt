@@ -1,8 +1,9 @@
 -- A column that stands in the output lists, as the printing code is lent them. Assumes nothing.
-use Prim.Native.Nat.{ℕ, _≤_}
+use Prim.Native.Nat.{ℕ, _*_, _≤_}
 use mathlib.Core.List.{List, []}
 use lib.ListN.{length, take}
 use Rattle.definitions.specs.Lists.{sum}
+use Rattle.definitions.specs.Words.{wordsPerValue}
 use Rattle.definitions.specs.Outcome.{Buffers, Numbers, Answer, accepted, refused}
 
 -- the six output lists; the working bytes are not printed
@@ -10,11 +11,11 @@ abbrev pub outputs : List ℕ → List ℕ → List ℕ → List ℕ → List �
 outputs ids offsets values lengths bytes maps =
     record { ids = ids; offsets = offsets; values = values; termLengths = lengths; termBytes = bytes; map = maps; working = [] }
 
--- what the numbers announce stands in the lists
+-- what the numbers announce stands in the lists, values in words
 pub record Announced (n : Numbers) (b : Buffers) : Type 0 where
   pub ids : n .ids ≤ length (b .ids)
   pub offsets : n .offsets ≤ length (b .offsets)
-  pub values : n .values ≤ length (b .values)
+  pub values : n .values * wordsPerValue (n .type) ≤ length (b .values)
   pub terms : n .terms ≤ length (b .termLengths)
   pub bytes : sum (take (n .terms) (b .termLengths)) ≤ length (b .termBytes)
   pub maps : n .map ≤ length (b .map)

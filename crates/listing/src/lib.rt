@@ -5,7 +5,7 @@ ghost use Prim.Native.Nat.{_<_, _≤_, _+_};
 ghost use lib.ListN.{length};
 ghost use Rattle.definitions.specs.Lists.{sum};
 ghost use Rattle.definitions.specs.Segment.{cut};
-ghost use Rattle.definitions.specs.Listing.{decimal as Listing·decimal, numbersText, termText, termsText, hexadecimal, valueLine, listLine, termsLine, numbersPart, listsPart, termsPart, answerName, acceptedText, digit as Listing·digit};
+ghost use Rattle.definitions.specs.Listing.{decimal as Listing·decimal, numbersText, termText, termsText, hexadecimal, valueLine, countedLine, listLine, termsLine, numbersPart, listsPart, termsPart, answerName, acceptedText, digit as Listing·digit};
 ghost use Rattle.runs.specs.Put.{put};
 
 // Copies vs to out from index at on, and answers the index after it.
@@ -92,13 +92,14 @@ fn put_list(name: &[u8], ns: &[u32], out: &mut [u8], at: usize) -> usize
     put_byte(10, out, e)
 }
 
-fn put_word_list(name: &[u8], ns: &[u64], out: &mut [u8], at: usize) -> usize
-    requires { ⌜ at + length (listLine (now name) (now ns)) ≤ length (now out) ⌝ }
-    ensures { λ r. ⌜ r ≡ at + length (listLine (now (name .entry)) (now (ns .entry))) ⌝ }
-    ensures { λ _. ⌜ now (out .exit) ≡ put at (listLine (now (name .entry)) (now (ns .entry))) (now (out .entry)) ⌝ }
+// The line of a name, a count of values and their words.
+fn put_word_list(name: &[u8], n: u64, ns: &[u64], out: &mut [u8], at: usize) -> usize
+    requires { ⌜ at + length (countedLine (now name) n (now ns)) ≤ length (now out) ⌝ }
+    ensures { λ r. ⌜ r ≡ at + length (countedLine (now (name .entry)) n (now (ns .entry))) ⌝ }
+    ensures { λ _. ⌜ now (out .exit) ≡ put at (countedLine (now (name .entry)) n (now (ns .entry))) (now (out .entry)) ⌝ }
 {
     let a = put_bytes(name, out, at);
-    let b = put_number(ns.len() as u64, out, a);
+    let b = put_number(n, out, a);
     let e = put_words(ns, out, b);
     put_byte(10, out, e)
 }
@@ -183,15 +184,22 @@ fn put_numbers_part(kind: u64, class: u64, rows: u64, out: &mut [u8], at: usize)
     put_value(b"rows ", rows, out, b)
 }
 
-// Row ids, offsets and values.
-fn put_lists_part(ids: &[u32], offsets: &[u32], values: &[u64], out: &mut [u8], at: usize) -> usize
-    requires { ⌜ at + length (listsPart (now ids) (now offsets) (now values)) ≤ length (now out) ⌝ }
-    ensures { λ r. ⌜ r ≡ at + length (listsPart (now (ids .entry)) (now (offsets .entry)) (now (values .entry))) ⌝ }
-    ensures { λ _. ⌜ now (out .exit) ≡ put at (listsPart (now (ids .entry)) (now (offsets .entry)) (now (values .entry))) (now (out .entry)) ⌝ }
+// Row ids, offsets and so many values, each as its words.
+fn put_lists_part(
+    ids: &[u32],
+    offsets: &[u32],
+    values: u64,
+    words: &[u64],
+    out: &mut [u8],
+    at: usize,
+) -> usize
+    requires { ⌜ at + length (listsPart (now ids) (now offsets) values (now words)) ≤ length (now out) ⌝ }
+    ensures { λ r. ⌜ r ≡ at + length (listsPart (now (ids .entry)) (now (offsets .entry)) values (now (words .entry))) ⌝ }
+    ensures { λ _. ⌜ now (out .exit) ≡ put at (listsPart (now (ids .entry)) (now (offsets .entry)) values (now (words .entry))) (now (out .entry)) ⌝ }
 {
     let a = put_list(b"ids ", ids, out, at);
     let b = put_list(b"offsets ", offsets, out, a);
-    put_word_list(b"values ", values, out, b)
+    put_word_list(b"values ", values, words, out, b)
 }
 
 // Terms and map.
@@ -221,19 +229,20 @@ pub fn put_accepted(
     rows: u64,
     ids: &[u32],
     offsets: &[u32],
-    values: &[u64],
+    values: u64,
+    words: &[u64],
     lengths: &[u32],
     bytes: &[u8],
     map: &[u32],
     out: &mut [u8],
 ) -> usize
     requires { ⌜ sum (now lengths) ≤ length (now bytes) ⌝ }
-    requires { ⌜ length (acceptedText kind class rows (now ids) (now offsets) (now values) (cut (now lengths) (now bytes)) (now map)) ≤ length (now out) ⌝ }
-    ensures { λ r. ⌜ r ≡ length (acceptedText kind class rows (now (ids .entry)) (now (offsets .entry)) (now (values .entry)) (cut (now (lengths .entry)) (now (bytes .entry))) (now (map .entry))) ⌝ }
-    ensures { λ _. ⌜ now (out .exit) ≡ put 0 (acceptedText kind class rows (now (ids .entry)) (now (offsets .entry)) (now (values .entry)) (cut (now (lengths .entry)) (now (bytes .entry))) (now (map .entry))) (now (out .entry)) ⌝ }
+    requires { ⌜ length (acceptedText kind class rows (now ids) (now offsets) values (now words) (cut (now lengths) (now bytes)) (now map)) ≤ length (now out) ⌝ }
+    ensures { λ r. ⌜ r ≡ length (acceptedText kind class rows (now (ids .entry)) (now (offsets .entry)) values (now (words .entry)) (cut (now (lengths .entry)) (now (bytes .entry))) (now (map .entry))) ⌝ }
+    ensures { λ _. ⌜ now (out .exit) ≡ put 0 (acceptedText kind class rows (now (ids .entry)) (now (offsets .entry)) values (now (words .entry)) (cut (now (lengths .entry)) (now (bytes .entry))) (now (map .entry))) (now (out .entry)) ⌝ }
 {
     let a = put_value(b"answer ", 0, out, 0);
     let b = put_numbers_part(kind, class, rows, out, a);
-    let e = put_lists_part(ids, offsets, values, out, b);
+    let e = put_lists_part(ids, offsets, values, words, out, b);
     put_terms_part(lengths, bytes, map, out, e)
 }

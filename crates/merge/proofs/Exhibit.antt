@@ -1,20 +1,21 @@
 -- Demand 3 on an example: four runs of `join` in turn, the first refused, and a fifth for the one join of their result. All that the theorem takes as given
 -- holds of them by computation, and with it what the theorem says. Assumes nothing.
-use Prim.Native.Nat.{ℕ, zero, suc}
+use Prim.Native.Nat.{ℕ, suc}
 use mathlib.Core.Path.{_≡_, refl}
 use mathlib.Core.List.{List, [], _∷_, map}
 use mathlib.Core.Bool.{Bool, true, false, cond}
 use native.Mathlib.Omega.{arith}
 use lib.ListN.{replicate}
 use lib.Dec.{eqb}
-use Rattle.definitions.specs.Segment.{Segment, Address, aliveWords, firstSegment, afterFirst, segmentsOf, recordOf, sectionsOf, address as at}
+use Rattle.definitions.specs.Words.{wordsPerValue, valueWords, valuesIn}
+use Rattle.definitions.specs.Segment.{Segment, Address, aliveWords, recordWords, firstSegment, afterFirst, segmentsOf, recordOf, sectionsOf, address as at}
 use Rattle.definitions.specs.Row.{rowValues, bitAt, isAlive, aliveRows, isDropped, isHeld, heldOf, asEmpty, effective}
 use Rattle.definitions.specs.Types.{isKnownType, isNumerical, hasTerms, sameCategory, hasType, everyValue, onlyType, numericalType, typeOf, coerced, isCoercible}
 use Rattle.definitions.specs.Class.{kindClass, aliveClass, classOf, greatestClass}
 use Rattle.definitions.specs.Join.{rowOrder, isUsed, keptTerms, termsOf, ordinalOf, mapOf, newWord, cellOf, encode, joinedType, joinedClass, joinedCells, joinedColumn, joinRules, kindOf, asSegment}
 use Rattle.definitions.specs.Answer.{tooManySegments, lengthsWrong, codesKnown, noColumnIsBare, segmentCodesWrong, codesWrong, someOld, idsFit, offsetsFit, emptyFits, fullFits, optionalFits, oldFits, newFits, listsFit, listsWrong, valuesFit, valuesWrong, bitPastRows, aliveWrong, sumsTooLarge, workingTooSmall, isAliveAt, aliveAddresses, listsAliveRows, addressesWrong, presentTypes, oneCategory, allCoercible, typesWrong, outputTooShort, joinChecks, answer}
 use Rattle.definitions.specs.Outcome.{Buffers, spaceOf, numbersOf, refusedBuffers, acceptedBuffers, inputOf, joinOutcome, readBack}
-use Rattle.definitions.specs.Book.{Call, first, result, Entry, lentTo, callLent, callOutcome, callAnswer, afterCall, firstEntry, oneJoin, joinedEntry, standingOf, bookAnswer, bookAfterCall, isSegment, requiredTypes, isUniform, IsSequenceOf, ResultStands, CallsOneJoin}
+use Rattle.definitions.specs.Book.{Call, first, Entry, lentTo, callLent, callOutcome, callAnswer, afterCall, firstEntry, oneJoin, joinedEntry, standingOf, bookAnswer, bookAfterCall, isSegment, requiredTypes, isUniform, IsSequenceOf, ResultStands, CallsOneJoin}
 use Rattle.merge_checked.specs.declared.Numbers.{Numbers}
 use Rattle.merge_checked.specs.declared.Answer.the-variants as A
 use Rattle.merge.specs.Whole.{numbersIn}
@@ -154,7 +155,7 @@ oneRun =
 
 -- what was lent is what the calls hand over, and each answer and all that was left are the definition's; every definition is opened here, once
 ran : RanFrom runs (map first weeks)
-unfolding kindOf asSegment lentTo callLent callOutcome callAnswer afterCall firstEntry oneJoin joinedEntry standingOf bookAnswer bookAfterCall isSegment requiredTypes isUniform aliveWords firstSegment afterFirst segmentsOf recordOf sectionsOf rowValues bitAt isAlive aliveRows isDropped isHeld heldOf asEmpty effective isKnownType isNumerical hasTerms sameCategory hasType everyValue onlyType numericalType typeOf coerced isCoercible kindClass aliveClass classOf greatestClass rowOrder isUsed keptTerms termsOf ordinalOf mapOf newWord cellOf encode joinedType joinedClass joinedCells joinedColumn joinRules tooManySegments lengthsWrong codesKnown noColumnIsBare segmentCodesWrong codesWrong someOld idsFit offsetsFit emptyFits fullFits optionalFits oldFits newFits listsFit listsWrong valuesFit valuesWrong bitPastRows aliveWrong sumsTooLarge workingTooSmall isAliveAt aliveAddresses listsAliveRows addressesWrong presentTypes oneCategory allCoercible typesWrong outputTooShort joinChecks answer spaceOf numbersOf refusedBuffers acceptedBuffers inputOf joinOutcome readBack
+unfolding kindOf asSegment lentTo callLent callOutcome callAnswer afterCall firstEntry oneJoin joinedEntry standingOf bookAnswer bookAfterCall isSegment requiredTypes isUniform wordsPerValue valueWords valuesIn aliveWords recordWords firstSegment afterFirst segmentsOf recordOf sectionsOf rowValues bitAt isAlive aliveRows isDropped isHeld heldOf asEmpty effective isKnownType isNumerical hasTerms sameCategory hasType everyValue onlyType numericalType typeOf coerced isCoercible kindClass aliveClass classOf greatestClass rowOrder isUsed keptTerms termsOf ordinalOf mapOf newWord cellOf encode joinedType joinedClass joinedCells joinedColumn joinRules tooManySegments lengthsWrong codesKnown noColumnIsBare segmentCodesWrong codesWrong someOld idsFit offsetsFit emptyFits fullFits optionalFits oldFits newFits listsFit listsWrong valuesFit valuesWrong bitPastRows aliveWrong sumsTooLarge workingTooSmall isAliveAt aliveAddresses listsAliveRows addressesWrong presentTypes oneCategory allCoercible typesWrong outputTooShort joinChecks answer spaceOf numbersOf refusedBuffers acceptedBuffers inputOf joinOutcome readBack
 ran = (record { laid = refl; kept = refl }, (record { laid = refl; kept = refl }, (record { laid = refl; kept = refl }, (record { laid = refl; kept = refl }, tt))))
 
 one-ran : Ran oneRun (map first weeks)

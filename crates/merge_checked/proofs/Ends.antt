@@ -7,6 +7,7 @@ use mathlib.Core.Bool.{Bool, true, false, not, cond, _||_, false≢true}
 use lib.ListN.{length}
 use lib.Dec.{eqb, ltb}
 use borrow.Author.Tests.{ltb-false}
+use Rattle.definitions.specs.Words.{valueWords}
 use Rattle.definitions.specs.Segment.{Segment, segmentsOf}
 use Rattle.definitions.specs.Lists.{filter}
 use Rattle.definitions.specs.Row.{isHeld, heldOf}
@@ -14,8 +15,10 @@ use Rattle.definitions.specs.Join.{Column, rowOrder, encode, termsOf, mapOf, jo
 use Rattle.definitions.specs.Answer.{answer, sumOver, termsIn, bytesIn, typesWrong, outputTooShort}
 use Rattle.definitions.specs.Outcome as Outcome
 use Rattle.definitions.specs.Outcome.{Buffers, Lent, accepted, refused, spaceOf, inputOf, numbersOf, refusedBuffers, acceptedBuffers, joinOutcome, lentOf}
+use Rattle.definitions.proofs.Words.{AllWords}
 use Rattle.runs.specs.Put.{put, putIf}
 use Rattle.stands.specs.Width.{idsOf, totalsOf}
+use Rattle.merge_column.proofs.Map.{alike}
 use Rattle.merge_column.proofs.Joined.{mapped, filling, ids-are, offsets-are, values-are}
 use Rattle.merge_column.specs.declared.Shape.{Shape}
 use Rattle.merge_column.specs.declared.Plan.{Plan}
@@ -141,7 +144,7 @@ module _ {mode required : ℕ} {records : List (List ℕ)} {ids offsets values l
     c = chosen (typesWrong required ss) (outputTooShort (inputOf l)) x (shape p r) (sym q ∙ e ∙ plan-is p r b)
 
     room : Six (length outIds) (length outOffsets) (length outValues) (length lens) (length outs) (length ords)
-        (length (col .ids)) (length (col .offsets)) (length (col .values)) (sumOver termsIn (heldOf ss)) (sumOver bytesIn (heldOf ss)) (sumOver termsIn (heldOf ss))
+        (length (col .ids)) (length (col .offsets)) (length (valueWords (col .type) (col .values))) (sumOver termsIn (heldOf ss)) (sumOver bytesIn (heldOf ss)) (sumOver termsIn (heldOf ss))
     unfolding outputTooShort inputOf spaceOf segmentsOf joinRules
     room = six _ _ _ _ _ _ _ _ _ _ _ _ (c .short)
 
@@ -160,7 +163,7 @@ module _ {mode required : ℕ} {records : List (List ℕ)} {ids offsets values l
         }
 
     -- ---- after the dictionary
-    module _ {n m k : ℕ} {lens′ outs′ ords′ : List ℕ} (g : Dictionary stands lengths bytes (marksOf mode stands ids offsets values words lengths) (eqb mode 0) lens outs ords n m k lens′ outs′ ords′) where
+    module _ (all : AllWords values) {n m k : ℕ} {lens′ outs′ ords′ : List ℕ} (g : Dictionary stands lengths bytes (marksOf mode stands ids offsets values words lengths) (eqb mode 0) lens outs ords n m k lens′ outs′ ords′) where
       d : Merged (termsOf ss) (mapOf ss) lens outs ords n m k lens′ outs′ ords′
       d = joins (table p r) mode (alone p) g
 
@@ -171,7 +174,7 @@ module _ {mode required : ℕ} {records : List (List ℕ)} {ids offsets values l
       unfolding shape
       rows-given =
           subst (λ (s : Shape). Filling mode (s .class) (s .typ) addresses stands ids offsets values ords′ outIds outOffsets outValues) (sym (c .is))
-          (filling (table p r) (rows p r) required map-stands outIds outOffsets outValues (room .ids) (room .offsets) (room .values))
+          (filling (table p r) (rows p r) required map-stands all (alike required ss (c .types)) outIds outOffsets outValues (room .ids) (room .offsets) (room .values))
 
       pub accepted-end : (ids′ offsets′ values′ work′ : List ℕ)
           → ids′ ≡ putIf (not (eqb (x .class) 0)) 0 (idsOf 0 (widthsFor mode addresses stands ids offsets)) outIds
@@ -207,9 +210,9 @@ module _ {mode required : ℕ} {records : List (List ℕ)} {ids offsets values l
                 });
             buffers =
                 buffersOf
-                ((ei ∙ ap (λ (s : Shape). putIf (not (eqb (s .class) 0)) 0 (idsOf 0 (widthsFor mode addresses stands ids offsets)) outIds) (c .is) ∙ ids-are (table p r) (rows p r) required map-stands outIds) j)
-                ((eo ∙ ap (λ (s : Shape). putIf (eqb (s .class) 2) 0 (0 ∷ totalsOf 0 (widthsFor mode addresses stands ids offsets)) outOffsets) (c .is) ∙ offsets-are (table p r) (rows p r) required map-stands outOffsets) j)
-                ((ev ∙ ap (λ (s : Shape). put 0 (joinedWords mode (s .typ) addresses stands ids offsets values ords′) outValues) (c .is) ∙ values-are (table p r) (rows p r) required map-stands outValues) j)
+                ((ei ∙ ap (λ (s : Shape). putIf (not (eqb (s .class) 0)) 0 (idsOf 0 (widthsFor mode addresses stands ids offsets)) outIds) (c .is) ∙ ids-are (table p r) (rows p r) required outIds) j)
+                ((eo ∙ ap (λ (s : Shape). putIf (eqb (s .class) 2) 0 (0 ∷ totalsOf 0 (widthsFor mode addresses stands ids offsets)) outOffsets) (c .is) ∙ offsets-are (table p r) (rows p r) required outOffsets) j)
+                ((ev ∙ ap (λ (s : Shape). put 0 (joinedWords mode (s .typ) addresses stands ids offsets values ords′) outValues) (c .is) ∙ values-are (table p r) (rows p r) required map-stands all (alike required ss (c .types)) outValues) j)
                 (d .lengths-out j)
                 (d .texts-out j)
                 (d .map-out j)

@@ -1,5 +1,5 @@
 -- What `measure` says of an input that has passed the checks up to 9: 10, 11, or the joined column's own numbers. Assumes nothing.
-use Prim.Native.Nat.{ℕ, _+_, _≤_, _<_}
+use Prim.Native.Nat.{ℕ, _+_, _*_, _≤_, _<_}
 use native.Mathlib.Omega.{arith}
 use mathlib.Core.Path.{_≡_, refl, sym, ap, ap₂, _∙_, subst}
 use mathlib.Core.List.{List, [], _∷_, _++_, map}
@@ -8,16 +8,20 @@ use lib.ListN.{length, getD, take, drop, length-map, length-append}
 use lib.Dec.{eqb, ltb}
 use lib.Seq.{take-at, length-take-le}
 use Rattle.definitions.specs.Lists.{sum, concat}
+use Rattle.definitions.specs.Words.{wordsPerValue, valueWords, valuesIn}
 use Rattle.definitions.specs.Segment.{Segment, Input, segmentsOf}
 use Rattle.definitions.specs.Row.{noType, heldOf}
 use Rattle.definitions.specs.Join.{Column, absent, stackedFrom, rowOrder, cellAt, termsOf, ordinalOf, mapOf, joinedType, joinedClass, joinedCells, encode, joinedColumn, joinRules}
 use Rattle.definitions.specs.Answer.{sumOver, termsIn, bytesIn, typesWrong, outputTooShort}
 use Rattle.definitions.specs.Outcome.{Buffers, spaceOf, inputOf, lentOf}
 use Rattle.definitions.proofs.Group.{effective-held}
+use Rattle.definitions.proofs.Words.{length-words}
 use Rattle.segment.specs.Records.{segmentsIn}
 use Rattle.segment.specs.Lent.{addressesOf}
 use Rattle.lists.proofs.Numbers.{not-ltb}
 use Rattle.stands.specs.Width.{idsOf}
+use Rattle.stands.specs.Stand.{standAt}
+use Rattle.stands.specs.Look.{valuesAt}
 use Rattle.census.specs.declared.Tally.{Tally}
 use Rattle.census.specs.Settled.{noTally, tallyFrom}
 use Rattle.census.specs.Table.{Table}
@@ -115,7 +119,7 @@ module _ {mode required : ℕ} {records : List (List ℕ)} {ids offsets values l
         many = table .size;
         type = table .type;
         held = table .held;
-        values-are = λ k h e. table .each k h .values-are ∙ ap (λ (s : Segment). s .values) (effective-held (getD ss k absent) e);
+        values-are = λ k h e. subst (λ (s : Segment). valuesIn (s .type) (valuesAt (standAt stands k) values) ≡ s .values) (effective-held (getD ss k absent) e) (table .each k h .values-are);
       })
 
   sums : Tallied tally ss
@@ -139,6 +143,9 @@ module _ {mode required : ℕ} {records : List (List ℕ)} {ids offsets values l
       let f = few-values table rows required in
       omega (arith, counts .0)
 
+  pub values-low : tally .values ≤ 4294967294
+  values-low = let a = few-values table rows required in omega (arith, values-are)
+
   class-is : classFor (joinedType required ss) (tally .class) ≡ joinedClass required ss
   unfolding classFor joinedClass
   class-is = ap (λ (n : ℕ). cond (eqb (joinedType required ss) noType) 0 n) (sums .class)
@@ -151,6 +158,10 @@ module _ {mode required : ℕ} {records : List (List ℕ)} {ids offsets values l
       go true = sums .rows ∙ sym (length-map (stackedFrom 0 ss) _ ∙ stacked-length 0 ss)
       go false = sym (length-map (addressesOf addresses) _ ∙ length-map addresses _)
 
+  words-number : tally .values * wordsPerValue (joinedType required ss) ≡ length (valueWords (col .type) (col .values))
+  unfolding joinedColumn encode
+  words-number = ap (λ (n : ℕ). n * wordsPerValue (joinedType required ss)) values-are ∙ sym (length-words (joinedType required ss) (col .values))
+
   -- the joined column's own numbers
   unfoldable pub shape : Shape
   shape =
@@ -161,6 +172,7 @@ module _ {mode required : ℕ} {records : List (List ℕ)} {ids offsets values l
         ids = length (col .ids);
         offsets = length (col .offsets);
         values = length (col .values);
+        words = length (valueWords (col .type) (col .values));
         map = sumOver termsIn (heldOf ss);
       }
 
@@ -176,6 +188,7 @@ module _ {mode required : ℕ} {records : List (List ℕ)} {ids offsets values l
         ids = ((λ i. idsFor (class-is i) (counts .0 i)) ∙ ids-number table rows required) j;
         offsets = ((λ i. offsetsFor (class-is i) (counts .0 i)) ∙ offsets-number table rows required) j;
         values = values-are j;
+        words = words-number j;
         map = sums .terms j;
       }
 
@@ -200,11 +213,11 @@ module _ {mode required : ℕ} {records : List (List ℕ)} {ids offsets values l
         ap (λ (x : Bool).
         cond (ltb (length (b .ids)) (length (col .ids))) false
         (cond (ltb (length (b .offsets)) (length (col .offsets))) false
-        (cond (ltb (length (b .values)) (length (col .values))) false
+        (cond (ltb (length (b .values)) (length (valueWords (col .type) (col .values)))) false
         (cond (ltb (length (b .termLengths)) (sumOver termsIn (heldOf ss))) false
         (cond (ltb (length (b .termBytes)) (sumOver bytesIn (heldOf ss))) false x)))))
         (sym (not-ltb (sumOver termsIn (heldOf ss)) (length (b .map))))
-        ∙ six-or (ltb (length (b .ids)) (length (col .ids))) (ltb (length (b .offsets)) (length (col .offsets))) (ltb (length (b .values)) (length (col .values)))
+        ∙ six-or (ltb (length (b .ids)) (length (col .ids))) (ltb (length (b .offsets)) (length (col .offsets))) (ltb (length (b .values)) (length (valueWords (col .type) (col .values))))
         (ltb (length (b .termLengths)) (sumOver termsIn (heldOf ss))) (ltb (length (b .termBytes)) (sumOver bytesIn (heldOf ss))) (ltb (length (b .map)) (sumOver termsIn (heldOf ss)))
 
     pub plan-is : planFor mode required stands values (length addresses) tally space

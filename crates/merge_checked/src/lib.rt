@@ -3,7 +3,7 @@ ghost use mathlib.Core.Path.{_≡_};
 ghost use Rattle.definitions.specs.Outcome.{lentOf, joinOutcome};
 ghost use Rattle.merge_checked.specs.Call.{outcomeOf, buffersOf, AfterNine};
 
-// What comes with acceptance: type, class and rows, the number of elements of each list, and how many term bytes were copied.
+// What comes with acceptance: type, class and rows, the number of elements of each list, an address being one, and how many term bytes were copied.
 pub struct Numbers {
     pub typ: u32,
     pub class: u32,

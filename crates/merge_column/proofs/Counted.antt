@@ -20,7 +20,7 @@ use Rattle.stands.specs.Width.{idPart, idsOf}
 use Rattle.stands.specs.Stack.{segmentWidths, stackedWidths}
 use Rattle.stands.specs.declared.Stand.{Stand}
 use Rattle.stands.specs.Stand.{standOf, standAt}
-use Rattle.stands.specs.Look.{wordsAt, widthIn, widths}
+use Rattle.stands.specs.Look.{aliveSetAt, widthIn, widths}
 use Rattle.census.specs.Census.{aliveWidth, countedIn, countedAll}
 use Rattle.census.specs.Table.{Table}
 use Rattle.census.proofs.Rows.{countOf, count-nil, count-cons, count-is, counted-stacked}
@@ -124,8 +124,8 @@ module _ {stands : List (List ℕ)} {ids offsets values lengths bytes words : Li
           rows : standAt stands k .rows ≡ getD ss k absent .rows
           rows = t .each k l .rows ∙ effective-rows (getD ss k absent)
 
-          set : wordsAt (standAt stands k) words ≡ getD ss k absent .alive
-          set = t .each k l .words-are ∙ effective-alive (getD ss k absent)
+          set : aliveSetAt (standAt stands k) words ≡ getD ss k absent .alive
+          set = t .each k l .alive-are ∙ effective-alive (getD ss k absent)
 
           flag : eqb (standAt stands k .flag) 1 ≡ hasAliveSet (getD ss k absent)
           flag = ap (λ (n : ℕ). eqb n 1) (t .each k l .flag ∙ effective-flag (getD ss k absent))
@@ -139,19 +139,19 @@ module _ {stands : List (List ℕ)} {ids offsets values lengths bytes words : Li
 
           go : (b : Bool) → hasAliveSet (getD ss k absent) ≡ b
               → sum (map (λ r. h (address k r)) (upTo (getD ss k absent .rows)))
-              ≡ sum (map φ (cond (eqb (standAt stands k .flag) 1) (map (aliveWidth (standAt stands k) ids offsets (wordsAt (standAt stands k) words)) (upFrom 0 (standAt stands k .rows))) (map (widthIn (standAt stands k) ids offsets) (upTo (standAt stands k .rows)))))
+              ≡ sum (map φ (cond (eqb (standAt stands k .flag) 1) (map (aliveWidth (standAt stands k) ids offsets (aliveSetAt (standAt stands k) words)) (upFrom 0 (standAt stands k .rows))) (map (widthIn (standAt stands k) ids offsets) (upTo (standAt stands k .rows)))))
           go true e =
               sum-same (λ r. h (address k r)) (λ r. φ (cond (bitAt (getD ss k absent .alive) r) (widthIn (standAt stands k) ids offsets r) 0)) 0 (getD ss k absent .rows)
               (λ r m. living r m ∙ ap (λ (b : Bool). cond (cond b (bitAt (getD ss k absent .alive) r) true) (φ (widthIn (standAt stands k) ids offsets r)) 0) e ∙ dead (bitAt (getD ss k absent .alive) r) (widthIn (standAt stands k) ids offsets r))
               ∙ sym (ap sum (map-map φ (λ r. cond (bitAt (getD ss k absent .alive) r) (widthIn (standAt stands k) ids offsets r) 0) (upFrom 0 (getD ss k absent .rows))))
               ∙ sym (ap₂ (λ (ws : List ℕ) (n : ℕ). sum (map φ (map (λ r. cond (bitAt ws r) (widthIn (standAt stands k) ids offsets r) 0) (upFrom 0 n)))) set rows)
-              ∙ sym (ap (λ (b : Bool). sum (map φ (cond b (map (aliveWidth (standAt stands k) ids offsets (wordsAt (standAt stands k) words)) (upFrom 0 (standAt stands k .rows))) (map (widthIn (standAt stands k) ids offsets) (upTo (standAt stands k .rows)))))) (flag ∙ e))
+              ∙ sym (ap (λ (b : Bool). sum (map φ (cond b (map (aliveWidth (standAt stands k) ids offsets (aliveSetAt (standAt stands k) words)) (upFrom 0 (standAt stands k .rows))) (map (widthIn (standAt stands k) ids offsets) (upTo (standAt stands k .rows)))))) (flag ∙ e))
           go false e =
               sum-same (λ r. h (address k r)) (λ r. φ (widthIn (standAt stands k) ids offsets r)) 0 (getD ss k absent .rows)
               (λ r m. living r m ∙ ap (λ (b : Bool). cond (cond b (bitAt (getD ss k absent .alive) r) true) (φ (widthIn (standAt stands k) ids offsets r)) 0) e)
               ∙ sym (ap sum (map-map φ (widthIn (standAt stands k) ids offsets) (upFrom 0 (getD ss k absent .rows))))
               ∙ sym (ap (λ (n : ℕ). sum (map φ (map (widthIn (standAt stands k) ids offsets) (upFrom 0 n)))) rows)
-              ∙ sym (ap (λ (b : Bool). sum (map φ (cond b (map (aliveWidth (standAt stands k) ids offsets (wordsAt (standAt stands k) words)) (upFrom 0 (standAt stands k .rows))) (map (widthIn (standAt stands k) ids offsets) (upTo (standAt stands k .rows)))))) (flag ∙ e))
+              ∙ sym (ap (λ (b : Bool). sum (map φ (cond b (map (aliveWidth (standAt stands k) ids offsets (aliveSetAt (standAt stands k) words)) (upFrom 0 (standAt stands k .rows))) (map (widthIn (standAt stands k) ids offsets) (upTo (standAt stands k .rows)))))) (flag ∙ e))
 
       same : sum (map φ (widths stands ids offsets addresses)) ≡ sum (map φ (countedAll stands ids offsets words))
       same =

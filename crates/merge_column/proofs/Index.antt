@@ -20,7 +20,7 @@ use Rattle.stands.specs.Stand.{standAt}
 use Rattle.stands.specs.Look.{Stands, widthIn, widths, addressed, rowOf, Inside}
 use Rattle.stands.specs.Stack.{segmentWidths, stackedWidths, allRows}
 use Rattle.stands.proofs.Bulk.{seg-sum}
-use Rattle.stands.proofs.Bridge.{count-stands, inside-stands, width-stands, sound-stands}
+use Rattle.stands.proofs.Bridge.{inside-stands, width-stands, sound-stands}
 use Rattle.census.specs.Table.{Table}
 use Rattle.lists.proofs.Distinct.{sum-distinct}
 use Rattle.definitions.proofs.Lists.{and3, up-length}
@@ -152,7 +152,7 @@ module _ {stands : List (List ℕ)} {ids offsets values lengths bytes words : Li
       let b : n < length ss = omega arith in
       let st = there n b in
       let p = seg-sum (sound-stands (st .0) (st .1)) in
-      let q = count-stands (st .0) in
+      let q = st .0 .count in
       let r = fewer-values (getD ss n absent) in
       let z = values-from m (suc n) (omega arith) in
       let x : sum (stackedWidths (drop n stands) ids offsets) ≡ sum (segmentWidths (standAt stands n) ids offsets) + sum (stackedWidths (drop (suc n) stands) ids offsets)

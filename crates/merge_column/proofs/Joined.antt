@@ -9,14 +9,15 @@ use lib.Seq.{take-at}
 use lib.Dec.{T, eqb}
 use borrow.Author.Tests.{eqb-true, eqb-false}
 use Rattle.definitions.specs.Lists.{sum, concat}
+use Rattle.definitions.specs.Words.{valueWords}
 use Rattle.definitions.specs.Segment.{Segment, Address}
 use Rattle.definitions.specs.Row.{hasAliveSet}
 use Rattle.definitions.specs.Join.{Column, absent, mapOf, stackedFrom, rowOrder, idsFrom, totalsFrom, encode, joinedType, joinedClass, joinedCells, joinedColumn}
 use Rattle.definitions.specs.Answer.{listsAliveRows}
 use Rattle.definitions.specs.Outcome.{written}
 use Rattle.definitions.proofs.Lists.{length-concat}
+use Rattle.definitions.proofs.Words.{AllWords}
 use Rattle.runs.specs.Put.{put, putIf, RoomIf}
-use Rattle.lists.proofs.Tests.{past-code}
 use Rattle.runs.proofs.Written.{put-written}
 use Rattle.segment.specs.Lent.{addressesOf}
 use Rattle.stands.specs.Width.{idsOf, totalsOf}
@@ -32,6 +33,7 @@ use Rattle.column_index_shuffled.specs.Order.{orderedWords, Ordered}
 use Rattle.merge_column.specs.Mapped.{Mapped}
 use Rattle.merge_column.specs.Plan.{widthsFor, joinedWords, idsFor, offsetsFor, Filling}
 use Rattle.merge_column.proofs.Index.{there, stacked-widths, ordered-widths, stacked-rows-fit, stacked-values-fit, ordered-rows-fit, ordered-fewer, ordered-inside}
+use Rattle.merge_column.proofs.Map.{Alike}
 use Rattle.merge_column.proofs.Values.{stacked-words, all-worded, ordered-words, ordered-worded}
 use Rattle.merge_column.proofs.Counted.{all-counted, values-same, listed-same}
 
@@ -176,15 +178,15 @@ module _ {stands : List (List ℕ)} {ids offsets values lengths bytes words : Li
 
   -- ---- the fills
 
-  module _ {map′ : List ℕ} (m : Mapped map′ ss) where
-    words-are : joinedWords mode (joinedType required ss) addresses stands ids offsets values map′ ≡ col .values
+  module _ {map′ : List ℕ} (m : Mapped map′ ss) (all : AllWords values) (a : Alike (joinedType required ss) ss) where
+    alive-are : joinedWords mode (joinedType required ss) addresses stands ids offsets values map′ ≡ valueWords (col .type) (col .values)
     unfolding joinedWords rowOrder joinedColumn encode
-    words-are = go (eqb mode 0) refl
+    alive-are = go (eqb mode 0) refl
       where
         go : (b : Bool) → eqb mode 0 ≡ b → cond b (stackedWords (joinedType required ss) stands values map′) (orderedWords (joinedType required ss) stands ids offsets values map′ addresses)
-            ≡ concat (joinedCells required ss (cond b (stackedFrom 0 ss) (addressesOf addresses)))
-        go true e = stacked-words t m required
-        go false e = ordered-words t m addresses (r .order (eqb-false mode 0 e)) required
+            ≡ valueWords (joinedType required ss) (concat (joinedCells required ss (cond b (stackedFrom 0 ss) (addressesOf addresses))))
+        go true e = stacked-words t m all required a
+        go false e = ordered-words t m all required a addresses (r .order (eqb-false mode 0 e))
 
     stacked-given : Stacked stands ids offsets values map′
     stacked-given =
@@ -195,41 +197,33 @@ module _ {stands : List (List ℕ)} {ids offsets values lengths bytes words : Li
           count = let a = stacked-values-fit t in omega arith;
         }
 
-    ordered-given : T (listsAliveRows ss (addressesOf addresses)) → length (orderedWords (joinedType required ss) stands ids offsets values map′ addresses) ≤ 4294967294 → Ordered (joinedType required ss) addresses stands ids offsets values map′
-    ordered-given o few =
+    ordered-given : T (listsAliveRows ss (addressesOf addresses)) → Ordered addresses stands ids offsets values map′
+    ordered-given o =
         record {
           rows = let a = ordered-rows-fit t addresses o in omega arith;
-          count = omega arith;
+          count = let a = ordered-fewer t addresses o required in let b = stacked-values-fit t in omega arith;
           each = λ k h. let p = ordered-inside t addresses o k h in (p .0, p .1, ordered-worded t m addresses o k h);
         }
 
-    pub filling : (outIds outOffsets outValues : List ℕ) → length (col .ids) ≤ length outIds → length (col .offsets) ≤ length outOffsets → length (col .values) ≤ length outValues
+    pub filling : (outIds outOffsets outValues : List ℕ) → length (col .ids) ≤ length outIds → length (col .offsets) ≤ length outOffsets → length (valueWords (col .type) (col .values)) ≤ length outValues
         → Filling mode (joinedClass required ss) (joinedType required ss) addresses stands ids offsets values map′ outIds outOffsets outValues
     unfolding joinedColumn encode joinedWords
     filling outIds outOffsets outValues hi ho hv =
         record {
           stacked = λ e. stacked-given;
-          ordered = λ n. ordered-given (r .order n) (few n);
+          ordered = λ n. ordered-given (r .order n);
           ids-room = room-ids (joinedClass required ss) ws cells widths-are (length outIds) hi;
           offsets-room = room-offsets (joinedClass required ss) ws cells widths-are (length outOffsets) ho;
-          values-room = subst (λ (l : List ℕ). length l ≤ length outValues) (sym words-are) hv;
+          values-room = subst (λ (l : List ℕ). length l ≤ length outValues) (sym alive-are) hv;
         }
-      where
-        few : (mode ≡ 0 → ⊥) → length (orderedWords (joinedType required ss) stands ids offsets values map′ addresses) ≤ 4294967294
-        few n =
-            let a = few-widths in
-            let b : length (col .values) ≡ sum ws = count-values 0 ws cells widths-are in
-            let d = ap length words-are in
-            let e = ap length (past-code mode 0 (stackedWords (joinedType required ss) stands values map′) (orderedWords (joinedType required ss) stands ids offsets values map′ addresses) n) in
-            omega arith
 
-    pub ids-are : (old : List ℕ) → putIf (not (eqb (joinedClass required ss) 0)) 0 (idsOf 0 ws) old ≡ written (col .ids) old
-    unfolding joinedColumn encode
-    ids-are old = wrote-ids (joinedClass required ss) ws cells widths-are old
+    pub values-are : (old : List ℕ) → put 0 (joinedWords mode (joinedType required ss) addresses stands ids offsets values map′) old ≡ written (valueWords (col .type) (col .values)) old
+    values-are old = ap (λ (l : List ℕ). put 0 l old) alive-are ∙ put-written (valueWords (col .type) (col .values)) old
 
-    pub offsets-are : (old : List ℕ) → putIf (eqb (joinedClass required ss) 2) 0 (0 ∷ totalsOf 0 ws) old ≡ written (col .offsets) old
-    unfolding joinedColumn encode
-    offsets-are old = wrote-offsets (joinedClass required ss) ws cells widths-are old
+  pub ids-are : (old : List ℕ) → putIf (not (eqb (joinedClass required ss) 0)) 0 (idsOf 0 ws) old ≡ written (col .ids) old
+  unfolding joinedColumn encode
+  ids-are old = wrote-ids (joinedClass required ss) ws cells widths-are old
 
-    pub values-are : (old : List ℕ) → put 0 (joinedWords mode (joinedType required ss) addresses stands ids offsets values map′) old ≡ written (col .values) old
-    values-are old = ap (λ (l : List ℕ). put 0 l old) words-are ∙ put-written (col .values) old
+  pub offsets-are : (old : List ℕ) → putIf (eqb (joinedClass required ss) 2) 0 (0 ∷ totalsOf 0 ws) old ≡ written (col .offsets) old
+  unfolding joinedColumn encode
+  offsets-are old = wrote-offsets (joinedClass required ss) ws cells widths-are old

@@ -1,5 +1,5 @@
 -- The laws of the parts: one choice by a code, counts, room, and the shape. Assumes nothing.
-use Prim.Native.Nat.{ℕ, suc, _+_, _≤_}
+use Prim.Native.Nat.{ℕ, suc, _+_, _*_, _≤_}
 use native.Mathlib.Omega.{arith}
 use mathlib.Core.Path.{_≡_, refl, sym, ap, _∙_}
 use mathlib.Core.List.{List, _∷_}
@@ -7,6 +7,7 @@ use mathlib.Core.Bool.{Bool, true, false, not, cond}
 use lib.ListN.{length, replicate}
 use lib.Dec.{eqb}
 use borrow.Author.Tests.{not-true, not-false}
+use Rattle.definitions.specs.Words.{wordsPerValue}
 use Rattle.runs.specs.Put.{put, putIf, RoomIf}
 use Rattle.stands.specs.Width.{idsOf, totalsOf}
 use Rattle.runs.proofs.Laws.{put-whole}
@@ -83,9 +84,9 @@ module _ {mode class to : ℕ} {addresses stands : List (List ℕ)} {ids offsets
 
 -- ---- the shape
 
-module _ (typ rows : ℕ) (t : Tally) (space : Space) {class ids offsets : ℕ} (ce : class ≡ classFor typ (t .class)) (ie : ids ≡ cond (eqb class 0) 0 (t .listed)) (oe : offsets ≡ offsetsFor class (t .listed)) where
+module _ (typ rows : ℕ) (t : Tally) (space : Space) {class ids offsets : ℕ} (ce : class ≡ classFor typ (t .class)) (ie : ids ≡ cond (eqb class 0) 0 (t .listed)) (oe : offsets ≡ offsetsFor class (t .listed)) {unit : ℕ} (ue : unit ≡ wordsPerValue typ) where
   abbrev made : Shape
-  made = record { typ = typ; class = class; rows = rows; ids = ids; offsets = offsets; values = t .values; map = t .terms }
+  made = record { typ = typ; class = class; rows = rows; ids = ids; offsets = offsets; values = t .values; words = t .values * unit; map = t .terms }
 
   shape-is : made ≡ shapeOf typ rows t
   unfolding shapeOf idsFor
@@ -98,6 +99,7 @@ module _ (typ rows : ℕ) (t : Tally) (space : Space) {class ids offsets : ℕ} 
         ids = (ie ∙ ap (λ (n : ℕ). cond (eqb n 0) 0 (t .listed)) ce) i;
         offsets = (oe ∙ ap (λ (n : ℕ). offsetsFor n (t .listed)) ce) i;
         values = t .values;
+        words = t .values * ue i;
         map = t .terms;
       }
 

@@ -1,22 +1,29 @@
 -- A segment's words become what the join's rules say: its part of the map has the new ordinals of its terms. Assumes nothing.
-use Prim.Native.Nat.{ℕ, zero, suc, _+_, _-_, _≤_, _<_, zero-le, suc-le-suc}
+use Prim.Native.Nat.{ℕ, zero, suc, _+_, _-_, _*_, _≤_, _<_, zero-le, suc-le-suc}
 use native.Mathlib.Nat.{le-of-suc-le-suc, not-suc-le-zero, le-of-lt, add-sub-cancel-left}
 use native.Mathlib.Omega.{arith}
 use mathlib.Core.Path.{_≡_, refl, sym, ap, ap₂, _∙_, subst}
-use mathlib.Core.List.{List, [], _∷_, _++_, map}
-use mathlib.Core.Bool.{Bool, true, false, _&&_, _||_, not, cond}
+use mathlib.Core.List.{List, [], _∷_, _++_, map, map-id}
+use mathlib.Core.Bool.{Bool, true, false, _&&_, _||_, not, cond, false≢true}
 use lib.ListN.{length, getD, take, drop, length-map, length-append}
 use lib.Seq.{take-at, take-take, drop-append-add, slice}
 use lib.Dec.{T, eqb, leb, ltb, ltb→lt}
+use lib.Ieee.Fits.{and-r}
+use lib.Ieee.Bits.{is-true}
+use borrow.Author.Tests.{eqb-true}
 use Rattle.definitions.specs.Lists.{sum, all, filter, concat, isEmpty, termsAscending}
+use Rattle.definitions.specs.Words.{IpAddr, wordsPerValue, valueWords, valuesIn}
 use Rattle.definitions.specs.Segment.{Segment}
 use Rattle.definitions.specs.Row.{isHeld, asEmpty, effective, heldOf}
-use Rattle.definitions.specs.Types.{hasTerms, coerced, BoolType}
-use Rattle.definitions.specs.Join.{absent, termsOf, ordinalOf, mapOf, newWord}
-use Rattle.definitions.specs.Answer.{valuesFit}
+use Rattle.definitions.specs.Types.{hasTerms, coerced, isCoercible, BoolType}
+use Rattle.definitions.specs.Join.{absent, termsOf, ordinalOf, mapOf, newWord, joinedType}
+use Rattle.definitions.specs.Answer.{valuesFit, presentTypes, oneCategory, allCoercible, typesWrong}
 use Rattle.definitions.proofs.Group.{effective-held, effective-not}
 use Rattle.definitions.proofs.Decode.{slice-nil}
-use Rattle.definitions.proofs.Lists.{and4, getD-in}
+use Rattle.definitions.proofs.Accept.{not-false}
+use Rattle.definitions.proofs.Lists.{and4, getD-in, all-mem, map-mem, mem-at, mem-filter}
+use Rattle.definitions.proofs.Words.{AllWords, words-plain, values-plain, terms-plain, becomes-alike, values-back, values-none, words-none}
+use Rattle.numerical.proofs.Laws as one
 use Rattle.lists.proofs.Parts.{drop-take}
 use Rattle.lists.proofs.Sums.{sums-are}
 use Rattle.lists.proofs.Lists.{all-at}
@@ -28,7 +35,7 @@ use Rattle.stands.specs.Stand.{run, part, Lies, standAt}
 use Rattle.stands.specs.Look.{valuesAt}
 use Rattle.census.specs.Table.{counted, mapBefore, Table}
 use Rattle.column_values_merge.specs.Word.{mapAt, coercedAll, wordsBy, newWords, Worded}
-use Rattle.column_values_merge.proofs.Laws.{words-none}
+use Rattle.column_values_merge.proofs.Laws.{coerced-other, words-none as nothing}
 use Rattle.merge_column.specs.Mapped.{Mapped}
 
 -- ---- parts of a list of parts
@@ -78,7 +85,40 @@ map-below : (f g : ℕ → ℕ) (n : ℕ) (xs : List ℕ) → ((w : ℕ) → w <
 map-below f g n [] e b = refl
 map-below f g n (x ∷ xs) e b = ap₂ (λ (y : ℕ) (ys : List ℕ). y ∷ ys) (e x (b 0 (suc-le-suc zero-le))) (map-below f g n xs e (λ k h. b (suc k) (suc-le-suc h)))
 
--- what a run of the segment's words is known to be
+-- ---- addresses stay as they are
+
+not-double : {to : ℕ} → to ≡ IpAddr → to ≡ 2 → ⊥
+not-double e q = omega arith
+
+address-words : (to type : ℕ) (u : Span) (table ws : List ℕ) → type ≡ IpAddr → to ≡ IpAddr → wordsBy to type u table ws ≡ ws
+unfolding wordsBy hasTerms
+address-words to type u table ws te oe = rw te (sym (coerced-other IpAddr to ws (not-double oe)))
+
+address-values : (to : ℕ) (terms : List (List ℕ)) (s : Segment) (vs : List ℕ) → s .type ≡ IpAddr → to ≡ IpAddr → map (newWord to terms s) vs ≡ vs
+unfolding newWord hasTerms
+address-values to terms s vs te oe =
+    map-mem (newWord to terms s) (λ v. v) vs
+    (λ v m. ap (λ (n : ℕ). cond (hasTerms n) (ordinalOf terms (getD (s .terms) v [])) (coerced n to v)) te ∙ sym (one.coerced-other IpAddr to v (not-double oe)))
+    ∙ map-id vs
+
+-- each held column has as many words a value as the joined one: what check 10 says of it
+pub record Alike (to : ℕ) (ss : List Segment) : Type 0 where
+  pub each : (k : ℕ) → k < length ss → isHeld (getD ss k absent) ≡ true → eqb (getD ss k absent .type) IpAddr ≡ eqb to IpAddr
+
+pub alike : (required : ℕ) (ss : List Segment) → typesWrong required ss ≡ false → Alike (joinedType required ss) ss
+unfolding typesWrong allCoercible heldOf
+alike required ss w =
+    record {
+      each = λ k h q.
+          let to = joinedType required ss in
+          let c = and-r (oneCategory (presentTypes required ss)) (allCoercible required ss) (not-false (oneCategory (presentTypes required ss) && allCoercible required ss) w) in
+          let s = getD ss k absent in
+          becomes-alike (s .type) to (s .values)
+          (is-true (isCoercible (s .type) to (s .values)) (all-mem (λ s. isCoercible (s .type) to (s .values)) (filter isHeld ss) c (mem-filter isHeld ss q (mem-at ss k absent h))));
+    }
+
+-- ---- what a run of the segment's words is known to be
+
 pub record Own (s : Segment) (vs : List ℕ) : Type 0 where
   pub ordinals : isHeld s ≡ true → hasTerms (s .type) ≡ true → Below (length (s .terms)) vs
   pub none : isHeld s ≡ false → vs ≡ []
@@ -157,7 +197,21 @@ module _ {stands : List (List ℕ)} {ids offsets values lengths bytes words : Li
         }
 
     pub own-values : Own (getD ss k absent) (valuesAt p values)
-    own-values = subst (Own (getD ss k absent)) (sym (t .each k h .values-are)) own-counted
+    unfolding asEmpty
+    own-values = go (isHeld (getD ss k absent)) refl
+      where
+        words-as : eqb (counted ss k .type) IpAddr ≡ false → valuesAt p values ≡ counted ss k .values
+        words-as e = sym (values-plain (counted ss k .type) e (valuesAt p values)) ∙ t .each k h .values-are
+
+        go : (b : Bool) → isHeld (getD ss k absent) ≡ b → Own (getD ss k absent) (valuesAt p values)
+        go true q =
+            record {
+              ordinals = λ e f.
+                  subst (Below (length (getD ss k absent .terms))) (sym (words-as (ap (λ (s : Segment). eqb (s .type) IpAddr) (effective-held (getD ss k absent) q) ∙ terms-plain (getD ss k absent .type) f)))
+                  (own-counted .ordinals e f);
+              none = λ e. absurd (false≢true (sym e ∙ q));
+            }
+        go false q = subst (Own (getD ss k absent)) (sym (words-as (ap (λ (s : Segment). eqb (s .type) IpAddr) (effective-not (getD ss k absent) q)))) own-counted
 
     held-map : isHeld (getD ss k absent) ≡ true → mapAt p map′ ≡ map (ordinalOf (termsOf ss)) (getD ss k absent .terms)
     held-map e = map-at ∙ ap (λ (s : Segment). map (ordinalOf (termsOf ss)) (s .terms)) (effective-held (getD ss k absent) e)
@@ -184,12 +238,35 @@ module _ {stands : List (List ℕ)} {ids offsets values lengths bytes words : Li
             (o .ordinals e q)
         go false q = refl
 
-    pub words-are : (to : ℕ) (vs : List ℕ) → Own (getD ss k absent) vs → newWords to p map′ vs ≡ map (newWord to (termsOf ss) (effective (getD ss k absent))) vs
-    words-are to vs o = go (isHeld (getD ss k absent)) refl
+    -- of n values: the words that the code writes are those of the values that the rules give
+    pub alive-are : (to : ℕ) (n : ℕ) (ws : List ℕ) → Alike to ss → AllWords ws → length ws ≡ n * p .unit → Own (getD ss k absent) ws
+        → newWords to p map′ ws ≡ valueWords to (map (newWord to (termsOf ss) (counted ss k)) (valuesIn (counted ss k .type) ws))
+    alive-are to n ws a all e o = go (isHeld (getD ss k absent)) refl
       where
-        go : (b : Bool) → isHeld (getD ss k absent) ≡ b → newWords to p map′ vs ≡ map (newWord to (termsOf ss) (effective (getD ss k absent))) vs
-        go true e = words-held to vs o e ∙ ap (λ (s : Segment). map (newWord to (termsOf ss) s) vs) (sym (effective-held (getD ss k absent) e))
-        go false e =
-            ap (newWords to p map′) (o .none e)
-            ∙ words-none to (p .typ) (p .map) map′
-            ∙ ap (map (newWord to (termsOf ss) (effective (getD ss k absent)))) (sym (o .none e))
+        s : Segment
+        s = getD ss k absent
+
+        held-unit : isHeld s ≡ true → length ws ≡ n * wordsPerValue (s .type)
+        held-unit q = e ∙ ap (λ (u : ℕ). n * u) (t .each k h .unit ∙ ap (λ (x : Segment). wordsPerValue (x .type)) (effective-held s q))
+
+        held : isHeld s ≡ true → (b : Bool) → eqb (s .type) IpAddr ≡ b → newWords to p map′ ws ≡ valueWords to (map (newWord to (termsOf ss) s) (valuesIn (s .type) ws))
+        held q true f =
+            let te : s .type ≡ IpAddr = eqb-true (s .type) IpAddr f in
+            let oe : to ≡ IpAddr = eqb-true to IpAddr (sym (a .each k h q) ∙ f) in
+            address-words to (p .typ) (p .map) map′ ws (t .type k h ∙ te) oe
+            ∙ sym (values-back (s .type) n ws (held-unit q) all)
+            ∙ ap (λ (u : ℕ). valueWords u (valuesIn (s .type) ws)) (te ∙ sym oe)
+            ∙ ap (valueWords to) (sym (address-values to (termsOf ss) s (valuesIn (s .type) ws) te oe))
+        held q false f =
+            words-held to ws o q
+            ∙ sym (words-plain to (sym (a .each k h q) ∙ f) (map (newWord to (termsOf ss) s) ws))
+            ∙ ap (λ (vs : List ℕ). valueWords to (map (newWord to (termsOf ss) s) vs)) (sym (values-plain (s .type) f ws))
+
+        go : (b : Bool) → isHeld s ≡ b → newWords to p map′ ws ≡ valueWords to (map (newWord to (termsOf ss) (counted ss k)) (valuesIn (counted ss k .type) ws))
+        go true q = held q (eqb (s .type) IpAddr) refl ∙ ap (λ (x : Segment). valueWords to (map (newWord to (termsOf ss) x) (valuesIn (x .type) ws))) (sym (effective-held s q))
+        go false q =
+            ap (newWords to p map′) (o .none q)
+            ∙ nothing to (p .typ) (p .map) map′
+            ∙ sym (words-none to)
+            ∙ ap (λ (vs : List ℕ). valueWords to (map (newWord to (termsOf ss) (counted ss k)) vs)) (sym (values-none (counted ss k .type)))
+            ∙ ap (λ (vs : List ℕ). valueWords to (map (newWord to (termsOf ss) (counted ss k)) (valuesIn (counted ss k .type) vs))) (sym (o .none q))

@@ -4,19 +4,19 @@ use native.Mathlib.Nat.{le-of-eq, add-sub-cancel-left}
 use native.Mathlib.Omega.{arith}
 use mathlib.Core.Path.{_≡_, refl, sym, ap, ap₂, _∙_, subst}
 use mathlib.Core.List.{List, [], _∷_}
-use mathlib.Core.Bool.{Bool, true, false, _&&_, _||_}
+use mathlib.Core.Bool.{_&&_}
 use lib.ListN.{length, getD, take, drop, length-append, length-drop}
-use lib.Dec.{T, eqb, ltb}
+use lib.Dec.{T, ltb, ltb→lt}
 use lib.Ieee.Fits.{and-l, and-r}
 use lib.Seq.{take-add}
-use borrow.Author.Tests.{eqb-true}
+use lib.Ieee.Bits.{is-true}
 use Rattle.definitions.specs.Lists.{sum, all, elem, concat, isBelow, compareBytes, termsAscending, termsAscendingFrom}
 use Rattle.definitions.specs.Segment.{Segment, SegmentRecord, Sections, cut, firstSegment}
 use Rattle.definitions.specs.Types.{isKnownType}
 use Rattle.definitions.specs.Join.{absent}
 use Rattle.definitions.specs.Answer.{indexFits, valuesFit, bytesIn, codesKnown, noColumnIsBare, segmentCodesWrong}
 use Rattle.definitions.proofs.Accept.{not-false}
-use Rattle.definitions.proofs.Lists.{and3}
+use Rattle.definitions.proofs.Lists.{and3, elem-mem, all-mem}
 use Rattle.lists.proofs.Lists.{all-at}
 use Rattle.lists.proofs.Cuts.{cut-bytes}
 use Rattle.lists.proofs.Parts.{run-length}
@@ -32,7 +32,7 @@ use Rattle.stands.specs.declared.Span.{Span}
 use Rattle.stands.specs.declared.Stand.{Stand}
 use Rattle.stands.specs.Stand.{part, many, span, Lies, standOf, numbersOf, standAt, standIn, standsIn}
 use Rattle.stands.specs.Look.{Stands}
-use Rattle.stands.proofs.Bridge.{count-stands, sound-stands}
+use Rattle.stands.proofs.Bridge.{sound-stands}
 use Rattle.stands.proofs.Fill.{table-length, table-at}
 use Rattle.stands.proofs.There.{Held, stands-there}
 use Rattle.census.specs.Settled.{AllReady}
@@ -40,28 +40,12 @@ use Rattle.census.specs.Table.{Table}
 use Rattle.census.proofs.Table.{ascends, Raw, table-is, textBefore}
 use Rattle.merge_column.specs.Plan.{settledOf}
 
+below-all : (t n : ℕ) (cs : List ℕ) → T (all (λ c. ltb c n) cs) → T (elem t cs) → t < n
+below-all t n cs h k = let m = elem-mem t cs (is-true (elem t cs) k) in ltb→lt t n (all-mem (λ c. ltb c n) cs h m)
+
 known-small : (t : ℕ) → T (isKnownType t) → t < 4294967296
 unfolding isKnownType
-known-small t h = go 0 1 2 3 4 5 7 255 h (omega arith) (omega arith) (omega arith) (omega arith) (omega arith) (omega arith) (omega arith) (omega arith)
-  where
-    step : (c : ℕ) (b : Bool) → T (eqb t c || b) → c < 4294967296 → (T b → t < 4294967296) → t < 4294967296
-    step c b k l next = at (eqb t c) refl k
-      where
-        at : (e : Bool) → eqb t c ≡ e → T (e || b) → t < 4294967296
-        at true q k = let z = eqb-true t c q in omega arith
-        at false q k = next k
-
-    go : (a b c d e f g i : ℕ) → T (elem t (a ∷ b ∷ c ∷ d ∷ e ∷ f ∷ g ∷ i ∷ [])) → a < 4294967296 → b < 4294967296 → c < 4294967296 → d < 4294967296 → e < 4294967296 → f < 4294967296 → g < 4294967296 → i < 4294967296
-        → t < 4294967296
-    go a b c d e f g i k la lb lc ld le lf lg li =
-        step a (elem t (b ∷ c ∷ d ∷ e ∷ f ∷ g ∷ i ∷ [])) k la
-        (λ k. step b (elem t (c ∷ d ∷ e ∷ f ∷ g ∷ i ∷ [])) k lb
-        (λ k. step c (elem t (d ∷ e ∷ f ∷ g ∷ i ∷ [])) k lc
-        (λ k. step d (elem t (e ∷ f ∷ g ∷ i ∷ [])) k ld
-        (λ k. step e (elem t (f ∷ g ∷ i ∷ [])) k le
-        (λ k. step f (elem t (g ∷ i ∷ [])) k lf
-        (λ k. step g (elem t (i ∷ [])) k lg
-        (λ k. step i false k li (λ z. absurd z))))))))
+known-small t h = below-all t 4294967296 (0 ∷ 1 ∷ 2 ∷ 3 ∷ 4 ∷ 5 ∷ 6 ∷ 7 ∷ 255 ∷ []) tt h
 
 -- only the first of ascending terms may be empty
 not-empty : (t u : List ℕ) → T (isBelow (compareBytes t u)) → 1 ≤ length u
@@ -99,7 +83,7 @@ module _ {records : List (List ℕ)} {ids offsets values lengths bytes words : L
   exact = ready (recordsOf records) sections (c .passed) .exact
 
   runs-held : Held records ids offsets values words
-  runs-held = record { ids = le-of-eq (exact .ids); offsets = le-of-eq (exact .offsets); values = le-of-eq (exact .values); words = le-of-eq (exact .alive) }
+  runs-held = record { ids = le-of-eq (exact .ids); offsets = le-of-eq (exact .offsets); values = le-of-eq (exact .words); alive = le-of-eq (exact .alive) }
 
   module _ (k : ℕ) (h : k < length ss) where
     inside : k < length records
@@ -228,8 +212,8 @@ module _ {records : List (List ℕ)} {ids offsets values lengths bytes words : L
                   record {
                     sound = sound-stands st (fits k h);
                     rows = omega (arith, st .rows, rows-low k h);
-                    few = omega (arith, count-stands st, values-low k h);
-                    words-lie = st .words-lie;
+                    few = omega (arith, st .count, values-low k h);
+                    alive-lie = st .alive-lie;
                     enough = λ e. let a = st .enough (sym (st .flag) ∙ e) in omega (arith, st .rows);
                   };
               terms-lie = terms-lie k h;

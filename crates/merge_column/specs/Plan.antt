@@ -1,10 +1,11 @@
 -- The parts of one column's join, over where the segments stand. Assumes nothing.
-use Prim.Native.Nat.{ℕ, suc, _≤_}
+use Prim.Native.Nat.{ℕ, suc, _*_, _≤_}
 use mathlib.Core.Path.{_≡_}
 use mathlib.Core.List.{List, _∷_}
 use mathlib.Core.Bool.{Bool, false, cond, not}
 use lib.Dec.{eqb, ltb, leb}
 use lib.ListN.{length, replicate}
+use Rattle.definitions.specs.Words.{wordsPerValue}
 use Rattle.definitions.specs.Row.{noType}
 use Rattle.runs.specs.Put.{RoomIf}
 use Rattle.stands.specs.Width.{idsOf, totalsOf}
@@ -52,7 +53,7 @@ unfoldable pub enoughFor : Shape → ℕ → Space → Bool
 enoughFor x bytes space =
     cond (ltb (space .ids) (x .ids)) false
     (cond (ltb (space .offsets) (x .offsets)) false
-    (cond (ltb (space .values) (x .values)) false
+    (cond (ltb (space .values) (x .words)) false
     (cond (ltb (space .lengths) (x .map)) false
     (cond (ltb (space .bytes) bytes) false
     (leb (x .map) (space .map))))))
@@ -66,6 +67,7 @@ shapeOf typ rows t =
       ids = idsFor (classFor typ (t .class)) (t .listed);
       offsets = offsetsFor (classFor typ (t .class)) (t .listed);
       values = t .values;
+      words = t .values * wordsPerValue typ;
       map = t .terms;
     }
 
@@ -86,7 +88,7 @@ planFor mode required stands values addresses t space = planBy (typeAnswer requi
 unfoldable pub widthsFor : ℕ → List (List ℕ) → List (List ℕ) → List ℕ → List ℕ → List ℕ
 widthsFor mode addresses stands ids offsets = cond (eqb mode 0) (stackedWidths stands ids offsets) (widths stands ids offsets addresses)
 
--- the joined column's values
+-- the words of the joined column's values
 unfoldable pub joinedWords : ℕ → ℕ → List (List ℕ) → List (List ℕ) → List ℕ → List ℕ → List ℕ → List ℕ → List ℕ
 joinedWords mode to addresses stands ids offsets values map = cond (eqb mode 0) (stackedWords to stands values map) (orderedWords to stands ids offsets values map addresses)
 
@@ -96,7 +98,7 @@ leftFor mode work = cond (eqb mode 0) work (replicate (length work) 0)
 
 pub record Filling (mode class to : ℕ) (addresses stands : List (List ℕ)) (ids offsets values map outIds outOffsets outValues : List ℕ) : Type 0 where
   pub stacked : mode ≡ 0 → Stacked stands ids offsets values map
-  pub ordered : (mode ≡ 0 → ⊥) → Ordered to addresses stands ids offsets values map
+  pub ordered : (mode ≡ 0 → ⊥) → Ordered addresses stands ids offsets values map
   pub ids-room : RoomIf (not (eqb class 0)) 0 (length (idsOf 0 (widthsFor mode addresses stands ids offsets))) (length outIds)
   pub offsets-room : RoomIf (eqb class 2) 0 (length (0 ∷ totalsOf 0 (widthsFor mode addresses stands ids offsets))) (length outOffsets)
   pub values-room : length (joinedWords mode to addresses stands ids offsets values map) ≤ length outValues

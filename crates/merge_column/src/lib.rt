@@ -3,8 +3,7 @@
 ghost use mathlib.Core.Path.{_≡_};
 ghost use mathlib.Core.Bool.{cond, not};
 ghost use mathlib.Core.List.{_∷_};
-ghost use Prim.Native.Nat.{_<_};
-ghost use lib.ListN.{length};
+ghost use Prim.Native.Nat.{_<_, _≤_};
 ghost use lib.Dec.{eqb};
 ghost use Rattle.runs.specs.Put.{put, putIf};
 ghost use Rattle.stands.specs.Width.{idsOf, totalsOf};
@@ -41,7 +40,7 @@ fn class_of(typ: u32, greatest: u32) -> u32
     greatest
 }
 
-// How many elements each output has place for.
+// How many elements each output has place for, that of values in words.
 pub struct Space {
     pub ids: usize,
     pub offsets: usize,
@@ -51,7 +50,8 @@ pub struct Space {
     pub map: usize,
 }
 
-// The joined column's type, class and rows, and the number of elements of its lists but the terms'; the map has one for each term of the held columns.
+// The joined column's type, class and rows, and the number of elements of its lists but the terms', with the words of its values; the map has one for each term
+// of the held columns.
 pub struct Shape {
     pub typ: u32,
     pub class: u32,
@@ -59,6 +59,7 @@ pub struct Shape {
     pub ids: usize,
     pub offsets: usize,
     pub values: usize,
+    pub words: usize,
     pub map: usize,
 }
 
@@ -96,7 +97,7 @@ fn has_room(x: Shape, bytes: usize, space: Space) -> bool
     if space.offsets < x.offsets {
         return false;
     }
-    if space.values < x.values {
+    if space.values < x.words {
         return false;
     }
     if space.lengths < x.map {
@@ -111,6 +112,7 @@ fn has_room(x: Shape, bytes: usize, space: Space) -> bool
 // The shape of a column of type typ, and 11 where it has no room.
 fn shape_of(typ: u32, rows: usize, t: Tally, space: Space) -> Plan
     requires { ⌜ t .listed < 18446744073709551615 ⌝ }
+    requires { ⌜ t .values ≤ 4294967294 ⌝ }
     ensures { λ r. ⌜ r ≡ planOf typ rows t space ⌝ }
 {
     let class = class_of(typ, t.class);
@@ -121,6 +123,7 @@ fn shape_of(typ: u32, rows: usize, t: Tally, space: Space) -> Plan
         ids: runs::unless(class == 0, t.listed),
         offsets: offsets_of(class, t.listed),
         values: t.values,
+        words: t.values * column_type::words_per_value(typ),
         map: t.terms,
     };
     if !has_room(x, t.bytes, space) {
@@ -141,6 +144,7 @@ pub fn measure(
 ) -> Plan
     requires { ⌜ Lent (now stands) (now values) ⌝ }
     requires { ⌜ t .listed < 18446744073709551615 ⌝ }
+    requires { ⌜ t .values ≤ 4294967294 ⌝ }
     ensures { λ r. ⌜ r ≡ planFor mode required (now (stands .entry)) (now (values .entry)) addresses t space ⌝ }
 {
     let merge_type::TypeAnswer::Joined(typ) = merge_type::check_types(required, stands, values)
@@ -151,7 +155,7 @@ pub fn measure(
     shape_of(typ, rows, t, space)
 }
 
-// Row ids, offsets and values of a column of the given class and type: segment after segment when stacked, as the addresses say when ordered.
+// Row ids, offsets and the words of the values of a column of the given class and type: segment after segment when stacked, as the addresses say when ordered.
 pub fn fill_rows(
     mode: u32,
     class: u32,

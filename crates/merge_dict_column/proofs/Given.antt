@@ -25,7 +25,7 @@ use Rattle.census.proofs.Table.{ascends}
 use Rattle.term_cursors.specs.Cursors.{unmarkedAt}
 use Rattle.term_cursors.specs.Runs.{termsBefore, Runs}
 use Rattle.term_marks.specs.Marks.{markedAll, Columns, Apart}
-use Rattle.term_marks.proofs.Kept.{mark-at, unmarked-is, kept-is, columns-of}
+use Rattle.term_marks.proofs.Kept.{mark-at, unmarked-is, words-single, kept-is, columns-of}
 use Rattle.term_walk.specs.Walk.{Merged}
 use Rattle.term_walk.proofs.Ends.{merged-same}
 use Rattle.merge_dict_column.specs.Dict.{dictAt, Texts, Dictionary}
@@ -84,7 +84,7 @@ module _ {stands : List (List ℕ)} {ids offsets values lengths bytes alive : Li
             let m : i < many (standAt stands s .terms) = omega (arith, many-is t s l, ap (λ (y : Segment). length (y .terms)) (effective-held (getD ss s absent) e)) in
             unmarked-is (markedAll stands ids offsets values alive (replicate (length lengths) 0)) (standAt stands s .terms .from + i) (cond (hasAliveSet (getD ss s absent)) (isUsed (getD ss s absent) i) true)
             (mark-at ids offsets values alive (length lengths) apart (columns (length-replicate (length lengths) 0)) refl s i h m
-            ∙ ap (λ (b : Bool). cond b 1 0) (kept-is (t .each s l) i ∙ ap (λ (y : Segment). cond (hasAliveSet y) (isUsed y i) true) (effective-held (getD ss s absent) e)));
+            ∙ ap (λ (b : Bool). cond b 1 0) (kept-is (t .each s l) (words-single (counted ss s) (counted-worded (getD ss s absent) (t .worded s l)) (omega (arith, many-is t s l))) i ∙ ap (λ (y : Segment). cond (hasAliveSet y) (isUsed y i) true) (effective-held (getD ss s absent) e)));
       }
 
   -- no segment has an alive set, and every term is kept

@@ -13,7 +13,7 @@ use Rattle.definitions.specs.Segment.{Address, addressFrom, address}
 use Rattle.segment.specs.Lent.{addressesOf}
 use Rattle.stands.specs.declared.Stand.{Stand}
 use Rattle.stands.specs.Stand.{standAt}
-use Rattle.stands.specs.Look.{wordsAt}
+use Rattle.stands.specs.Look.{aliveSetAt}
 use Rattle.merge_mapping.specs.Mapping.{aliveBit, aliveAt, Worded, AllWorded, allNew, marked, Markable, Countable, standAlive}
 use Rattle.lists.proofs.Tests.{both-true, stop, past}
 use Rattle.lists.proofs.Parts.{run-length}
@@ -22,8 +22,8 @@ use Rattle.lists.proofs.Lists.{count-most}
 -- ---- alive rows
 
 -- the words of a segment are enough for each of its rows
-pub words-reach : {p : Stand} {alive : List ℕ} → Worded p alive → p .flag ≡ 1 → p .rows ≤ 64 * length (wordsAt p alive)
-words-reach {p} {alive} w e = rw (run-length (p .words .from) (p .words .to) alive (w .lie .ends)) (w .enough e)
+pub words-reach : {p : Stand} {alive : List ℕ} → Worded p alive → p .flag ≡ 1 → p .rows ≤ 64 * length (aliveSetAt p alive)
+words-reach {p} {alive} w e = rw (run-length (p .alive .from) (p .alive .to) alive (w .lie .ends)) (w .enough e)
 
 module _ (stands : List (List ℕ)) (alive : List ℕ) (seg row : ℕ) where
   pub in-absent : length stands ≤ seg → false ≡ aliveAt stands alive (address seg row)
@@ -31,14 +31,14 @@ module _ (stands : List (List ℕ)) (alive : List ℕ) (seg row : ℕ) where
   in-absent h = rw (le-ltb seg (length stands) h)
 
   module _ (h : seg < length stands) {p : Stand} (e : p ≡ standAt stands seg) where
-    in-here : ltb row (p .rows) && aliveBit (p .flag) (wordsAt p alive) row ≡ aliveAt stands alive (address seg row)
+    in-here : ltb row (p .rows) && aliveBit (p .flag) (aliveSetAt p alive) row ≡ aliveAt stands alive (address seg row)
     unfolding aliveAt
-    in-here = ap (λ (q : Stand). ltb row (q .rows) && aliveBit (q .flag) (wordsAt q alive) row) e ∙ rw (lt-ltb seg (length stands) h)
+    in-here = ap (λ (q : Stand). ltb row (q .rows) && aliveBit (q .flag) (aliveSetAt q alive) row) e ∙ rw (lt-ltb seg (length stands) h)
 
     pub in-past : p .rows ≤ row → false ≡ aliveAt stands alive (address seg row)
-    in-past l = stop (aliveBit (p .flag) (wordsAt p alive) row) (le-ltb row (p .rows) l) ∙ in-here
+    in-past l = stop (aliveBit (p .flag) (aliveSetAt p alive) row) (le-ltb row (p .rows) l) ∙ in-here
 
-    pub in-found : row < p .rows → aliveBit (p .flag) (wordsAt p alive) row ≡ aliveAt stands alive (address seg row)
+    pub in-found : row < p .rows → aliveBit (p .flag) (aliveSetAt p alive) row ≡ aliveAt stands alive (address seg row)
     in-found l = past (lt-ltb row (p .rows) l) refl ∙ in-here
 
 -- what an alive address says of itself
@@ -58,7 +58,7 @@ pub few-here : (stands : List (List ℕ)) (k : ℕ) {alive : List ℕ} → Count
 few-here stands k m h e = subst (λ (q : Stand). q .rows ≤ 4294967294) (sym e) (m .most k h)
 
 pub counted-here : (stands : List (List ℕ)) (k : ℕ) {alive : List ℕ} → Countable stands alive → k < length stands → {p : Stand} → p ≡ standAt stands k → {n : ℕ} → n ≡ standAlive alive p → n ≤ 4294967294
-counted-here stands k {alive} m h {p} e q = omega (arith, q, count-most (aliveBit (p .flag) (wordsAt p alive)) 0 (p .rows), few-here stands k m h e)
+counted-here stands k {alive} m h {p} e q = omega (arith, q, count-most (aliveBit (p .flag) (aliveSetAt p alive)) 0 (p .rows), few-here stands k m h e)
 
 pub place-within : {stands : List (List ℕ)} {alive work : List ℕ} → Markable stands alive work → (seg row : ℕ) {b : Bool} → b ≡ aliveAt stands alive (address seg row) → b ≡ true
     → {p : Stand} → p ≡ standAt stands seg → p .work + row < length work

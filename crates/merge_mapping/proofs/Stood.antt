@@ -16,7 +16,7 @@ use Rattle.segment.proofs.At.{start-total, start-mono, start-fits}
 use Rattle.segment.proofs.Walk.{records-long, words-enough}
 use Rattle.stands.specs.declared.Stand.{Stand}
 use Rattle.stands.specs.Stand.{standOf, numbersOf, standAt, standIn, standsIn}
-use Rattle.stands.specs.Look.{wordsAt}
+use Rattle.stands.specs.Look.{aliveSetAt}
 use Rattle.stands.proofs.Fill.{table-at, many-stands}
 use Rattle.merge_mapping.specs.Mapping.{noRecord, rowsIn, aliveBit, rowAlive, wordsOf, aliveIn, aliveAt, allNew, Worded, Room, Markable, standAlive, allAlive, Countable, aliveMany, eachOnce, Unmarked}
 use Rattle.merge_mapping.proofs.Marks.{Apart, new-is}
@@ -38,11 +38,11 @@ module _ (records : List (List ℕ)) (k : ℕ) (h : k < length records) where
   unfolding standIn
   rows-there = ap (λ (p : Stand). p .rows) there ∙ ap rowsIn own
 
-  alive-there : (alive : List ℕ) (x : ℕ) → aliveBit (standAt (standsIn records) k .flag) (wordsAt (standAt (standsIn records) k) alive) x ≡ rowAlive (getD (recordsOf records) k noRecord) (wordsOf (recordsOf records) alive k) x
+  alive-there : (alive : List ℕ) (x : ℕ) → aliveBit (standAt (standsIn records) k .flag) (aliveSetAt (standAt (standsIn records) k) alive) x ≡ rowAlive (getD (recordsOf records) k noRecord) (wordsOf (recordsOf records) alive k) x
   unfolding standIn rowAlive wordsOf
   alive-there alive x =
       let s = startAt aliveWords records k in
-      ap (λ (p : Stand). aliveBit (p .flag) (wordsAt p alive) x) there
+      ap (λ (p : Stand). aliveBit (p .flag) (aliveSetAt p alive) x) there
       ∙ ap (λ (w : List ℕ). aliveBit (recordAt records k .flag) w x) (part-is (aliveWords (recordAt records k)) s (s + aliveWords (recordAt records k)) alive refl)
       ∙ ap₂ (λ (r : SegmentRecord) (n : ℕ). aliveBit (r .flag) (take (aliveWords r) (drop n alive)) x) own (start-total aliveWords records k (omega arith))
 
@@ -85,7 +85,7 @@ module _ (records : List (List ℕ)) (alive marks : List ℕ) (u : Unmarked (rec
   alive-is a = rw (many-stands records, records-long records) (go (ltb (a .segment) (length records)) refl)
     where
       go : (b : Bool) → ltb (a .segment) (length records) ≡ b
-          → b && (ltb (a .row) (standAt (standsIn records) (a .segment) .rows) && aliveBit (standAt (standsIn records) (a .segment) .flag) (wordsAt (standAt (standsIn records) (a .segment)) alive) (a .row))
+          → b && (ltb (a .row) (standAt (standsIn records) (a .segment) .rows) && aliveBit (standAt (standsIn records) (a .segment) .flag) (aliveSetAt (standAt (standsIn records) (a .segment)) alive) (a .row))
           ≡ b && (ltb (a .row) (getD (recordsOf records) (a .segment) noRecord .rows) && rowAlive (getD (recordsOf records) (a .segment) noRecord) (wordsOf (recordsOf records) alive (a .segment)) (a .row))
       go false e = refl
       go true e =
@@ -108,7 +108,7 @@ module _ (records : List (List ℕ)) (alive marks : List ℕ) (u : Unmarked (rec
       ap (sumBelow (λ k. standAlive alive (standAt (standsIn records) k))) (many-stands records)
       ∙ below-same (λ k. standAlive alive (standAt (standsIn records) k)) (λ k. count (rowAlive (getD (recordsOf records) k noRecord) (wordsOf (recordsOf records) alive k)) (upTo (getD (recordsOf records) k noRecord .rows))) (length records)
       (λ k h.
-      count-same (aliveBit (standAt (standsIn records) k .flag) (wordsAt (standAt (standsIn records) k) alive)) (rowAlive (getD (recordsOf records) k noRecord) (wordsOf (recordsOf records) alive k)) 0 (standAt (standsIn records) k .rows) (λ r l. alive-there records k h alive r)
+      count-same (aliveBit (standAt (standsIn records) k .flag) (aliveSetAt (standAt (standsIn records) k) alive)) (rowAlive (getD (recordsOf records) k noRecord) (wordsOf (recordsOf records) alive k)) 0 (standAt (standsIn records) k .rows) (λ r l. alive-there records k h alive r)
       ∙ ap (λ (n : ℕ). count (rowAlive (getD (recordsOf records) k noRecord) (wordsOf (recordsOf records) alive k)) (upTo n)) (rows-there records k h))
       ∙ ap (sumBelow (λ k. count (rowAlive (getD (recordsOf records) k noRecord) (wordsOf (recordsOf records) alive k)) (upTo (getD (recordsOf records) k noRecord .rows)))) (sym (records-long records))
 

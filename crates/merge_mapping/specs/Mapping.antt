@@ -13,7 +13,7 @@ use Rattle.definitions.specs.Answer.{total, isRepeated}
 use Rattle.lists.specs.Sums.{sumBelow}
 use Rattle.stands.specs.declared.Stand.{Stand}
 use Rattle.stands.specs.Stand.{many, Lies, standAt}
-use Rattle.stands.specs.Look.{wordsAt}
+use Rattle.stands.specs.Look.{aliveSetAt}
 
 -- what stands for a record that is absent
 abbrev pub noRecord : SegmentRecord
@@ -47,12 +47,12 @@ unfoldable pub aliveAt : List (List ℕ) → List ℕ → Address → Bool
 aliveAt stands alive a =
     ltb (a .segment) (length stands)
     && (ltb (a .row) (standAt stands (a .segment) .rows)
-    && aliveBit (standAt stands (a .segment) .flag) (wordsAt (standAt stands (a .segment)) alive) (a .row))
+    && aliveBit (standAt stands (a .segment) .flag) (aliveSetAt (standAt stands (a .segment)) alive) (a .row))
 
 -- a segment's alive words are there, and enough
 pub record Worded (p : Stand) (alive : List ℕ) : Type 0 where
-  pub lie : Lies (p .words) alive
-  pub enough : p .flag ≡ 1 → p .rows ≤ 64 * many (p .words)
+  pub lie : Lies (p .alive) alive
+  pub enough : p .flag ≡ 1 → p .rows ≤ 64 * many (p .alive)
 
 abbrev pub AllWorded : List (List ℕ) → List ℕ → Type 0
 AllWorded stands alive = (k : ℕ) → k < length stands → Worded (standAt stands k) alive
@@ -85,7 +85,7 @@ pub record Markable (stands : List (List ℕ)) (alive work : List ℕ) : Type 0 
 
 -- those of the segment at p
 abbrev pub standAlive : List ℕ → Stand → ℕ
-standAlive alive p = count (aliveBit (p .flag) (wordsAt p alive)) (upTo (p .rows))
+standAlive alive p = count (aliveBit (p .flag) (aliveSetAt p alive)) (upTo (p .rows))
 
 -- those of all segments
 unfoldable pub allAlive : List (List ℕ) → List ℕ → ℕ

@@ -32,8 +32,8 @@ fn alive_in(stands: &[stands::StandNumbers], alive: &[u64], seg: usize, row: usi
     if p.rows <= row {
         return false;
     }
-    let from = p.words.from;
-    let to = p.words.to;
+    let from = p.alive.from;
+    let to = p.alive.to;
     row_alive(p.flag, &alive[from..to], row)
 }
 
@@ -88,8 +88,8 @@ fn all_alive(stands: &[stands::StandNumbers], alive: &[u64]) -> usize
     let mut s: usize = 0;
     while s < stands.len() {
         let p = stands::stand_at(stands, s);
-        let from = p.words.from;
-        let to = p.words.to;
+        let from = p.alive.from;
+        let to = p.alive.to;
         n += rows_alive(p.flag, &alive[from..to], p.rows);
         s += 1;
     }

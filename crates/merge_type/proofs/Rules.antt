@@ -1,23 +1,25 @@
 -- The answer on parts, and that it is the definitions' for the segments that the columns stand for. Assumes nothing.
-use mathlib.Core.Path.{_≡_, refl, sym, ap, _∙_}
+use mathlib.Core.Path.{_≡_, refl, sym, ap, ap₂, _∙_, subst}
 use mathlib.Core.Bool.{Bool, true, false, not, cond, _&&_, _||_}
 use mathlib.Core.List.{List, [], _∷_, map}
 use Prim.Native.Nat.{ℕ, suc, _<_, zero-le, suc-le-suc}
 use native.Mathlib.Omega.{arith}
 use lib.Dec.{eqb, ltb}
 use lib.ListN.{length, getD}
-use borrow.Author.Tests.{not-true, not-false}
+use borrow.Author.Tests.{not-true, not-false, eqb-true}
 use Rattle.definitions.specs.Lists.{all, any, filter}
+use Rattle.definitions.specs.Words.{IpAddr, valuesIn}
 use Rattle.definitions.specs.Segment.{Segment}
 use Rattle.definitions.specs.Row.{noType, isDropped, isHeld, heldOf}
 use Rattle.definitions.specs.Types.{F64, U64, I64, isCoercible, hasType, everyValue, onlyType, numericalType, heldType, typeOf, greatestI64, isNegative}
 use Rattle.definitions.specs.Join.{joinedType, absent}
 use Rattle.definitions.specs.Answer.{presentTypes, allCoercible, typesWrong}
+use Rattle.definitions.proofs.Words.{values-plain, address-becomes}
 use Rattle.stands.specs.Stand.{standOf, standAt}
 use Rattle.stands.specs.Look.{valuesAt}
 use Rattle.merge_type.specs.declared.TypeAnswer.{TypeAnswer}
 use Rattle.merge_type.specs.declared.TypeAnswer.the-variants.{Wrong, Joined}
-use Rattle.merge_type.specs.Parts.{isPart, partsIn, typesIn, asColumn, heldColumns, typesOf, oneAmong, typeOfParts, allBecome, typeAnswer}
+use Rattle.merge_type.specs.Parts.{isPart, partsIn, typesIn, heldColumns, typesOf, oneAmong, typeOfParts, allBecome, typeAnswer}
 
 types-of : (stands : List (List ℕ)) (values : List ℕ) → typesOf (partsIn stands values) ≡ typesIn stands
 unfolding typesOf partsIn typesIn
@@ -55,58 +57,76 @@ module _ (required : ℕ) (stands : List (List ℕ)) (values : List ℕ) {b : Bo
     unfolding typeAnswer
     right-type h = ap Joined u-is ∙ answer-all _ _ _ (one-here ∙ not-false b k) (become-is ∙ not-false c h)
 
--- ---- a segment of which only type and values are kept
+-- ---- columns that the rules can't tell apart: of one type, and of the same values unless they are addresses, which no rule looks into
 
-abbrev bare : Segment → Segment
-bare s = asColumn (record { type = s .type; values = s .values; held = isHeld s })
+record One (x h : Segment) : Type 0 where
+  type : x .type ≡ h .type
+  values : eqb (h .type) IpAddr ≡ false → x .values ≡ h .values
 
-any-bare : (p : Segment → Bool) → ((s : Segment) → p (bare s) ≡ p s) → (hs : List Segment) → any p (map bare hs) ≡ any p hs
-any-bare p e [] = refl
-any-bare p e (h ∷ hs) = λ i. e h i || any-bare p e hs i
+data Same : List Segment → List Segment → Type 0 where
+  none : Same [] []
+  some : {x h : Segment} {xs hs : List Segment} → One x h → Same xs hs → Same (x ∷ xs) (h ∷ hs)
 
-all-bare : (p : Segment → Bool) → ((s : Segment) → p (bare s) ≡ p s) → (hs : List Segment) → all p (map bare hs) ≡ all p hs
-all-bare p e [] = refl
-all-bare p e (h ∷ hs) = λ i. e h i && all-bare p e hs i
+any-same : (p : Segment → Bool) → ((x h : Segment) → One x h → p x ≡ p h) → {xs hs : List Segment} → Same xs hs → any p xs ≡ any p hs
+any-same p e none = refl
+any-same p e (some {x} {h} o r) = ap₂ (λ (a b : Bool). a || b) (e x h o) (any-same p e r)
 
-only-bare : (t : ℕ) (hs : List Segment) → onlyType t (map bare hs) ≡ onlyType t hs
+all-same : (p : Segment → Bool) → ((x h : Segment) → One x h → p x ≡ p h) → {xs hs : List Segment} → Same xs hs → all p xs ≡ all p hs
+all-same p e none = refl
+all-same p e (some {x} {h} o r) = ap₂ (λ (a b : Bool). a && b) (e x h o) (all-same p e r)
+
+only-same : (t : ℕ) {xs hs : List Segment} → Same xs hs → onlyType t xs ≡ onlyType t hs
 unfolding onlyType
-only-bare t hs = all-bare (λ (s : Segment). eqb (s .type) t) (λ s. refl) hs
+only-same t r = all-same (λ (s : Segment). eqb (s .type) t) (λ x h o. ap (λ (n : ℕ). eqb n t) (o .type)) r
 
-has-bare : (t : ℕ) (hs : List Segment) → hasType t (map bare hs) ≡ hasType t hs
+has-same : (t : ℕ) {xs hs : List Segment} → Same xs hs → hasType t xs ≡ hasType t hs
 unfolding hasType
-has-bare t hs = any-bare (λ (s : Segment). eqb (s .type) t) (λ s. refl) hs
+has-same t r = any-same (λ (s : Segment). eqb (s .type) t) (λ x h o. ap (λ (n : ℕ). eqb n t) (o .type)) r
 
-every-bare : (t : ℕ) (test : ℕ → Bool) (hs : List Segment) → everyValue t test (map bare hs) ≡ everyValue t test hs
+-- a test that reads a column's type and values, and no addresses
+by-values : (f : ℕ → List ℕ → Bool) → ((vs ws : List ℕ) → f IpAddr vs ≡ f IpAddr ws) → (x h : Segment) → One x h → f (x .type) (x .values) ≡ f (h .type) (h .values)
+by-values f blind x h o = ap (λ (t : ℕ). f t (x .values)) (o .type) ∙ go (eqb (h .type) IpAddr) refl
+  where
+    go : (b : Bool) → eqb (h .type) IpAddr ≡ b → f (h .type) (x .values) ≡ f (h .type) (h .values)
+    go true e = rw (eqb-true (h .type) IpAddr e) (blind (x .values) (h .values))
+    go false e = ap (f (h .type)) (o .values e)
+
+every-same : (t : ℕ) (test : ℕ → Bool) → eqb IpAddr t ≡ false → {xs hs : List Segment} → Same xs hs → everyValue t test xs ≡ everyValue t test hs
 unfolding everyValue
-every-bare t test hs = all-bare (λ (s : Segment). not (eqb (s .type) t) || all test (s .values)) (λ s. refl) hs
+every-same t test e r =
+    all-same (λ (s : Segment). not (eqb (s .type) t) || all test (s .values)) (by-values (λ n vs. not (eqb n t) || all test vs) (λ vs ws. rw e)) r
 
-numerical-bare : (hs : List Segment) → numericalType (map bare hs) ≡ numericalType hs
+numerical-same : {xs hs : List Segment} → Same xs hs → numericalType xs ≡ numericalType hs
 unfolding numericalType
-numerical-bare hs =
-    let a = has-bare F64 hs in
-    let b = every-bare U64 (λ (w : ℕ). ltb w greatestI64) hs in
-    let c = every-bare I64 (λ (w : ℕ). not (isNegative w)) hs in
+numerical-same r =
+    let a = has-same F64 r in
+    let b = every-same U64 (λ (w : ℕ). ltb w greatestI64) refl r in
+    let c = every-same I64 (λ (w : ℕ). not (isNegative w)) refl r in
     λ i. cond (not (a i) && b i) I64 (cond (not (a i) && c i) U64 F64)
 
-held-bare : (hs : List Segment) → heldType (map bare hs) ≡ heldType hs
-held-bare [] = refl
-held-bare (h ∷ hs) =
-    let a = only-bare (h .type) hs in
-    let b = numerical-bare (h ∷ hs) in
-    λ i. cond (a i) (h .type) (b i)
+held-same : {xs hs : List Segment} → Same xs hs → heldType xs ≡ heldType hs
+held-same none = refl
+held-same (some {x} {h} {xs} {hs} o r) =
+    let a = only-same (x .type) r ∙ ap (λ (t : ℕ). onlyType t hs) (o .type) in
+    let b = numerical-same (some {x = x} {h = h} {xs = xs} {hs = hs} o r) in
+    λ i. cond (a i) (o .type i) (b i)
 
-type-bare : (required : ℕ) (hs : List Segment) → typeOf required (map bare hs) ≡ typeOf required hs
+type-same : (required : ℕ) {xs hs : List Segment} → Same xs hs → typeOf required xs ≡ typeOf required hs
 unfolding typeOf
-type-bare required hs = ap (λ (x : ℕ). cond (eqb required noType) x required) (held-bare hs)
+type-same required r = ap (λ (x : ℕ). cond (eqb required noType) x required) (held-same r)
+
+become-same : (u : ℕ) {xs hs : List Segment} → Same xs hs → all (λ (s : Segment). isCoercible (s .type) u (s .values)) xs ≡ all (λ (s : Segment). isCoercible (s .type) u (s .values)) hs
+become-same u r =
+    all-same (λ (s : Segment). isCoercible (s .type) u (s .values)) (by-values (λ n vs. isCoercible n u vs) (λ vs ws. address-becomes u vs ∙ sym (address-becomes u ws))) r
 
 -- ---- from the parts to the definitions' segments
 
--- each column has its segment's type, is held as the segment is, and then has its values
+-- each column has its segment's type, is held as the segment is, and then its words say the segment's values
 pub record Typed (stands : List (List ℕ)) (values : List ℕ) (ss : List Segment) : Type 0 where
   pub many : length stands ≡ length ss
   pub type : (k : ℕ) → k < length ss → standAt stands k .typ ≡ getD ss k absent .type
   pub held : (k : ℕ) → k < length ss → standAt stands k .held ≡ cond (isHeld (getD ss k absent)) 1 0
-  pub values-are : (k : ℕ) → k < length ss → isHeld (getD ss k absent) ≡ true → valuesAt (standAt stands k) values ≡ getD ss k absent .values
+  pub values-are : (k : ℕ) → k < length ss → isHeld (getD ss k absent) ≡ true → valuesIn (getD ss k absent .type) (valuesAt (standAt stands k) values) ≡ getD ss k absent .values
 
 module _ {r : List ℕ} {rs : List (List ℕ)} {values : List ℕ} {s : Segment} {ss : List Segment} (t : Typed (r ∷ rs) values (s ∷ ss)) where
   typed-rest : Typed rs values ss
@@ -138,18 +158,19 @@ types-typed [] values (s ∷ ss) t = absurd (omega (arith, t .many))
 types-typed (r ∷ rs) values [] t = absurd (omega (arith, t .many))
 types-typed (r ∷ rs) values (s ∷ ss) t = λ i. type-here t i ∷ types-typed rs values ss (typed-rest t) i
 
-held-typed : (stands : List (List ℕ)) (values : List ℕ) (ss : List Segment) → Typed stands values ss → heldColumns (partsIn stands values) ≡ map bare (heldOf ss)
+held-typed : (stands : List (List ℕ)) (values : List ℕ) (ss : List Segment) → Typed stands values ss → Same (heldColumns (partsIn stands values)) (heldOf ss)
 unfolding heldColumns heldOf partsIn
-held-typed [] values [] t = refl
+held-typed [] values [] t = none
 held-typed [] values (s ∷ ss) t = absurd (omega (arith, t .many))
 held-typed (r ∷ rs) values [] t = absurd (omega (arith, t .many))
 held-typed (r ∷ rs) values (s ∷ ss) t =
-    ap (λ (b : Bool). heldColumns (record { type = standOf r .typ; values = valuesAt (standOf r) values; held = b } ∷ partsIn rs values)) (held-here t)
-    ∙ go (held-typed rs values ss (typed-rest t)) (isHeld s) refl
+    subst (λ (b : Bool). Same (heldColumns (record { type = standOf r .typ; values = valuesAt (standOf r) values; held = b } ∷ partsIn rs values)) (heldOf (s ∷ ss))) (sym (held-here t))
+    (go (held-typed rs values ss (typed-rest t)) (isHeld s) refl)
   where
-    go : heldColumns (partsIn rs values) ≡ map bare (filter isHeld ss) → (b : Bool) → isHeld s ≡ b
-        → heldColumns (record { type = standOf r .typ; values = valuesAt (standOf r) values; held = b } ∷ partsIn rs values) ≡ map bare (cond b (s ∷ filter isHeld ss) (filter isHeld ss))
-    go more true e = λ i. asColumn (record { type = type-here t i; values = t .values-are 0 (suc-le-suc zero-le) e i; held = true }) ∷ more i
+    go : Same (heldColumns (partsIn rs values)) (filter isHeld ss) → (b : Bool) → isHeld s ≡ b
+        → Same (heldColumns (record { type = standOf r .typ; values = valuesAt (standOf r) values; held = b } ∷ partsIn rs values)) (cond b (s ∷ filter isHeld ss) (filter isHeld ss))
+    go more true e =
+        some (record { type = type-here t; values = λ q. sym (values-plain (s .type) q (valuesAt (standOf r) values)) ∙ t .values-are 0 (suc-le-suc zero-le) e }) more
     go more false e = more
 
 cond-not : (b : Bool) (x y : TypeAnswer) → cond b x y ≡ cond (not b) y x
@@ -163,6 +184,6 @@ unfolding typeAnswer oneAmong typesWrong presentTypes allCoercible allBecome typ
 answer-is required {stands} {values} {ss} t =
     let held = held-typed stands values ss t in
     let a = ap (oneAmong required) (types-of stands values ∙ types-typed stands values ss t) in
-    let u = ap (typeOf required) held ∙ type-bare required (heldOf ss) in
-    let b = (λ i. all (λ (s : Segment). isCoercible (s .type) (u i) (s .values)) (held i)) ∙ all-bare (λ (s : Segment). isCoercible (s .type) (joinedType required ss) (s .values)) (λ s. refl) (heldOf ss) in
+    let u = type-same required held in
+    let b = (λ i. all (λ (s : Segment). isCoercible (s .type) (u i) (s .values)) (heldColumns (partsIn stands values))) ∙ become-same (joinedType required ss) held in
     (λ i. cond (a i && b i) (Joined (u i)) Wrong) ∙ cond-not (oneAmong required (map (λ (s : Segment). s .type) ss) && all (λ (s : Segment). isCoercible (s .type) (joinedType required ss) (s .values)) (heldOf ss)) (Joined (joinedType required ss)) Wrong

@@ -31,7 +31,7 @@ fn put_column(
 {
     let i = n.ids;
     let o = n.offsets;
-    let v = n.values;
+    let v = n.values * column_type::words_per_value(n.typ);
     let t = n.terms;
     let m = n.map;
     listing::put_accepted(
@@ -40,6 +40,7 @@ fn put_column(
         n.rows as u64,
         &ids[..i],
         &offsets[..o],
+        n.values as u64,
         &values[..v],
         &lengths[..t],
         bytes,

@@ -9,7 +9,7 @@ use lib.ListN.{length, drop, take, length-drop}
 use lib.Seq.{length-take-le}
 use borrow.Author.Tests.{eqb-true}
 use Rattle.definitions.specs.Lists.{sum, all, any}
-use Rattle.definitions.specs.Segment.{SegmentRecord, Sections, Input, segmentsOf, aliveWords, firstSegment, afterFirst, segmentsFrom}
+use Rattle.definitions.specs.Segment.{SegmentRecord, Sections, Input, segmentsOf, aliveWords, recordWords, firstSegment, afterFirst, segmentsFrom}
 use Rattle.definitions.specs.Row.{hasAliveSet}
 use Rattle.definitions.specs.Types.{isKnownType}
 use Rattle.definitions.specs.Answer.{total, codesWrong, aliveWrong, lengthsWrong, codesKnown, noColumnIsBare, segmentCodesWrong, isOld, someOld, listsFit, listsWrong, valuesFit, valuesWrong, bitPastRows, sumOver, bytesIn, termsIn, sumsTooLarge, greatestSum}
@@ -19,7 +19,7 @@ use Rattle.sections_fit.specs.Walks.{lengthsRight, Exact, codesFrom, kno
 use Rattle.definitions.proofs.Lists.{or-left, or-right}
 use Rattle.lists.proofs.Tests.{both-true}
 use Rattle.lists.proofs.Numbers.{not-ltb}
-use Rattle.definitions.proofs.Sections.{cut-length}
+use Rattle.definitions.proofs.Sections.{cut-length, values-many}
 use Rattle.lists.proofs.Cuts.{cut-bytes}
 use Rattle.lists.proofs.Sums.{sum-split}
 
@@ -33,7 +33,7 @@ pub lengths-wrong : (rs : List SegmentRecord) (s : Sections) → lengthsWrong rs
 unfolding lengthsWrong lengthsRight
 lengths-wrong rs s =
     ap not
-    (assoc6 (eqb (total (λ (r : SegmentRecord). r .ids) rs) (length (s .ids))) (eqb (total (λ (r : SegmentRecord). r .offsets) rs) (length (s .offsets))) (eqb (total (λ (r : SegmentRecord). r .values) rs) (length (s .values))) (eqb (total (λ (r : SegmentRecord). r .terms) rs) (length (s .termLengths))) (eqb (sum (s .termLengths)) (length (s .termBytes))) (eqb (total aliveWords rs) (length (s .alive))))
+    (assoc6 (eqb (total (λ (r : SegmentRecord). r .ids) rs) (length (s .ids))) (eqb (total (λ (r : SegmentRecord). r .offsets) rs) (length (s .offsets))) (eqb (total recordWords rs) (length (s .values))) (eqb (total (λ (r : SegmentRecord). r .terms) rs) (length (s .termLengths))) (eqb (sum (s .termLengths)) (length (s .termBytes))) (eqb (total aliveWords rs) (length (s .alive))))
 
 pub exact : (rs : List SegmentRecord) (s : Sections) → lengthsRight rs s ≡ true → Exact rs s
 unfolding lengthsRight
@@ -41,17 +41,17 @@ exact rs s h =
     let e = eqb (total aliveWords rs) (length (s .alive)) in
     let d = eqb (sum (s .termLengths)) (length (s .termBytes)) && e in
     let c = eqb (total (λ (r : SegmentRecord). r .terms) rs) (length (s .termLengths)) && d in
-    let b = eqb (total (λ (r : SegmentRecord). r .values) rs) (length (s .values)) && c in
+    let b = eqb (total recordWords rs) (length (s .values)) && c in
     let a = eqb (total (λ (r : SegmentRecord). r .offsets) rs) (length (s .offsets)) && b in
     let p = both-true (eqb (total (λ (r : SegmentRecord). r .ids) rs) (length (s .ids))) a h in
     let q = both-true (eqb (total (λ (r : SegmentRecord). r .offsets) rs) (length (s .offsets))) b (p .1) in
-    let t = both-true (eqb (total (λ (r : SegmentRecord). r .values) rs) (length (s .values))) c (q .1) in
+    let t = both-true (eqb (total recordWords rs) (length (s .values))) c (q .1) in
     let u = both-true (eqb (total (λ (r : SegmentRecord). r .terms) rs) (length (s .termLengths))) d (t .1) in
     let w = both-true (eqb (sum (s .termLengths)) (length (s .termBytes))) e (u .1) in
     record {
       ids = eqb-true (total (λ (r : SegmentRecord). r .ids) rs) (length (s .ids)) (p .0);
       offsets = eqb-true (total (λ (r : SegmentRecord). r .offsets) rs) (length (s .offsets)) (q .0);
-      values = eqb-true (total (λ (r : SegmentRecord). r .values) rs) (length (s .values)) (t .0);
+      words = eqb-true (total recordWords rs) (length (s .values)) (t .0);
       terms = eqb-true (total (λ (r : SegmentRecord). r .terms) rs) (length (s .termLengths)) (u .0);
       bytes = eqb-true (sum (s .termLengths)) (length (s .termBytes)) (w .0);
       alive = eqb-true (total aliveWords rs) (length (s .alive)) (w .1);
@@ -63,7 +63,7 @@ exact rs s h =
 record Held (rs : List SegmentRecord) (s : Sections) : Type 0 where
   ids : total (λ (r : SegmentRecord). r .ids) rs ≤ length (s .ids)
   offsets : total (λ (r : SegmentRecord). r .offsets) rs ≤ length (s .offsets)
-  values : total (λ (r : SegmentRecord). r .values) rs ≤ length (s .values)
+  words : total recordWords rs ≤ length (s .values)
   terms : total (λ (r : SegmentRecord). r .terms) rs ≤ length (s .termLengths)
 
 held-after : (r : SegmentRecord) (rs : List SegmentRecord) (s : Sections) → Held (r ∷ rs) s → Held rs (afterFirst r s)
@@ -72,14 +72,14 @@ held-after r rs s h =
     record {
       ids = rw (length-drop (r .ids) (s .ids)) (omega (arith, h .ids));
       offsets = rw (length-drop (r .offsets) (s .offsets)) (omega (arith, h .offsets));
-      values = rw (length-drop (r .values) (s .values)) (omega (arith, h .values));
+      words = rw (length-drop (recordWords r) (s .values)) (omega (arith, h .words));
       terms = rw (length-drop (r .terms) (s .termLengths)) (omega (arith, h .terms));
     }
 
 codes-all : (rs : List SegmentRecord) (s : Sections) → Held rs s → all (λ x. codesKnown x && noColumnIsBare x) (segmentsFrom rs s) ≡ codesFrom rs
 unfolding codesFrom
 codes-all [] s h = refl
-codes-all (r ∷ rs) s h = ap₂ (λ (a b : Bool). a && b) (codes-first r s (omega (arith, h .ids)) (omega (arith, h .offsets)) (omega (arith, h .values)) (omega (arith, h .terms))) (codes-all rs (afterFirst r s) (held-after r rs s h))
+codes-all (r ∷ rs) s h = ap₂ (λ (a b : Bool). a && b) (codes-first r s (omega (arith, h .ids)) (omega (arith, h .offsets)) (omega (arith, h .words)) (omega (arith, h .terms))) (codes-all rs (afterFirst r s) (held-after r rs s h))
 
 -- ---- 19
 
@@ -94,14 +94,14 @@ some-old (r ∷ rs) s = none-or (eqb (r .kind) 3) (any isOld (segmentsFrom rs (a
 
 -- ---- 4, of segments that have passed 19
 
-lists-all : (rs : List SegmentRecord) (s : Sections) → someOld (segmentsFrom rs s) ≡ false → total (λ (r : SegmentRecord). r .values) rs ≤ length (s .values)
+lists-all : (rs : List SegmentRecord) (s : Sections) → someOld (segmentsFrom rs s) ≡ false → total recordWords rs ≤ length (s .values)
     → all listsFit (segmentsFrom rs s) ≡ listsFrom rs (s .ids) (s .offsets)
 unfolding someOld listsFrom firstSegment afterFirst
 lists-all [] s old h = refl
 lists-all (r ∷ rs) s old h =
     let o = any isOld (segmentsFrom rs (afterFirst r s)) in
     ap₂ (λ (a b : Bool). a && b) (lists-first r s (or-left (eqb (r .kind) 3) o old) (omega arith))
-    (lists-all rs (afterFirst r s) (or-right (eqb (r .kind) 3) o old) (rw (length-drop (r .values) (s .values)) (omega arith)))
+    (lists-all rs (afterFirst r s) (or-right (eqb (r .kind) 3) o old) (rw (length-drop (recordWords r) (s .values)) (omega arith)))
 
 -- ---- 5
 
@@ -141,13 +141,13 @@ unfolding firstSegment
 rows-all [] s = refl
 rows-all (r ∷ rs) s = ap (λ (n : ℕ). r .rows + n) (rows-all rs (afterFirst r s))
 
-pub values-sum : (rs : List SegmentRecord) (s : Sections) → total (λ (r : SegmentRecord). r .values) rs ≤ length (s .values)
+pub values-sum : (rs : List SegmentRecord) (s : Sections) → total recordWords rs ≤ length (s .values)
     → sumOver (λ x. length (x .values)) (segmentsFrom rs s) ≡ total (λ (r : SegmentRecord). r .values) rs
 unfolding firstSegment afterFirst
 values-sum [] s h = refl
 values-sum (r ∷ rs) s h =
-    ap₂ (λ (a b : ℕ). a + b) (length-take-le (r .values) (s .values) (omega arith))
-    (values-sum rs (afterFirst r s) (rw (length-drop (r .values) (s .values)) (omega arith)))
+    ap₂ (λ (a b : ℕ). a + b) (values-many r (s .values) (omega arith))
+    (values-sum rs (afterFirst r s) (rw (length-drop (recordWords r) (s .values)) (omega arith)))
 
 pub terms-sum : (rs : List SegmentRecord) (s : Sections) → total (λ (r : SegmentRecord). r .terms) rs ≤ length (s .termLengths)
     → sumOver termsIn (segmentsFrom rs s) ≡ total (λ (r : SegmentRecord). r .terms) rs
@@ -186,21 +186,21 @@ low3 a b c = or3 (ltb greatestSum a) (ltb greatestSum b) (ltb greatestSum c) ∙
 module _ (rs : List SegmentRecord) (s : Sections) (x : Exact rs s) where
   pub codes-wrong : segmentCodesWrong (segmentsFrom rs s) ≡ not (codesFrom rs)
   unfolding segmentCodesWrong
-  codes-wrong = ap not (codes-all rs s (record { ids = omega (arith, x .ids); offsets = omega (arith, x .offsets); values = omega (arith, x .values); terms = omega (arith, x .terms) }))
+  codes-wrong = ap not (codes-all rs s (record { ids = omega (arith, x .ids); offsets = omega (arith, x .offsets); words = omega (arith, x .words); terms = omega (arith, x .terms) }))
 
   pub lists-wrong : someOld (segmentsFrom rs s) ≡ false → listsWrong (segmentsFrom rs s) ≡ not (listsFrom rs (s .ids) (s .offsets))
   unfolding listsWrong
-  lists-wrong old = ap not (lists-all rs s old (omega (arith, x .values)))
+  lists-wrong old = ap not (lists-all rs s old (omega (arith, x .words)))
 
   pub values-wrong : valuesWrong (segmentsFrom rs s) ≡ not (valuesFrom rs (s .values) (s .termLengths) (s .termBytes))
   unfolding valuesWrong
   values-wrong = ap not (values-all rs s)
 
-  pub sums-large : sumsTooLarge (segmentsFrom rs s) ≡ not (sumsRight (total (λ (r : SegmentRecord). r .rows) rs) (length (s .values)) (length (s .termBytes)))
+  pub sums-large : sumsTooLarge (segmentsFrom rs s) ≡ not (sumsRight (total (λ (r : SegmentRecord). r .rows) rs) (total (λ (r : SegmentRecord). r .values) rs) (length (s .termBytes)))
   unfolding sumsTooLarge sumsRight
   sums-large =
-      rw (rows-all rs s, values-sum rs s (omega (arith, x .values)), x .values, bytes-sum rs s (x .terms) (omega (arith, x .bytes)), x .bytes)
-      (low3 (total (λ (r : SegmentRecord). r .rows) rs) (length (s .values)) (length (s .termBytes)))
+      rw (rows-all rs s, values-sum rs s (omega (arith, x .words)), bytes-sum rs s (x .terms) (omega (arith, x .bytes)), x .bytes)
+      (low3 (total (λ (r : SegmentRecord). r .rows) rs) (total (λ (r : SegmentRecord). r .values) rs) (length (s .termBytes)))
 
 known-wrong : (a b c : Bool) → not (a && b) || not c ≡ not (a && (b && c))
 known-wrong true true c = refl

@@ -29,7 +29,7 @@ pub record Ready (rs : List SegmentRecord) (s : Sections) : Type 0 where
   pub few : length rs ≤ 256
   pub exact : Exact rs s
   pub rows : total (λ (r : SegmentRecord). r .rows) rs ≤ greatestSum
-  pub values : length (s .values) ≤ greatestSum
+  pub values : total (λ (r : SegmentRecord). r .values) rs ≤ greatestSum
   pub bytes : length (s .termBytes) ≤ greatestSum
 
 few-back : (rs : List SegmentRecord) → tooManySegments rs ≡ false → length rs ≤ 256
@@ -46,6 +46,7 @@ sums-low rows values bytes h =
 pub ready : (rs : List SegmentRecord) (s : Sections) → Passed (plainChecks rs s) → Ready rs s
 ready rs s p =
     let rows = total (λ (r : SegmentRecord). r .rows) rs in
+    let values = total (λ (r : SegmentRecord). r .values) rs in
     let x = exact rs s (not-false (lengthsRight rs s) (sym (lengths-wrong rs s) ∙ passes p 2)) in
-    let low = sums-low rows (length (s .values)) (length (s .termBytes)) (not-false (sumsRight rows (length (s .values)) (length (s .termBytes))) (sym (sums-large rs s x) ∙ passes p 7)) in
+    let low = sums-low rows values (length (s .termBytes)) (not-false (sumsRight rows values (length (s .termBytes))) (sym (sums-large rs s x) ∙ passes p 7)) in
     record { few = few-back rs (passes p 1); exact = x; rows = low .0; values = low .1; bytes = low .2 }

@@ -7,7 +7,7 @@ use native.Mathlib.Nat.{add-zero, zero-add, add-assoc}
 use lib.Dec.{eqb}
 use lib.ListN.{length, drop, take, getD}
 use Rattle.definitions.specs.Lists.{sum}
-use Rattle.definitions.specs.Segment.{SegmentRecord, aliveWords}
+use Rattle.definitions.specs.Segment.{SegmentRecord, aliveWords, recordWords}
 use Rattle.definitions.specs.Answer.{total}
 use Rattle.segment.specs.declared.Record.{Record}
 use Rattle.segment.specs.Records.{structOf, recordIn, recordsOf}
@@ -25,12 +25,12 @@ totalsFrom t [] = t
 totalsFrom t (r ∷ rs) = totalsFrom (addTo t r) rs
 
 abbrev pub noTotals : Totals
-noTotals = record { rows = 0; ids = 0; offsets = 0; values = 0; terms = 0; alive = 0 }
+noTotals = record { rows = 0; ids = 0; offsets = 0; values = 0; words = 0; terms = 0; alive = 0 }
 
 totals-are : (t : Totals) (rs : List SegmentRecord) → totalsFrom t rs
-    ≡ record { rows = t .rows + total (λ (r : SegmentRecord). r .rows) rs; ids = t .ids + total (λ (r : SegmentRecord). r .ids) rs; offsets = t .offsets + total (λ (r : SegmentRecord). r .offsets) rs; values = t .values + total (λ (r : SegmentRecord). r .values) rs; terms = t .terms + total (λ (r : SegmentRecord). r .terms) rs; alive = t .alive + total aliveWords rs }
+    ≡ record { rows = t .rows + total (λ (r : SegmentRecord). r .rows) rs; ids = t .ids + total (λ (r : SegmentRecord). r .ids) rs; offsets = t .offsets + total (λ (r : SegmentRecord). r .offsets) rs; values = t .values + total (λ (r : SegmentRecord). r .values) rs; words = t .words + total recordWords rs; terms = t .terms + total (λ (r : SegmentRecord). r .terms) rs; alive = t .alive + total aliveWords rs }
 unfolding totalsFrom addTo
-totals-are t [] = λ i. record { rows = sym (add-zero (t .rows)) i; ids = sym (add-zero (t .ids)) i; offsets = sym (add-zero (t .offsets)) i; values = sym (add-zero (t .values)) i; terms = sym (add-zero (t .terms)) i; alive = sym (add-zero (t .alive)) i }
+totals-are t [] = λ i. record { rows = sym (add-zero (t .rows)) i; ids = sym (add-zero (t .ids)) i; offsets = sym (add-zero (t .offsets)) i; values = sym (add-zero (t .values)) i; words = sym (add-zero (t .words)) i; terms = sym (add-zero (t .terms)) i; alive = sym (add-zero (t .alive)) i }
 totals-are t (r ∷ rs) =
     totals-are (addTo t r) rs
     ∙ (λ i. record {
@@ -38,6 +38,7 @@ totals-are t (r ∷ rs) =
       ids = add-assoc (t .ids) (r .ids) (total (λ (x : SegmentRecord). x .ids) rs) i;
       offsets = add-assoc (t .offsets) (r .offsets) (total (λ (x : SegmentRecord). x .offsets) rs) i;
       values = add-assoc (t .values) (r .values) (total (λ (x : SegmentRecord). x .values) rs) i;
+      words = add-assoc (t .words) (recordWords r) (total recordWords rs) i;
       terms = add-assoc (t .terms) (r .terms) (total (λ (x : SegmentRecord). x .terms) rs) i;
       alive = add-assoc (t .alive) (aliveWords r) (total aliveWords rs) i;
     })
@@ -50,6 +51,7 @@ totals-all rs =
       ids = zero-add (total (λ (r : SegmentRecord). r .ids) rs) i;
       offsets = zero-add (total (λ (r : SegmentRecord). r .offsets) rs) i;
       values = zero-add (total (λ (r : SegmentRecord). r .values) rs) i;
+      words = zero-add (total recordWords rs) i;
       terms = zero-add (total (λ (r : SegmentRecord). r .terms) rs) i;
       alive = zero-add (total aliveWords rs) i;
     })
@@ -97,13 +99,13 @@ module _ (records : List (List ℕ)) (s : ℕ) (h : s < length records) {r : Rec
   lists-step ids offsets i i′ o o′ p q =
       rw (part-is (r .ids) i i′ ids p, part-is (r .offsets) o o′ offsets q, rest-is (r .ids) i i′ ids p, rest-is (r .offsets) o o′ offsets q, records-step records s h e)
 
-  pub values-step : (values lengths bytes : List ℕ) (v v′ t t′ b n : ℕ) → v′ ≡ v + r .values → t′ ≡ t + r .terms → n ≡ sum (take (t′ - t) (drop t lengths))
+  pub values-step : (values lengths bytes : List ℕ) (v v′ t t′ b n : ℕ) → v′ ≡ v + recordWords (recordIn r) → t′ ≡ t + r .terms → n ≡ sum (take (t′ - t) (drop t lengths))
       → valuesFrom (recordsOf (drop s records)) (drop v values) (drop t lengths) (drop b bytes)
       ≡ fitsValues (recordIn r) (take (v′ - v) (drop v values)) (take (t′ - t) (drop t lengths)) (take (length bytes - b) (drop b bytes))
       && valuesFrom (recordsOf (drop (s + 1) records)) (drop v′ values) (drop t′ lengths) (drop (b + n) bytes)
   unfolding valuesFrom
   values-step values lengths bytes v v′ t t′ b n p q k =
-      rw (rest-is n b (b + n) bytes refl, k, part-is (r .values) v v′ values p, part-is (r .terms) t t′ lengths q, rest-is (r .values) v v′ values p, rest-is (r .terms) t t′ lengths q, part-rest b bytes, records-step records s h e)
+      rw (rest-is n b (b + n) bytes refl, k, part-is (recordWords (recordIn r)) v v′ values p, part-is (r .terms) t t′ lengths q, rest-is (recordWords (recordIn r)) v v′ values p, rest-is (r .terms) t t′ lengths q, part-rest b bytes, records-step records s h e)
 
   pub alive-step : (mode : ℕ) (alive : List ℕ) (a a′ n : ℕ) → n ≡ aliveWords (recordIn r) → a′ ≡ a + n
       → aliveFitsFrom mode (recordsOf (drop s records)) (drop a alive)

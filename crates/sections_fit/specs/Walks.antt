@@ -6,7 +6,7 @@ use mathlib.Core.Bool.{Bool, true, _&&_, not}
 use lib.ListN.{length, take, drop}
 use lib.Dec.{eqb, ltb, leb}
 use Rattle.definitions.specs.Lists.{sum}
-use Rattle.definitions.specs.Segment.{SegmentRecord, Sections, aliveWords}
+use Rattle.definitions.specs.Segment.{SegmentRecord, Sections, aliveWords, recordWords}
 use Rattle.definitions.specs.Answer.{total, greatestSum}
 use Rattle.definitions.specs.Types.{isKnownType}
 use Rattle.segment_fit.specs.Fits.{fitsCodes, fitsLists, fitsValues, fitsAlive}
@@ -21,12 +21,13 @@ totalsOf rs =
       ids = total (λ (r : SegmentRecord). r .ids) rs;
       offsets = total (λ (r : SegmentRecord). r .offsets) rs;
       values = total (λ (r : SegmentRecord). r .values) rs;
+      words = total recordWords rs;
       terms = total (λ (r : SegmentRecord). r .terms) rs;
       alive = total aliveWords rs;
     }
 
 unfoldable pub addTo : Totals → SegmentRecord → Totals
-addTo t r = record { rows = t .rows + r .rows; ids = t .ids + r .ids; offsets = t .offsets + r .offsets; values = t .values + r .values; terms = t .terms + r .terms; alive = t .alive + aliveWords r }
+addTo t r = record { rows = t .rows + r .rows; ids = t .ids + r .ids; offsets = t .offsets + r .offsets; values = t .values + r .values; words = t .words + recordWords r; terms = t .terms + r .terms; alive = t .alive + aliveWords r }
 
 -- no sum is above n
 pub record Below (t : Totals) (n : ℕ) : Type 0 where
@@ -34,12 +35,13 @@ pub record Below (t : Totals) (n : ℕ) : Type 0 where
   pub ids : t .ids ≤ n
   pub offsets : t .offsets ≤ n
   pub values : t .values ≤ n
+  pub words : t .words ≤ n
   pub terms : t .terms ≤ n
   pub alive : t .alive ≤ n
 
--- each sum has grown by less than 2^32
+-- each sum has grown by at most 2^33
 abbrev pub Grown : Totals → Totals → Type 0
-Grown t x = (n : ℕ) → Below t n → Below x (n + 4294967296)
+Grown t x = (n : ℕ) → Below t n → Below x (n + 8589934592)
 
 -- ---- 2
 
@@ -48,7 +50,7 @@ unfoldable pub lengthsRight : List SegmentRecord → Sections → Bool
 lengthsRight rs s =
     eqb (total (λ (r : SegmentRecord). r .ids) rs) (length (s .ids))
     && (eqb (total (λ (r : SegmentRecord). r .offsets) rs) (length (s .offsets))
-    && (eqb (total (λ (r : SegmentRecord). r .values) rs) (length (s .values))
+    && (eqb (total recordWords rs) (length (s .values))
     && (eqb (total (λ (r : SegmentRecord). r .terms) rs) (length (s .termLengths))
     && (eqb (sum (s .termLengths)) (length (s .termBytes))
     && eqb (total aliveWords rs) (length (s .alive))))))
@@ -57,7 +59,7 @@ lengthsRight rs s =
 pub record Exact (rs : List SegmentRecord) (s : Sections) : Type 0 where
   pub ids : total (λ (r : SegmentRecord). r .ids) rs ≡ length (s .ids)
   pub offsets : total (λ (r : SegmentRecord). r .offsets) rs ≡ length (s .offsets)
-  pub values : total (λ (r : SegmentRecord). r .values) rs ≡ length (s .values)
+  pub words : total recordWords rs ≡ length (s .values)
   pub terms : total (λ (r : SegmentRecord). r .terms) rs ≡ length (s .termLengths)
   pub bytes : sum (s .termLengths) ≡ length (s .termBytes)
   pub alive : total aliveWords rs ≡ length (s .alive)
@@ -93,11 +95,11 @@ pub record HoldsLists (rs : List SegmentRecord) (is os : List ℕ) : Type 0 wher
 unfoldable pub valuesFrom : List SegmentRecord → List ℕ → List ℕ → List ℕ → Bool
 valuesFrom [] values lengths bytes = true
 valuesFrom (r ∷ rs) values lengths bytes =
-    fitsValues r (take (r .values) values) (take (r .terms) lengths) bytes
-    && valuesFrom rs (drop (r .values) values) (drop (r .terms) lengths) (drop (sum (take (r .terms) lengths)) bytes)
+    fitsValues r (take (recordWords r) values) (take (r .terms) lengths) bytes
+    && valuesFrom rs (drop (recordWords r) values) (drop (r .terms) lengths) (drop (sum (take (r .terms) lengths)) bytes)
 
 pub record HoldsValues (rs : List SegmentRecord) (vs ls bs : List ℕ) : Type 0 where
-  pub values : total (λ (r : SegmentRecord). r .values) rs ≤ length vs
+  pub words : total recordWords rs ≤ length vs
   pub terms : total (λ (r : SegmentRecord). r .terms) rs ≤ length ls
   pub bytes : sum ls ≤ length bs
 

@@ -13,19 +13,20 @@ ghost use Rattle.sections_fit.specs.Walks.{totalsOf, addTo, Below, Grown
 
 // ---- sums
 
-// The sums of the records' counts.
+// The sums of the records' counts, and of the words that their values and alive sets have.
 pub struct Totals {
     pub rows: usize,
     pub ids: usize,
     pub offsets: usize,
     pub values: usize,
+    pub words: usize,
     pub terms: usize,
     pub alive: usize,
 }
 
 // The sums with one record more.
 fn plus(t: Totals, r: segment::Record) -> Totals
-    requires { ⌜ Below t 1099511627776 ⌝ }
+    requires { ⌜ Below t 2199023255552 ⌝ }
     ensures { λ x. ⌜ x ≡ addTo t (recordIn r) ⌝ }
     ensures { λ x. ⌜ Grown t x ⌝ }
 {
@@ -33,6 +34,7 @@ fn plus(t: Totals, r: segment::Record) -> Totals
     let ids = t.ids + segment::wide(r.ids);
     let offsets = t.offsets + segment::wide(r.offsets);
     let values = t.values + segment::wide(r.values);
+    let words = t.words + segment::value_words(r);
     let terms = t.terms + segment::wide(r.terms);
     let alive = t.alive + segment::alive_words(r);
     Totals {
@@ -40,6 +42,7 @@ fn plus(t: Totals, r: segment::Record) -> Totals
         ids: ids,
         offsets: offsets,
         values: values,
+        words: words,
         terms: terms,
         alive: alive,
     }
@@ -55,6 +58,7 @@ pub fn totals_of(records: &[segment::RecordNumbers]) -> Totals
         ids: 0,
         offsets: 0,
         values: 0,
+        words: 0,
         terms: 0,
         alive: 0,
     };
@@ -88,7 +92,7 @@ fn lengths_fit(
     if t.offsets != offsets.len() {
         return false;
     }
-    if t.values != values.len() {
+    if t.words != values.len() {
         return false;
     }
     if t.terms != lengths.len() {
@@ -185,7 +189,7 @@ fn all_values_fit(
     let mut b: usize = 0;
     while s < records.len() {
         let r = segment::record_at(records, s);
-        let v_end = v + segment::wide(r.values);
+        let v_end = v + segment::value_words(r);
         let t_end = t + segment::wide(r.terms);
         if !segment_fit::values_fit(r, &values[v..v_end], &lengths[t..t_end], &bytes[b..]) {
             return false;
@@ -270,7 +274,7 @@ pub fn first_to_seven(
         return 6;
     }
     let t = totals_of(records);
-    if !sums_fit(t.rows, values.len(), bytes.len()) {
+    if !sums_fit(t.rows, t.values, bytes.len()) {
         return 7;
     }
     0

@@ -3,7 +3,7 @@ ghost use mathlib.Core.Path.{_≡_};
 ghost use mathlib.Core.List.{[]};
 ghost use Prim.Native.Nat.{_<_, _≤_};
 ghost use lib.ListN.{length, getD};
-ghost use Rattle.definitions.specs.Segment.{aliveWords};
+ghost use Rattle.definitions.specs.Segment.{aliveWords, recordWords};
 ghost use Rattle.segment.specs.Records.{structOf, recordIn};
 
 pub struct Record {
@@ -66,4 +66,12 @@ pub fn alive_words(r: Record) -> usize
         return (wide(rows) + 63) / 64;
     }
     0
+}
+
+// How many words the segment's values have.
+pub fn value_words(r: Record) -> usize
+    ensures { λ n. ⌜ n ≡ recordWords (recordIn r) ⌝ }
+    ensures { λ n. ⌜ n ≤ 8589934592 ⌝ }
+{
+    wide(r.values) * column_type::words_per_value(r.typ)
 }

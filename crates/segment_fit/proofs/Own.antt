@@ -9,13 +9,14 @@ use lib.ListN.{length, take, getD}
 use lib.Seq.{length-take-le}
 use borrow.Author.Tests.{eqb-true}
 use Rattle.definitions.specs.Lists.{all, isEmpty, last, ascending, termsAscending, allBelow}
-use Rattle.definitions.specs.Segment.{SegmentRecord, Sections, cut, aliveWords, firstSegment}
+use Rattle.definitions.specs.Words.{IpAddr, paired, valuesIn}
+use Rattle.definitions.specs.Segment.{SegmentRecord, Sections, cut, aliveWords, recordWords, firstSegment}
 use Rattle.definitions.specs.Row.{hasAliveSet, noType}
 use Rattle.definitions.specs.Types.{isKnownType, hasTerms, BoolType}
 use Rattle.definitions.specs.Answer.{codesKnown, noColumnIsBare, idsFit, offsetsFit, emptyFits, fullFits, optionalFits, oldFits, newFits, listsFit, valuesFit, bitPastRows}
 use Rattle.lists.proofs.Numbers.{leb-suc}
 use Rattle.lists.proofs.Lists.{empty-length, all-ext}
-use Rattle.definitions.proofs.Sections.{cut-length}
+use Rattle.definitions.proofs.Sections.{cut-length, values-many}
 use Rattle.segment.specs.Kind.{byIndex}
 use Rattle.segment.proofs.Kind.{by-index}
 use Rattle.term_reader.specs.Read.{termsRise}
@@ -28,6 +29,9 @@ empty-take n xs h = empty-length (take n xs) ∙ ap (λ (k : ℕ). eqb k 0) (len
 
 empty-cut : (n : ℕ) (xs bytes : List ℕ) → n ≤ length xs → isEmpty (cut (take n xs) bytes) ≡ eqb n 0
 empty-cut n xs bytes h = empty-length (cut (take n xs) bytes) ∙ ap (λ (k : ℕ). eqb k 0) (cut-length (take n xs) bytes ∙ length-take-le n xs h)
+
+empty-values : (r : SegmentRecord) (words : List ℕ) → recordWords r ≤ length words → isEmpty (valuesIn (r .type) (take (recordWords r) words)) ≡ eqb (r .values) 0
+empty-values r words h = empty-length (valuesIn (r .type) (take (recordWords r) words)) ∙ ap (λ (k : ℕ). eqb k 0) (values-many r words h)
 
 -- ---- tests in another sequence
 
@@ -53,11 +57,11 @@ pub assoc5 : (a b c d e : Bool) → a && b && c && d && e ≡ a && (b && (c && (
 assoc5 true b c d e = assoc4 b c d e
 assoc5 false b c d e = refl
 
-pub codes-first : (r : SegmentRecord) (s : Sections) → r .ids ≤ length (s .ids) → r .offsets ≤ length (s .offsets) → r .values ≤ length (s .values) → r .terms ≤ length (s .termLengths)
+pub codes-first : (r : SegmentRecord) (s : Sections) → r .ids ≤ length (s .ids) → r .offsets ≤ length (s .offsets) → recordWords r ≤ length (s .values) → r .terms ≤ length (s .termLengths)
     → codesKnown (firstSegment r s) && noColumnIsBare (firstSegment r s) ≡ fitsCodes r
 unfolding firstSegment fitsCodes bareCounts codesKnown noColumnIsBare
 codes-first r s i o v t =
-    rw (empty-take (r .ids) (s .ids) i, empty-take (r .offsets) (s .offsets) o, empty-take (r .values) (s .values) v, empty-cut (r .terms) (s .termLengths) (s .termBytes) t, assoc5 (eqb (r .kind) 0) (eqb (r .ids) 0) (eqb (r .offsets) 0) (eqb (r .values) 0) (eqb (r .terms) 0))
+    rw (empty-take (r .ids) (s .ids) i, empty-take (r .offsets) (s .offsets) o, empty-values r (s .values) v, empty-cut (r .terms) (s .termLengths) (s .termBytes) t, assoc5 (eqb (r .kind) 0) (eqb (r .ids) 0) (eqb (r .offsets) 0) (eqb (r .values) 0) (eqb (r .terms) 0))
     (assoc4 (isKnownType (r .type)) (ltb (r .kind) 5) (ltb (r .flag) 2) (not (eqb (r .type) noType) || (eqb (r .kind) 0 && (eqb (r .ids) 0 && (eqb (r .offsets) 0 && (eqb (r .values) 0 && eqb (r .terms) 0))))))
 
 -- ---- 4
@@ -87,13 +91,13 @@ module _ (rows n : ℕ) (ids offsets values : List ℕ) (v : length values ≡ n
   unfolding fitsNew rises
   new-is = rw (ids-is, offsets-is, ← add-one (length ids)) (rotate4 (fitsIds rows ids) (eqb (length offsets) (length ids + 1)) (fitsOffsets n offsets) (ascending offsets))
 
-pub lists-first : (r : SegmentRecord) (s : Sections) → eqb (r .kind) 3 ≡ false → r .values ≤ length (s .values) → listsFit (firstSegment r s) ≡ fitsLists r (take (r .ids) (s .ids)) (take (r .offsets) (s .offsets))
+pub lists-first : (r : SegmentRecord) (s : Sections) → eqb (r .kind) 3 ≡ false → recordWords r ≤ length (s .values) → listsFit (firstSegment r s) ≡ fitsLists r (take (r .ids) (s .ids)) (take (r .offsets) (s .offsets))
 unfolding firstSegment fitsLists listsFit idsFit offsetsFit emptyFits fullFits optionalFits oldFits newFits
 lists-first r s old h =
     let i = take (r .ids) (s .ids) in
     let o = take (r .offsets) (s .offsets) in
-    let w = take (r .values) (s .values) in
-    let v = length-take-le (r .values) (s .values) h in
+    let w = valuesIn (r .type) (take (recordWords r) (s .values)) in
+    let v = values-many r (s .values) h in
     by-index (r .kind) (emptyFits (firstSegment r s)) (fullFits (firstSegment r s)) (optionalFits (firstSegment r s)) (oldFits (firstSegment r s)) (newFits (firstSegment r s)) old
     ∙ λ j.
     byIndex (r .kind)
@@ -120,6 +124,15 @@ words-is t n vs = go (eqb t BoolType) refl
         pick true = refl
         pick false = refl
 
+-- no test looks into an address
+words-same : (t n : ℕ) (ws : List ℕ) → fitsWords t n (valuesIn t ws) ≡ fitsWords t n ws
+unfolding fitsWords valuesIn hasTerms
+words-same t n ws = go (eqb t IpAddr) refl
+  where
+    go : (b : Bool) → eqb t IpAddr ≡ b → fitsWords t n (cond b (paired ws) ws) ≡ fitsWords t n ws
+    go true e = rw (eqb-true t 6 e)
+    go false e = refl
+
 terms-is : (t k : ℕ) (ls bs : List ℕ) → termsAscending (cut ls bs) && (isEmpty (cut ls bs) || (hasTerms t && not (eqb k 0))) ≡ fitsTerms t k ls bs
 unfolding fitsTerms termsRise
 terms-is t k [] bs = refl
@@ -128,14 +141,14 @@ terms-is t k (n ∷ ns) bs = rw (eqb·suc-zero (length ns)) (swap (termsAscendin
     swap : (a b c : Bool) → a && (b && c) ≡ b && (c && a)
     swap a b c = sym (and-assoc a b c) ∙ rotate3 a b c
 
-pub values-first : (r : SegmentRecord) (s : Sections) → valuesFit (firstSegment r s) ≡ fitsValues r (take (r .values) (s .values)) (take (r .terms) (s .termLengths)) (s .termBytes)
+pub values-first : (r : SegmentRecord) (s : Sections) → valuesFit (firstSegment r s) ≡ fitsValues r (take (recordWords r) (s .values)) (take (r .terms) (s .termLengths)) (s .termBytes)
 unfolding firstSegment fitsValues valuesFit
 values-first r s =
     let ls = take (r .terms) (s .termLengths) in
-    let vs = take (r .values) (s .values) in
+    let vs = valuesIn (r .type) (take (recordWords r) (s .values)) in
     rw (cut-length ls (s .termBytes))
     (and-assoc ((not (eqb (r .type) BoolType) || all (λ w. leb w 1) vs) && (not (hasTerms (r .type)) || all (λ w. ltb w (length ls)) vs)) (termsAscending (cut ls (s .termBytes))) (isEmpty (cut ls (s .termBytes)) || (hasTerms (r .type) && not (eqb (r .kind) 0)))
-    ∙ ap₂ (λ (a b : Bool). a && b) (words-is (r .type) (length ls) vs) (terms-is (r .type) (r .kind) ls (s .termBytes)))
+    ∙ ap₂ (λ (a b : Bool). a && b) (words-is (r .type) (length ls) vs ∙ words-same (r .type) (length ls) (take (recordWords r) (s .values))) (terms-is (r .type) (r .kind) ls (s .termBytes)))
 
 -- ---- 6
 

@@ -21,7 +21,7 @@ use Rattle.column_index.proofs.Sound.{asc-step}
 use Rattle.column_index.proofs.Walk.{walk-widths}
 use Rattle.stands.specs.Width.{idsOf, totalsOf}
 use Rattle.stands.specs.declared.Stand.{Stand}
-use Rattle.stands.specs.Stand.{run, many, standAt}
+use Rattle.stands.specs.Stand.{run, standAt}
 use Rattle.stands.specs.Look.{idsAt, offsetsAt, startIn, endIn, widthIn}
 use Rattle.stands.specs.Stack.{segmentWidths, stackedWidths, allRows, SoundAt, AllSound}
 use Rattle.stands.proofs.Stack.{width-empty, width-full, width-none, width-optional, width-multi, ids-none, totals-none, ids-every, totals-every, ids-walk, totals-ones, totals-walk}
@@ -90,7 +90,7 @@ module _ {place : Stand} {ids offsets : List ℕ} (sa : SoundAt place ids offset
   unfolding segmentWidths
   seg-length = up-length (widthIn place ids offsets) (place .rows)
 
-  pub seg-sum : sum (segmentWidths place ids offsets) ≡ place .values .to - place .values .from
+  pub seg-sum : sum (segmentWidths place ids offsets) ≡ place .count
   unfolding segmentWidths widthIn startIn endIn widthOf
   seg-sum = walk-widths (sa .sound)
 
@@ -156,7 +156,7 @@ module _ {place : Stand} {ids offsets : List ℕ} (sa : SoundAt place ids offset
   pub seg-ids-below : (m f : ℕ) → (place .kind ≡ 0 → ⊥) → (place .kind ≡ 1 → ⊥) → f + place .rows ≤ m → Below m (shifted f (idsAt place ids))
   seg-ids-below m f a b l = shift-below m f (place .rows) (idsAt place ids) (below (sa .sound) a b) l
 
-  pub seg-totals-below : (m t : ℕ) (ts : List ℕ) → totalsOf t (segmentWidths place ids offsets) ≡ ts → t + (place .values .to - place .values .from) < m → Below m ts
+  pub seg-totals-below : (m t : ℕ) (ts : List ℕ) → totalsOf t (segmentWidths place ids offsets) ≡ ts → t + place .count < m → Below m ts
   seg-totals-below m t ts e l k q =
       let p = totals-below t (segmentWidths place ids offsets) k (rw e q) in
       let z = seg-sum sa in
@@ -179,7 +179,7 @@ unfolding allRows
 rows-step stands s h = rw (add-one s, drop-cons stands s [])
 
 module _ {stands : List (List ℕ)} {ids offsets : List ℕ} (l : AllSound stands ids offsets) {s : ℕ} (h : s < length stands) where
-  pub values-step : sum (stackedWidths (drop s stands) ids offsets) ≡ (many (standAt stands s .values)) + sum (stackedWidths (drop (s + 1) stands) ids offsets)
+  pub values-step : sum (stackedWidths (drop s stands) ids offsets) ≡ standAt stands s .count + sum (stackedWidths (drop (s + 1) stands) ids offsets)
   values-step =
       ap sum (stacked-step stands ids offsets s h)
       ∙ sum-append (segmentWidths (standAt stands s) ids offsets) (stackedWidths (drop (s + 1) stands) ids offsets)

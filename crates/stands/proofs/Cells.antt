@@ -1,5 +1,6 @@
--- From flat runs to a row's values: what the code lends is the cell, and its length is the width. Assumes nothing.
-use Prim.Native.Nat.{ℕ, suc, _+_, _-_, _<_}
+-- From flat runs to a row's values: what the code lends is the cell, and its length is the width in words. Assumes nothing.
+use Prim.Native.Nat.{ℕ, suc, _+_, _-_, _*_, _≤_, _<_}
+use native.Mathlib.Nat.{mul-le-mul-right}
 use native.Mathlib.Omega.{arith}
 use mathlib.Core.Path.{_≡_, refl, sym, ap, ap₂, _∙_}
 use mathlib.Core.List.{List, [], _∷_, map}
@@ -9,12 +10,14 @@ use Rattle.definitions.specs.Join.{idsFrom, totalsFrom}
 use Rattle.column_index.proofs.Walk.{sound-readable, sound-rises}
 use Rattle.stands.specs.Width.{idsOf, totalsOf}
 use Rattle.stands.specs.declared.Stand.{Stand}
-use Rattle.stands.specs.Stand.{run}
-use Rattle.stands.specs.Look.{valuesAt, startIn, endIn, widthIn, cellIn, Within, Inside}
+use Rattle.stands.specs.Stand.{run, many}
+use Rattle.stands.specs.Look.{valuesAt, startIn, endIn, widthIn, wordsOf, cellIn, Within, Inside}
 use Rattle.stands.specs.Stack.{SoundAt}
 use Rattle.lists.proofs.Parts.{run-length, drop-take}
+use Rattle.lists.proofs.Numbers.{sub-times}
 
 -- every row of a sound segment can be looked up
+
 pub sound-within : {place : Stand} {ids offsets : List ℕ} → SoundAt place ids offsets → (r : ℕ) → r < place .rows → Within place ids offsets r
 unfolding startIn endIn
 sound-within sa r h =
@@ -25,21 +28,36 @@ sound-within sa r h =
       rises = sound-rises (sa .sound) h;
     }
 
-module _ (place : Stand) (ids offsets values : List ℕ) (row : ℕ) where
-  module _ (i : Inside place ids offsets values row) where
-    -- the values from b + start to b + end of the section are the row's
-    pub cell-run : run (place .values .from + startIn place ids offsets row) (place .values .from + endIn place ids offsets row) values ≡ cellIn place ids offsets values row
-    unfolding cellIn
-    cell-run =
-        ap₂ (λ (m : ℕ) (l : List ℕ). take m l)
-        (let k : (place .values .from + endIn place ids offsets row) - (place .values .from + startIn place ids offsets row) ≡ endIn place ids offsets row - startIn place ids offsets row = omega arith in k)
-        (sym (drop-drop (startIn place ids offsets row) (place .values .from) values))
-        ∙ sym (drop-take (startIn place ids offsets row) (endIn place ids offsets row) (drop (place .values .from) values))
-        ∙ ap (drop (startIn place ids offsets row)) (sym (take-take (endIn place ids offsets row) (place .values .to - place .values .from) (drop (place .values .from) values) (i .inside)))
+-- how many words so many values have
+pub words-many : (p : Stand) (x y : ℕ) → many (wordsOf p x y) ≡ (y - x) * p .unit
+words-many p x y = (let k : p .values .from + y * p .unit - (p .values .from + x * p .unit) ≡ y * p .unit - x * p .unit = omega arith in k) ∙ sym (sub-times y x (p .unit))
 
-    pub cell-length : length (cellIn place ids offsets values row) ≡ widthIn place ids offsets row
-    unfolding widthIn cellIn
-    cell-length = length-slice (startIn place ids offsets row) (endIn place ids offsets row) (valuesAt place values) (rw (run-length (place .values .from) (place .values .to) values (i .values-lie .ends)) (i .inside))
+module _ (place : Stand) (ids offsets values : List ℕ) (row : ℕ) (i : Inside place ids offsets values row) where
+  -- where the words of the row's values begin and end among the segment's
+  abbrev from : ℕ
+  from = startIn place ids offsets row * place .unit
+
+  abbrev till : ℕ
+  till = endIn place ids offsets row * place .unit
+
+  pub cell-in : till ≤ many (place .values)
+  cell-in = rw (i .long) (mul-le-mul-right (place .unit) (i .inside))
+
+  -- the words from b + from to b + till of the section are the row's
+  pub cell-run : run (place .values .from + from) (place .values .from + till) values ≡ cellIn place ids offsets values row
+  unfolding cellIn
+  cell-run =
+      ap₂ (λ (m : ℕ) (l : List ℕ). take m l)
+      (let k : (place .values .from + till) - (place .values .from + from) ≡ till - from = omega arith in k)
+      (sym (drop-drop from (place .values .from) values))
+      ∙ sym (drop-take from till (drop (place .values .from) values))
+      ∙ ap (drop from) (sym (take-take till (many (place .values)) (drop (place .values .from) values) cell-in))
+
+  pub cell-length : length (cellIn place ids offsets values row) ≡ widthIn place ids offsets row * place .unit
+  unfolding widthIn cellIn
+  cell-length =
+      length-slice from till (valuesAt place values) (rw (run-length (place .values .from) (place .values .to) values (i .values-lie .ends)) cell-in)
+      ∙ sym (sub-times (endIn place ids offsets row) (startIn place ids offsets row) (place .unit))
 
 -- ---- the definitions' row ids and offsets, from the widths
 

@@ -6,7 +6,8 @@ use native.Mathlib.Omega.{arith}
 use mathlib.Core.Path.{_≡_, refl, sym, ap, ap₂, _∙_, subst}
 use mathlib.Core.List.{List}
 use lib.ListN.{length, getD, set, take}
-use Rattle.definitions.specs.Segment.{aliveWords}
+use Rattle.definitions.specs.Words.{wordsPerValue}
+use Rattle.definitions.specs.Segment.{aliveWords, recordWords}
 use Rattle.runs.specs.Put.{put}
 use Rattle.runs.proofs.Laws.{putting, putting-more, putting-all, front-lent}
 use Rattle.stands.specs.declared.Stand.{Stand}
@@ -42,12 +43,12 @@ pub record Ends (records : List (List ℕ)) (s : ℕ) (p : Stand) : Type 0 where
   pub work : p .work + p .rows ≡ startAt (λ r. r .rows) records s
   pub ids : p .ids .to ≡ startAt (λ r. r .ids) records s
   pub offsets : p .offsets .to ≡ startAt (λ r. r .offsets) records s
-  pub values : p .values .to ≡ startAt (λ r. r .values) records s
+  pub values : p .values .to ≡ startAt recordWords records s
   pub terms : p .terms .to ≡ startAt (λ r. r .terms) records s
-  pub words : p .words .to ≡ startAt aliveWords records s
+  pub alive : p .alive .to ≡ startAt aliveWords records s
 
 pub ends-none : (records : List (List ℕ)) → Ends records 0 nowhere
-ends-none records = record { work = refl; ids = refl; offsets = refl; values = refl; terms = refl; words = refl }
+ends-none records = record { work = refl; ids = refl; offsets = refl; values = refl; terms = refl; alive = refl }
 
 pub next-is : {records : List (List ℕ)} {s : ℕ} {p : Stand} → Ends records s p → nextStand p (recordAt records s) ≡ standIn records s
 unfolding nextStand standIn
@@ -60,26 +61,28 @@ next-is {records} {s} e =
       held = 0;
       rows = recordAt records s .rows;
       work = e .work i;
+      count = recordAt records s .values;
+      unit = wordsPerValue (recordAt records s .type);
       ids = record { from = e .ids i; to = e .ids i + recordAt records s .ids };
       offsets = record { from = e .offsets i; to = e .offsets i + recordAt records s .offsets };
-      values = record { from = e .values i; to = e .values i + recordAt records s .values };
+      values = record { from = e .values i; to = e .values i + recordWords (recordAt records s) };
       terms = record { from = e .terms i; to = e .terms i + recordAt records s .terms };
       text = record { from = 0; to = 0 };
-      words = record { from = e .words i; to = e .words i + aliveWords (recordAt records s) };
+      alive = record { from = e .alive i; to = e .alive i + aliveWords (recordAt records s) };
       map = record { from = 0; to = 0 };
     }
 
 ends-suc : (records : List (List ℕ)) (s : ℕ) → Ends records (suc s) (standIn records s)
 unfolding standIn
-ends-suc records s = record { work = refl; ids = refl; offsets = refl; values = refl; terms = refl; words = refl }
+ends-suc records s = record { work = refl; ids = refl; offsets = refl; values = refl; terms = refl; alive = refl }
 
 pub ends-next : {records : List (List ℕ)} (s : ℕ) {x : Stand} → x ≡ standIn records s → Ends records (s + 1) x
 ends-next {records} s e = rw (add-one s) (subst (Ends records (suc s)) (sym e) (ends-suc records s))
 
 pub low-none : Low nowhere 0
-low-none = record { work = le-refl 0; ids = le-refl 0; offsets = le-refl 0; values = le-refl 0; terms = le-refl 0; words = le-refl 0 }
+low-none = record { work = le-refl 0; ids = le-refl 0; offsets = le-refl 0; values = le-refl 0; terms = le-refl 0; alive = le-refl 0 }
 
-pub low-next : {p x : Stand} (s : ℕ) → Low p (s * 4294967296) → Grown p x → Low x ((s + 1) * 4294967296)
+pub low-next : {p x : Stand} (s : ℕ) → Low p (s * 8589934592) → Grown p x → Low x ((s + 1) * 8589934592)
 low-next s l g =
     record {
       work = omega (arith, l .work, g .work);
@@ -87,11 +90,11 @@ low-next s l g =
       offsets = omega (arith, l .offsets, g .offsets);
       values = omega (arith, l .values, g .values);
       terms = omega (arith, l .terms, g .terms);
-      words = omega (arith, l .words, g .words);
+      alive = omega (arith, l .alive, g .alive);
     }
 
 -- at most 256 segments
-pub low-enough : {p : Stand} (s : ℕ) → Low p (s * 4294967296) → s < 256 → Low p 1099511627776
+pub low-enough : {p : Stand} (s : ℕ) → Low p (s * 8589934592) → s < 256 → Low p 2199023255552
 low-enough s l h =
     record {
       work = omega (arith, l .work);
@@ -99,7 +102,7 @@ low-enough s l h =
       offsets = omega (arith, l .offsets);
       values = omega (arith, l .values);
       terms = omega (arith, l .terms);
-      words = omega (arith, l .words);
+      alive = omega (arith, l .alive);
     }
 
 -- ---- the table of a call

@@ -1,13 +1,15 @@
 -- The stands that the pass over the records fills are where the segments stand. Assumes nothing.
-use Prim.Native.Nat.{ℕ, _+_, _≤_, _<_}
+use Prim.Native.Nat.{ℕ, _+_, _*_, _≤_, _<_}
 use native.Mathlib.Nat.{add-sub-cancel-left}
 use native.Mathlib.Omega.{arith}
-use mathlib.Core.Path.{_≡_, refl, sym, ap, subst}
+use mathlib.Core.Path.{_≡_, refl, sym, ap, _∙_, subst}
 use mathlib.Core.List.{List}
-use lib.ListN.{length, getD, take, drop}
-use Rattle.definitions.specs.Segment.{Segment, SegmentRecord, aliveWords, firstSegment, segmentsFrom}
+use lib.ListN.{length, getD, take, drop, length-drop}
+use Rattle.definitions.specs.Words.{wordsPerValue, valuesIn}
+use Rattle.definitions.specs.Segment.{Segment, SegmentRecord, aliveWords, recordWords, firstSegment, segmentsFrom}
 use Rattle.definitions.specs.Join.{absent}
 use Rattle.definitions.specs.Answer.{total}
+use Rattle.definitions.proofs.Sections.{values-many}
 use Rattle.segment.specs.Records.{recordsOf, sectionsIn, recordAt, startAt}
 use Rattle.segment.proofs.At.{sectionsAt, segment-is, start-total, start-fits}
 use Rattle.segment.proofs.Walk.{words-enough}
@@ -21,8 +23,13 @@ run-of a n whole left e = rw (add-sub-cancel-left a n, e)
 pub record Held (records : List (List ℕ)) (is os vs ws : List ℕ) : Type 0 where
   pub ids : total (λ (r : SegmentRecord). r .ids) (recordsOf records) ≤ length is
   pub offsets : total (λ (r : SegmentRecord). r .offsets) (recordsOf records) ≤ length os
-  pub values : total (λ (r : SegmentRecord). r .values) (recordsOf records) ≤ length vs
-  pub words : total aliveWords (recordsOf records) ≤ length ws
+  pub values : total recordWords (recordsOf records) ≤ length vs
+  pub alive : total aliveWords (recordsOf records) ≤ length ws
+
+-- a record's words are as many for each of its values
+words-many : (r : SegmentRecord) → recordWords r ≡ r .values * wordsPerValue (r .type)
+unfolding recordWords
+words-many r = refl
 
 -- the run of each count, behind those of the segments before
 module _ (f : SegmentRecord → ℕ) (records : List (List ℕ)) (section : List ℕ) (u : total f (recordsOf records) ≤ length section) (k : ℕ) (h : k < length records) where
@@ -33,6 +40,12 @@ module _ (f : SegmentRecord → ℕ) (records : List (List ℕ)) (section : List
   lies-there = record { rises = omega arith; ends = start-fits f records (length section) k u h }
 
 module _ (records : List (List ℕ)) (ids offsets values lengths bytes words : List ℕ) (u : Held records ids offsets values words) (k : ℕ) (h : k < length records) where
+  fits : recordWords (recordAt records k) ≤ length (drop (total recordWords (take k (recordsOf records))) values)
+  fits =
+      let e = start-total recordWords records k (omega arith) in
+      let f = start-fits recordWords records (length values) k (u .values) h in
+      rw (length-drop (total recordWords (take k (recordsOf records))) values) (omega arith)
+
   at-stands : Stands (standIn records k) ids offsets values words (firstSegment (recordAt records k) (sectionsAt k (recordsOf records) (sectionsIn ids offsets values lengths bytes words)))
   unfolding standIn firstSegment sectionsAt
   at-stands =
@@ -42,12 +55,15 @@ module _ (records : List (List ℕ)) (ids offsets values lengths bytes words : L
         flag = refl;
         ids-are = run-there (λ r. r .ids) records ids (u .ids) k h;
         offsets-are = run-there (λ r. r .offsets) records offsets (u .offsets) k h;
-        values-are = run-there (λ r. r .values) records values (u .values) k h;
-        words-are = run-there aliveWords records words (u .words) k h;
+        values-are = ap (valuesIn (recordAt records k .type)) (run-there recordWords records values (u .values) k h);
+        count = sym (values-many (recordAt records k) (drop (total recordWords (take k (recordsOf records))) values) fits);
+        unit = refl;
+        long = add-sub-cancel-left (startAt recordWords records k) (recordWords (recordAt records k)) ∙ words-many (recordAt records k);
+        alive-are = run-there aliveWords records words (u .alive) k h;
         ids-lie = lies-there (λ r. r .ids) records ids (u .ids) k h;
         offsets-lie = lies-there (λ r. r .offsets) records offsets (u .offsets) k h;
-        values-lie = lies-there (λ r. r .values) records values (u .values) k h;
-        words-lie = lies-there aliveWords records words (u .words) k h;
+        values-lie = lies-there recordWords records values (u .values) k h;
+        alive-lie = lies-there aliveWords records words (u .alive) k h;
         enough = λ e. rw (add-sub-cancel-left (startAt aliveWords records k) (aliveWords (recordAt records k))) (words-enough (recordAt records k) e);
       }
 

@@ -1,11 +1,13 @@
 -- A row looked up where its segment stands. Assumes nothing.
-use Prim.Native.Nat.{ℕ, _-_, _*_, _≤_}
+use Prim.Native.Nat.{ℕ, _+_, _-_, _*_, _≤_}
 use mathlib.Core.Path.{_≡_}
 use mathlib.Core.List.{List, [], _∷_}
-use lib.ListN.{getD}
+use lib.ListN.{length, getD}
 use lib.Seq.{slice}
+use Rattle.definitions.specs.Words.{wordsPerValue, valuesIn}
 use Rattle.definitions.specs.Segment.{Segment}
 use Rattle.column_index.specs.Lookup.{startOf, endOf, Readable}
+use Rattle.stands.specs.declared.Span.{Span}
 use Rattle.stands.specs.declared.Stand.{Stand}
 use Rattle.stands.specs.Stand.{part, many, Lies, standAt}
 
@@ -15,11 +17,12 @@ idsAt p ids = part (p .ids) ids
 abbrev pub offsetsAt : Stand → List ℕ → List ℕ
 offsetsAt p offsets = part (p .offsets) offsets
 
+-- the words of its values
 abbrev pub valuesAt : Stand → List ℕ → List ℕ
 valuesAt p values = part (p .values) values
 
-abbrev pub wordsAt : Stand → List ℕ → List ℕ
-wordsAt p words = part (p .words) words
+abbrev pub aliveSetAt : Stand → List ℕ → List ℕ
+aliveSetAt p words = part (p .alive) words
 
 unfoldable pub startIn : Stand → List ℕ → List ℕ → ℕ → ℕ
 startIn p ids offsets row = startOf (p .kind) (idsAt p ids) (offsetsAt p offsets) row
@@ -45,9 +48,13 @@ unfolding widthIn
 widths stands ids offsets [] = []
 widths stands ids offsets (a ∷ as′) = widthIn (addressed stands a) ids offsets (rowOf a) ∷ widths stands ids offsets as′
 
--- the row's values
+-- where the words of the segment's values from x to y stand in the section
+abbrev pub wordsOf : Stand → ℕ → ℕ → Span
+wordsOf p x y = record { from = p .values .from + x * p .unit; to = p .values .from + y * p .unit }
+
+-- the words of the row's values
 unfoldable pub cellIn : Stand → List ℕ → List ℕ → List ℕ → ℕ → List ℕ
-cellIn p ids offsets values row = slice (startIn p ids offsets row) (endIn p ids offsets row) (valuesAt p values)
+cellIn p ids offsets values row = slice (startIn p ids offsets row * p .unit) (endIn p ids offsets row * p .unit) (valuesAt p values)
 
 -- the runs lie within the sections, and the row can be looked up
 pub record Within (p : Stand) (ids offsets : List ℕ) (row : ℕ) : Type 0 where
@@ -60,19 +67,23 @@ pub record Within (p : Stand) (ids offsets : List ℕ) (row : ℕ) : Type 0 wher
 pub record Inside (p : Stand) (ids offsets values : List ℕ) (row : ℕ) : Type 0 where
   pub within : Within p ids offsets row
   pub values-lie : Lies (p .values) values
-  pub inside : endIn p ids offsets row ≤ many (p .values)
+  pub inside : endIn p ids offsets row ≤ p .count
+  pub long : many (p .values) ≡ p .count * p .unit
 
--- where p says, the segment's runs lie
+-- where p says, the segment's runs lie; what the words there say are its values
 pub record Stands (p : Stand) (ids offsets values words : List ℕ) (s : Segment) : Type 0 where
   pub kind : p .kind ≡ s .kind
   pub rows : p .rows ≡ s .rows
   pub flag : p .flag ≡ s .flag
   pub ids-are : idsAt p ids ≡ s .ids
   pub offsets-are : offsetsAt p offsets ≡ s .offsets
-  pub values-are : valuesAt p values ≡ s .values
-  pub words-are : wordsAt p words ≡ s .alive
+  pub values-are : valuesIn (s .type) (valuesAt p values) ≡ s .values
+  pub count : p .count ≡ length (s .values)
+  pub unit : p .unit ≡ wordsPerValue (s .type)
+  pub long : many (p .values) ≡ p .count * p .unit
+  pub alive-are : aliveSetAt p words ≡ s .alive
   pub ids-lie : Lies (p .ids) ids
   pub offsets-lie : Lies (p .offsets) offsets
   pub values-lie : Lies (p .values) values
-  pub words-lie : Lies (p .words) words
-  pub enough : s .flag ≡ 1 → s .rows ≤ 64 * many (p .words)
+  pub alive-lie : Lies (p .alive) words
+  pub enough : s .flag ≡ 1 → s .rows ≤ 64 * many (p .alive)

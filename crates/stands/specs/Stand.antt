@@ -3,7 +3,8 @@ use Prim.Native.Nat.{ℕ, _+_, _-_, _≤_}
 use mathlib.Core.List.{List, [], _∷_, map}
 use lib.ListN.{length, getD, take, drop}
 use Rattle.definitions.specs.Lists.{upTo}
-use Rattle.definitions.specs.Segment.{SegmentRecord, aliveWords}
+use Rattle.definitions.specs.Words.{wordsPerValue}
+use Rattle.definitions.specs.Segment.{SegmentRecord, aliveWords, recordWords}
 use Rattle.segment.specs.Records.{recordAt, startAt}
 use Rattle.stands.specs.declared.Span.{Span}
 use Rattle.stands.specs.declared.Stand.{Stand}
@@ -45,13 +46,15 @@ standOf r =
       held = getD r 3 0;
       rows = getD r 4 0;
       work = getD r 5 0;
-      ids = record { from = getD r 6 0; to = getD r 7 0 };
-      offsets = record { from = getD r 8 0; to = getD r 9 0 };
-      values = record { from = getD r 10 0; to = getD r 11 0 };
-      terms = record { from = getD r 12 0; to = getD r 13 0 };
-      text = record { from = getD r 14 0; to = getD r 15 0 };
-      words = record { from = getD r 16 0; to = getD r 17 0 };
-      map = record { from = getD r 18 0; to = getD r 19 0 };
+      count = getD r 6 0;
+      unit = getD r 7 0;
+      ids = record { from = getD r 8 0; to = getD r 9 0 };
+      offsets = record { from = getD r 10 0; to = getD r 11 0 };
+      values = record { from = getD r 12 0; to = getD r 13 0 };
+      terms = record { from = getD r 14 0; to = getD r 15 0 };
+      text = record { from = getD r 16 0; to = getD r 17 0 };
+      alive = record { from = getD r 18 0; to = getD r 19 0 };
+      map = record { from = getD r 20 0; to = getD r 21 0 };
     }
 
 abbrev pub numbersOf : Stand → List ℕ
@@ -62,6 +65,8 @@ numbersOf p =
     ∷ p .held
     ∷ p .rows
     ∷ p .work
+    ∷ p .count
+    ∷ p .unit
     ∷ p .ids .from
     ∷ p .ids .to
     ∷ p .offsets .from
@@ -72,8 +77,8 @@ numbersOf p =
     ∷ p .terms .to
     ∷ p .text .from
     ∷ p .text .to
-    ∷ p .words .from
-    ∷ p .words .to
+    ∷ p .alive .from
+    ∷ p .alive .to
     ∷ p .map .from
     ∷ p .map .to
     ∷ []
@@ -97,12 +102,14 @@ standIn records k =
       held = 0;
       rows = recordAt records k .rows;
       work = startAt (λ r. r .rows) records k;
+      count = recordAt records k .values;
+      unit = wordsPerValue (recordAt records k .type);
       ids = span (startAt (λ r. r .ids) records k) (recordAt records k .ids);
       offsets = span (startAt (λ r. r .offsets) records k) (recordAt records k .offsets);
-      values = span (startAt (λ r. r .values) records k) (recordAt records k .values);
+      values = span (startAt recordWords records k) (recordWords (recordAt records k));
       terms = span (startAt (λ r. r .terms) records k) (recordAt records k .terms);
       text = span 0 0;
-      words = span (startAt aliveWords records k) (aliveWords (recordAt records k));
+      alive = span (startAt aliveWords records k) (aliveWords (recordAt records k));
       map = span 0 0;
     }
 
@@ -123,12 +130,14 @@ nextStand p r =
       held = 0;
       rows = r .rows;
       work = p .work + p .rows;
+      count = r .values;
+      unit = wordsPerValue (r .type);
       ids = span (p .ids .to) (r .ids);
       offsets = span (p .offsets .to) (r .offsets);
-      values = span (p .values .to) (r .values);
+      values = span (p .values .to) (recordWords r);
       terms = span (p .terms .to) (r .terms);
       text = span 0 0;
-      words = span (p .words .to) (aliveWords r);
+      alive = span (p .alive .to) (aliveWords r);
       map = span 0 0;
     }
 
@@ -139,13 +148,13 @@ pub record Low (p : Stand) (n : ℕ) : Type 0 where
   pub offsets : p .offsets .to ≤ n
   pub values : p .values .to ≤ n
   pub terms : p .terms .to ≤ n
-  pub words : p .words .to ≤ n
+  pub alive : p .alive .to ≤ n
 
--- each run of x ends at most 2^32 after that of p
+-- each run of x ends at most 2^33 after that of p
 pub record Grown (p x : Stand) : Type 0 where
-  pub work : x .work + x .rows ≤ p .work + p .rows + 4294967296
-  pub ids : x .ids .to ≤ p .ids .to + 4294967296
-  pub offsets : x .offsets .to ≤ p .offsets .to + 4294967296
-  pub values : x .values .to ≤ p .values .to + 4294967296
-  pub terms : x .terms .to ≤ p .terms .to + 4294967296
-  pub words : x .words .to ≤ p .words .to + 4294967296
+  pub work : x .work + x .rows ≤ p .work + p .rows + 8589934592
+  pub ids : x .ids .to ≤ p .ids .to + 8589934592
+  pub offsets : x .offsets .to ≤ p .offsets .to + 8589934592
+  pub values : x .values .to ≤ p .values .to + 8589934592
+  pub terms : x .terms .to ≤ p .terms .to + 8589934592
+  pub alive : x .alive .to ≤ p .alive .to + 8589934592

@@ -15,7 +15,8 @@ pub struct Span {
     pub to: usize,
 }
 
-// Where a segment stands: the codes and rows of its record, whether it is held, its first byte where there is a working byte for each row, and its runs.
+// Where a segment stands: the codes and rows of its record, whether it is held, its first byte where there is a working byte for each row, how many values it has
+// and how many words each of them has, and its runs, that of values in words.
 pub struct Stand {
     pub typ: usize,
     pub kind: usize,
@@ -23,17 +24,19 @@ pub struct Stand {
     pub held: usize,
     pub rows: usize,
     pub work: usize,
+    pub count: usize,
+    pub unit: usize,
     pub ids: Span,
     pub offsets: Span,
     pub values: Span,
     pub terms: Span,
     pub text: Span,
-    pub words: Span,
+    pub alive: Span,
     pub map: Span,
 }
 
 // How many numbers a stand has.
-pub const NUMBERS: usize = 20;
+pub const NUMBERS: usize = 22;
 
 // A stand's numbers, as a table has them.
 pub type StandNumbers = [usize; NUMBERS];
@@ -43,32 +46,32 @@ pub fn stand_of(r: StandNumbers) -> Stand
     ensures { λ x. ⌜ x ≡ standOf r ⌝ }
 {
     let ids = Span {
-        from: r[6],
-        to: r[7],
-    };
-    let offsets = Span {
         from: r[8],
         to: r[9],
     };
-    let values = Span {
+    let offsets = Span {
         from: r[10],
         to: r[11],
     };
-    let terms = Span {
+    let values = Span {
         from: r[12],
         to: r[13],
     };
-    let text = Span {
+    let terms = Span {
         from: r[14],
         to: r[15],
     };
-    let words = Span {
+    let text = Span {
         from: r[16],
         to: r[17],
     };
-    let map = Span {
+    let alive = Span {
         from: r[18],
         to: r[19],
+    };
+    let map = Span {
+        from: r[20],
+        to: r[21],
     };
     Stand {
         typ: r[0],
@@ -77,12 +80,14 @@ pub fn stand_of(r: StandNumbers) -> Stand
         held: r[3],
         rows: r[4],
         work: r[5],
+        count: r[6],
+        unit: r[7],
         ids: ids,
         offsets: offsets,
         values: values,
         terms: terms,
         text: text,
-        words: words,
+        alive: alive,
         map: map,
     }
 }
@@ -106,6 +111,8 @@ pub fn numbers_of(p: Stand) -> StandNumbers
         p.held,
         p.rows,
         p.work,
+        p.count,
+        p.unit,
         p.ids.from,
         p.ids.to,
         p.offsets.from,
@@ -116,8 +123,8 @@ pub fn numbers_of(p: Stand) -> StandNumbers
         p.terms.to,
         p.text.from,
         p.text.to,
-        p.words.from,
-        p.words.to,
+        p.alive.from,
+        p.alive.to,
         p.map.from,
         p.map.to,
     ]
@@ -145,15 +152,15 @@ fn before_all() -> Stand
 
 // The segment of a record whose runs follow those of the segment at p.
 fn next(p: Stand, r: segment::Record) -> Stand
-    requires { ⌜ Low p 1099511627776 ⌝ }
+    requires { ⌜ Low p 2199023255552 ⌝ }
     ensures { λ x. ⌜ x ≡ nextStand p (recordIn r) ⌝ }
     ensures { λ x. ⌜ Grown p x ⌝ }
 {
     let ids = from_on(p.ids.to, segment::wide(r.ids));
     let offsets = from_on(p.offsets.to, segment::wide(r.offsets));
-    let values = from_on(p.values.to, segment::wide(r.values));
+    let values = from_on(p.values.to, segment::value_words(r));
     let terms = from_on(p.terms.to, segment::wide(r.terms));
-    let words = from_on(p.words.to, segment::alive_words(r));
+    let alive = from_on(p.alive.to, segment::alive_words(r));
     let none = Span { from: 0, to: 0 };
     Stand {
         typ: segment::wide(r.typ),
@@ -162,12 +169,14 @@ fn next(p: Stand, r: segment::Record) -> Stand
         held: 0,
         rows: segment::wide(r.rows),
         work: p.work + p.rows,
+        count: segment::wide(r.values),
+        unit: column_type::words_per_value(r.typ),
         ids: ids,
         offsets: offsets,
         values: values,
         terms: terms,
         text: none,
-        words: words,
+        alive: alive,
         map: none,
     }
 }

@@ -7,18 +7,21 @@ use native.Mathlib.Nat.{le-of-suc-le-suc}
 use native.Mathlib.Omega.{arith}
 use lib.Dec.{T, eqb, ltb, leb, ltb→lt}
 use lib.Ieee.Fits.{and-l, and-r}
+use lib.Ieee.Bits.{is-true}
 use lib.ListN.{length, getD, replicate}
 use Rattle.definitions.specs.Lists.{all, isEmpty, termsAscending}
+use Rattle.definitions.specs.Words.{IpAddr}
 use Rattle.definitions.specs.Segment.{Segment}
 use Rattle.definitions.specs.Row.{rowValues, hasAliveSet, isAlive, aliveRows}
 use Rattle.definitions.specs.Types.{hasTerms, BoolType}
 use Rattle.definitions.specs.Join.{isUsed}
 use Rattle.definitions.specs.Answer.{indexFits, valuesFit}
+use Rattle.definitions.proofs.Words.{values-plain, terms-plain}
 use Rattle.runs.specs.Put.{Below}
 use Rattle.column_index.proofs.Walk.{fits-sound}
 use Rattle.stands.specs.declared.Stand.{Stand}
 use Rattle.stands.specs.Stand.{many, Lies, standOf, standAt}
-use Rattle.stands.specs.Look.{idsAt, offsetsAt, valuesAt, wordsAt}
+use Rattle.stands.specs.Look.{idsAt, offsetsAt, valuesAt, aliveSetAt}
 use Rattle.stands.proofs.Bridge.{Stands}
 use Rattle.term_cursors.specs.Cursors.{unmarkedAt}
 use Rattle.term_marks.specs.Marks.{columnAt, bit, isKept, markedIn, markedAll, Marking, Usable, Columns, Apart}
@@ -80,10 +83,33 @@ module _ (ids offsets values alive : List ℕ) where
       → getD (markedAll stands ids offsets values alive marks) (standAt stands s .terms .from + i) 0 ≡ bit (isKept (columnAt (standAt stands s) ids offsets values alive) i)
   mark-at {stands} {marks} n a c e s i h l = marked-at stands marks a c (λ k m x g. ap (λ (y : List ℕ). getD y x 0) e ∙ zeros-at n x) s i h l
 
+-- ---- what check 5 says of a segment that has terms
+
+-- its type is one that has them, and its values are ordinals
+terms-hold : (a b c d o : Bool) (ts : List (List ℕ)) → 0 < length ts → T (a && (not b || o) && c && (isEmpty ts || (b && d))) → T (b && o)
+terms-hold a true c d o ts z h = and-r a o (and-l (a && o) c (and-l (a && o && c) (isEmpty ts || d) h))
+terms-hold a false c d o [] z h = absurd (omega arith)
+terms-hold a false c d o (t ∷ ts) z h = absurd (and-r (a && true && c) false h)
+
+of-terms : (s : Segment) → T (valuesFit s) → 0 < length (s .terms) → T (hasTerms (s .type) && all (λ w. ltb w (length (s .terms))) (s .values))
+unfolding valuesFit
+of-terms s fit pos =
+    terms-hold (not (eqb (s .type) BoolType) || all (λ w. leb w 1) (s .values)) (hasTerms (s .type)) (termsAscending (s .terms)) (not (eqb (s .kind) 0)) (all (λ w. ltb w (length (s .terms))) (s .values)) (s .terms) pos fit
+
+ordinals-below : (s : Segment) → T (valuesFit s) → 0 < length (s .terms) → Below (length (s .terms)) (s .values)
+ordinals-below s fit pos k h =
+    ltb→lt (getD (s .values) k 0) (length (s .terms))
+    (all-at (λ w. ltb w (length (s .terms))) (s .values) k 0 (and-r (hasTerms (s .type)) (all (λ w. ltb w (length (s .terms))) (s .values)) (of-terms s fit pos)) h)
+
+-- its values have one word each
+pub words-single : (s : Segment) → T (valuesFit s) → 0 < length (s .terms) → eqb (s .type) IpAddr ≡ false
+words-single s fit pos =
+    terms-plain (s .type) (is-true (hasTerms (s .type)) (and-l (hasTerms (s .type)) (all (λ w. ltb w (length (s .terms))) (s .values)) (of-terms s fit pos)))
+
 -- ---- the segment that stands there
 
-module _ {p : Stand} {ids offsets values words : List ℕ} {s : Segment} (st : Stands p ids offsets values words s) where
-  column-is : record { type = s .type; kind = p .kind; rows = p .rows; ids = idsAt p ids; offsets = offsetsAt p offsets; values = valuesAt p values; terms = s .terms; flag = p .flag; alive = wordsAt p words } ≡ s
+module _ {p : Stand} {ids offsets values words : List ℕ} {s : Segment} (st : Stands p ids offsets values words s) (plain : eqb (s .type) IpAddr ≡ false) where
+  column-is : record { type = s .type; kind = p .kind; rows = p .rows; ids = idsAt p ids; offsets = offsetsAt p offsets; values = valuesAt p values; terms = s .terms; flag = p .flag; alive = aliveSetAt p words } ≡ s
   column-is =
       λ i.
       record {
@@ -92,10 +118,10 @@ module _ {p : Stand} {ids offsets values words : List ℕ} {s : Segment} (st : S
         rows = st .rows i;
         ids = st .ids-are i;
         offsets = st .offsets-are i;
-        values = st .values-are i;
+        values = (sym (values-plain (s .type) plain (valuesAt p values)) ∙ st .values-are) i;
         terms = s .terms;
         flag = st .flag i;
-        alive = st .words-are i;
+        alive = st .alive-are i;
       }
 
   pub kept-is : (i : ℕ) → isKept (columnAt p ids offsets values words) i ≡ cond (hasAliveSet s) (isUsed s i) true
@@ -103,20 +129,6 @@ module _ {p : Stand} {ids offsets values words : List ℕ} {s : Segment} (st : S
   kept-is i = ap (λ (z : Segment). isKept z i) column-is
 
 -- ---- what the checks give the marks pass
-
--- what check 5 says of ordinals holds where there are terms
-ordinals-hold : (a b c d o : Bool) (ts : List (List ℕ)) → 0 < length ts → T (a && (not b || o) && c && (isEmpty ts || (b && d))) → T o
-ordinals-hold a true c d o ts z h = and-r a o (and-l (a && o) c (and-l (a && o && c) (isEmpty ts || d) h))
-ordinals-hold a false c d o [] z h = absurd (omega arith)
-ordinals-hold a false c d o (t ∷ ts) z h = absurd (and-r (a && true && c) false h)
-
-ordinals-below : (s : Segment) → T (valuesFit s) → 0 < length (s .terms) → Below (length (s .terms)) (s .values)
-unfolding valuesFit
-ordinals-below s fit pos k h =
-    ltb→lt (getD (s .values) k 0) (length (s .terms))
-    (all-at (λ w. ltb w (length (s .terms))) (s .values) k 0
-    (ordinals-hold (not (eqb (s .type) BoolType) || all (λ w. leb w 1) (s .values)) (hasTerms (s .type)) (termsAscending (s .terms)) (not (eqb (s .kind) 0)) (all (λ w. ltb w (length (s .terms))) (s .values)) (s .terms) pos fit)
-    h)
 
 -- a segment that passed the checks stands at p, its terms' marks too
 pub record Checked (p : Stand) (ids offsets values words marks : List ℕ) (s : Segment) : Type 0 where
@@ -131,12 +143,12 @@ usable-of : {p : Stand} {ids offsets values words marks : List ℕ} {s : Segment
 usable-of {p} {words} {s} d =
     let st = d .stands in
     record {
-      lying = record { ids-lie = st .ids-lie; offsets-lie = st .offsets-lie; values-lie = st .values-lie; words-lie = st .words-lie };
+      lying = record { ids-lie = st .ids-lie; offsets-lie = st .offsets-lie; values-lie = st .values-lie; alive-lie = st .alive-lie };
       marking = λ e pos.
-          subst (λ (z : Segment). Marking (z .kind) (z .rows) (z .ids) (z .offsets) (z .values) (z .alive) (many (p .terms))) (sym (column-is st))
+          subst (λ (z : Segment). Marking (z .kind) (z .rows) (z .ids) (z .offsets) (z .values) (z .alive) (many (p .terms))) (sym (column-is st (words-single s (d .ordinals) (omega (arith, d .terms)))))
           (record {
             sound = fits-sound s (d .lists);
-            words = omega (arith, st .enough (sym (st .flag) ∙ e), ap length (st .words-are), run-length (p .words .from) (p .words .to) words (st .words-lie .ends));
+            words = omega (arith, st .enough (sym (st .flag) ∙ e), ap length (st .alive-are), run-length (p .alive .from) (p .alive .to) words (st .alive-lie .ends));
             ordinals = subst (λ (n : ℕ). Below n (s .values)) (sym (d .terms)) (ordinals-below s (d .ordinals) (omega (arith, d .terms)));
             few = d .few;
           });

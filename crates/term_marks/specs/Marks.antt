@@ -13,7 +13,7 @@ use Rattle.runs.specs.Put.{put, Below}
 use Rattle.column_index.specs.Lookup.{startOf, endOf, Sound}
 use Rattle.stands.specs.declared.Stand.{Stand}
 use Rattle.stands.specs.Stand.{part, many, Lies, standOf, standAt}
-use Rattle.stands.specs.Look.{idsAt, offsetsAt, valuesAt, wordsAt}
+use Rattle.stands.specs.Look.{idsAt, offsetsAt, valuesAt, aliveSetAt}
 
 -- ---- a segment's term
 
@@ -29,7 +29,7 @@ columnAt p ids offsets values alive =
       values = valuesAt p values;
       terms = [];
       flag = p .flag;
-      alive = wordsAt p alive;
+      alive = aliveSetAt p alive;
     }
 
 -- a segment keeps its term k: it has no alive set, or an alive row uses the term
@@ -57,7 +57,7 @@ usedFrom kind ids offsets values alive row (suc n) = usedBy kind ids offsets val
 
 -- those of all rows of the segment
 abbrev pub usedIn : Stand → List ℕ → List ℕ → List ℕ → List ℕ → List ℕ
-usedIn p ids offsets values alive = usedFrom (p .kind) (idsAt p ids) (offsetsAt p offsets) (valuesAt p values) (wordsAt p alive) 0 (p .rows)
+usedIn p ids offsets values alive = usedFrom (p .kind) (idsAt p ids) (offsetsAt p offsets) (valuesAt p values) (aliveSetAt p alive) 0 (p .rows)
 
 -- a segment's part of the marks: what its alive rows use, or all without an alive set
 unfoldable pub marksOver : Stand → List ℕ → List ℕ → List ℕ → List ℕ → List ℕ → List ℕ
@@ -78,7 +78,7 @@ pub record Lying (p : Stand) (ids offsets values alive : List ℕ) : Type 0 wher
   pub ids-lie : Lies (p .ids) ids
   pub offsets-lie : Lies (p .offsets) offsets
   pub values-lie : Lies (p .values) values
-  pub words-lie : Lies (p .words) alive
+  pub alive-lie : Lies (p .alive) alive
 
 -- 2, 4, 5 and 7 of a segment with n terms
 pub record Marking (kind rows : ℕ) (ids offsets values alive : List ℕ) (n : ℕ) : Type 0 where
@@ -88,7 +88,7 @@ pub record Marking (kind rows : ℕ) (ids offsets values alive : List ℕ) (n : 
   pub few : rows < 4294967296
 
 abbrev pub MarkingAt : Stand → List ℕ → List ℕ → List ℕ → List ℕ → ℕ → Type 0
-MarkingAt p ids offsets values alive n = Marking (p .kind) (p .rows) (idsAt p ids) (offsetsAt p offsets) (valuesAt p values) (wordsAt p alive) n
+MarkingAt p ids offsets values alive n = Marking (p .kind) (p .rows) (idsAt p ids) (offsetsAt p offsets) (valuesAt p values) (aliveSetAt p alive) n
 
 -- they are asked of a segment that has terms and an alive set
 pub record Usable (p : Stand) (ids offsets values alive : List ℕ) (n : ℕ) : Type 0 where

@@ -94,8 +94,8 @@ fn mark_used(
     let o_end = p.offsets.to;
     let v = p.values.from;
     let v_end = p.values.to;
-    let w = p.words.from;
-    let w_end = p.words.to;
+    let w = p.alive.from;
+    let w_end = p.alive.to;
     mark_rows(
         p.kind,
         p.rows as u32,

@@ -9,7 +9,7 @@ use lib.ListN.{length, drop, take, getD, drop-of-length-le}
 use lib.Seq.{drop-cons}
 use borrow.Author.Tests.{eq-eqb, ne-eqb, le-leb, lt-leb}
 use Rattle.definitions.specs.Lists.{notFallingFrom}
-use Rattle.definitions.specs.Segment.{SegmentRecord, aliveWords}
+use Rattle.definitions.specs.Segment.{SegmentRecord, aliveWords, recordWords}
 use Rattle.definitions.specs.Row.{bitAt}
 use Rattle.definitions.specs.TimeOrder.{timeOf}
 use Rattle.segment.specs.declared.Record.{Record}
@@ -94,12 +94,12 @@ module _ (records : List (List ℕ)) (s : ℕ) (h : length records ≤ s) where
   alive-end alive = rw (records-end records s h)
 
 module _ (records : List (List ℕ)) (s : ℕ) (h : s < length records) {r : Record} (e : r ≡ structOf (getD records s [])) where
-  pub times-step : (offsets values : List ℕ) (o o′ v v′ : ℕ) → o′ ≡ o + r .offsets → v′ ≡ v + r .values
+  pub times-step : (offsets values : List ℕ) (o o′ v v′ : ℕ) → o′ ≡ o + r .offsets → v′ ≡ v + recordWords (recordIn r)
       → timesFrom (recordsOf (drop s records)) (drop o offsets) (drop v values)
       ≡ fitsTimes (recordIn r) (take (o′ - o) (drop o offsets)) (take (v′ - v) (drop v values)) && timesFrom (recordsOf (drop (s + 1) records)) (drop o′ offsets) (drop v′ values)
   unfolding timesFrom
   times-step offsets values o o′ v v′ p q =
-      rw (part-is (r .offsets) o o′ offsets p, part-is (r .values) v v′ values q, rest-is (r .offsets) o o′ offsets p, rest-is (r .values) v v′ values q, records-step records s h e)
+      rw (part-is (r .offsets) o o′ offsets p, part-is (recordWords (recordIn r)) v v′ values q, rest-is (r .offsets) o o′ offsets p, rest-is (recordWords (recordIn r)) v v′ values q, records-step records s h e)
 
   pub alive-step : (alive : List ℕ) (a a′ n : ℕ) → n ≡ aliveWords (recordIn r) → a′ ≡ a + n
       → aliveCountFrom (recordsOf (drop s records)) (drop a alive)

@@ -5,7 +5,7 @@ use mathlib.Core.Bool.{Bool, true, _&&_, _||_, cond}
 use lib.ListN.{length, take, drop}
 use lib.Dec.{eqb, leb}
 use Rattle.definitions.specs.Lists.{notFalling}
-use Rattle.definitions.specs.Segment.{SegmentRecord, aliveWords}
+use Rattle.definitions.specs.Segment.{SegmentRecord, aliveWords, recordWords}
 use Rattle.definitions.specs.Row.{noType}
 use Rattle.definitions.specs.Types.{DateTime}
 use Rattle.definitions.specs.TimeOrder.{timeOf}
@@ -34,12 +34,12 @@ fitsTimes r offsets values = (eqb (r .type) noType || eqb (r .type) DateTime) &&
 unfoldable pub timesFrom : List SegmentRecord → List ℕ → List ℕ → Bool
 unfolding fitsTimes
 timesFrom [] offsets values = true
-timesFrom (r ∷ rs) offsets values = fitsTimes r (take (r .offsets) offsets) (take (r .values) values) && timesFrom rs (drop (r .offsets) offsets) (drop (r .values) values)
+timesFrom (r ∷ rs) offsets values = fitsTimes r (take (r .offsets) offsets) (take (recordWords r) values) && timesFrom rs (drop (r .offsets) offsets) (drop (recordWords r) values)
 
 -- the sections hold the runs that the records announce
 pub record HoldsTimes (rs : List SegmentRecord) (os vs : List ℕ) : Type 0 where
   pub offsets : total (λ (r : SegmentRecord). r .offsets) rs ≤ length os
-  pub values : total (λ (r : SegmentRecord). r .values) rs ≤ length vs
+  pub words : total recordWords rs ≤ length vs
 
 -- ---- 11
 

@@ -77,7 +77,7 @@ fn all_times_fit(records: &[segment::RecordNumbers], offsets: &[u32], values: &[
     while s < records.len() {
         let r = segment::record_at(records, s);
         let o_end = o + segment::wide(r.offsets);
-        let v_end = v + segment::wide(r.values);
+        let v_end = v + segment::value_words(r);
         if !times_fit(r, &offsets[o..o_end], &values[v..v_end]) {
             return false;
         }

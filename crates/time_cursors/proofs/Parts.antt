@@ -8,7 +8,7 @@ use borrow.Author.Tests.{lt-ltb, le-ltb}
 use Rattle.column_index.specs.Lookup.{rankIn}
 use Rattle.column_index.proofs.Sound.{earlier-le}
 use Rattle.stands.specs.declared.Stand.{Stand}
-use Rattle.stands.specs.Look.{idsAt, valuesAt, wordsAt}
+use Rattle.stands.specs.Look.{idsAt, valuesAt, aliveSetAt}
 use Rattle.time_cursors.specs.Cursors.{aliveBit, nextRow, timesBefore, lastKey, keyCursor, cursorAt, firstFrom, segmentIn, TimesAt, Timed, Left}
 use Rattle.time_cursors.proofs.Laws.{seek-low, seek-high, rank-grows, times-listed, times-earlier, times-kind}
 use Rattle.lists.proofs.Parts.{run-length}
@@ -26,12 +26,12 @@ pub times-fit : {p : Stand} {ids values : List ℕ} → TimesAt p ids values →
 times-fit {p} {ids} t n h = rw (sym (times-earlier (p .kind) (idsAt p ids) n)) (earlier-le (t .sound) n h)
 
 module _ {p : Stand} {ids values alive : List ℕ} (t : Timed p ids values alive) {from k : ℕ} (l : Left p ids from k) where
-  pub words-there : p .flag ≡ 1 → p .rows ≤ 64 * length (wordsAt p alive)
-  words-there e = rw (run-length (p .words .from) (p .words .to) alive (t .words-lie .ends)) (t .enough e)
+  pub words-there : p .flag ≡ 1 → p .rows ≤ 64 * length (aliveSetAt p alive)
+  words-there e = rw (run-length (p .alive .from) (p .alive .to) alive (t .alive-lie .ends)) (t .enough e)
 
-  module _ {n : ℕ} (e : n ≡ nextRow (p .flag) (wordsAt p alive) (p .rows) from) where
+  module _ {n : ℕ} (e : n ≡ nextRow (p .flag) (aliveSetAt p alive) (p .rows) from) where
     from-before : from ≤ n
-    from-before = rw e (next-low (p .flag) (wordsAt p alive) (p .rows) from)
+    from-before = rw e (next-low (p .flag) (aliveSetAt p alive) (p .rows) from)
 
     pub cursor-none : p .rows ≤ n → 0 ∷ 0 ∷ 0 ∷ p .rows ∷ p .rows ∷ 0 ∷ 0 ∷ 0 ∷ [] ≡ firstFrom (segmentIn p ids values alive) from
     unfolding firstFrom cursorAt keyCursor segmentIn

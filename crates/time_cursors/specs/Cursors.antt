@@ -13,7 +13,7 @@ use Rattle.definitions.specs.TimeOrder.{timeOf}
 use Rattle.column_index.specs.Lookup.{rankIn, Sound}
 use Rattle.stands.specs.declared.Stand.{Stand}
 use Rattle.stands.specs.Stand.{many, Lies}
-use Rattle.stands.specs.Look.{idsAt, valuesAt, wordsAt}
+use Rattle.stands.specs.Look.{idsAt, valuesAt, aliveSetAt}
 
 -- ---- the next alive row
 
@@ -79,7 +79,7 @@ segmentIn p ids values alive =
       values = valuesAt p values;
       terms = [];
       flag = p .flag;
-      alive = wordsAt p alive;
+      alive = aliveSetAt p alive;
     }
 
 -- the runs of ids and times lie within the sections, and what the checks say of them
@@ -92,8 +92,8 @@ pub record TimesAt (p : Stand) (ids values : List ℕ) : Type 0 where
 -- and of the alive words
 pub record Timed (p : Stand) (ids values alive : List ℕ) : Type 0 where
   pub times : TimesAt p ids values
-  pub words-lie : Lies (p .words) alive
-  pub enough : p .flag ≡ 1 → p .rows ≤ 64 * many (p .words)
+  pub alive-lie : Lies (p .alive) alive
+  pub enough : p .flag ≡ 1 → p .rows ≤ 64 * many (p .alive)
 
 -- the rows from the given one on are left, and k times stand before it
 pub record Left (p : Stand) (ids : List ℕ) (from k : ℕ) : Type 0 where

@@ -118,8 +118,8 @@ pub fn first_from(
     requires { ⌜ Left p (now ids) from k ⌝ }
     ensures { λ r. ⌜ r ≡ firstFrom (segmentIn p (now (ids .entry)) (now (values .entry)) (now (alive .entry))) from ⌝ }
 {
-    let a = p.words.from;
-    let b = p.words.to;
+    let a = p.alive.from;
+    let b = p.alive.to;
     let n = next_alive(p.flag, &alive[a..b], p.rows, from);
     if p.rows <= n {
         return [0, 0, 0, p.rows, p.rows, 0, 0, 0];

@@ -19,7 +19,7 @@ use Rattle.definitions.specs.TimeOrder.{keyOf, timeOrder}
 use Rattle.definitions.specs.Outcome.{written}
 use Rattle.stands.specs.declared.Stand.{Stand}
 use Rattle.stands.specs.Stand.{standAt}
-use Rattle.stands.specs.Look.{idsAt, valuesAt, wordsAt}
+use Rattle.stands.specs.Look.{idsAt, valuesAt, aliveSetAt}
 use Rattle.term_merger.specs.declared.Heap.{Heap}
 use Rattle.term_order.specs.Key.{Inside}
 use Rattle.term_merger.specs.Order as heap
@@ -263,12 +263,12 @@ module _ {stands : List (List ℕ)} {ids values alive : List ℕ} (y : Ready sta
 
         -- what is written
         abbrev written-rows : List ℕ
-        written-rows = aliveUpTo (p .flag) (wordsAt p alive) (cell cursors s 3) end
+        written-rows = aliveUpTo (p .flag) (aliveSetAt p alive) (cell cursors s 3) end
 
         rows-are : written-rows ≡ rows
         unfolding aliveUpTo isAlive segmentIn
         rows-are =
-            ap (λ (n : ℕ). filter (aliveBit (p .flag) (wordsAt p alive)) (upFrom n (end - n))) here-3
+            ap (λ (n : ℕ). filter (aliveBit (p .flag) (aliveSetAt p alive)) (upFrom n (end - n))) here-3
             ∙ ap (λ (x : Segment). filter (isAlive x) (upFrom (P s) (end - P s))) (sym segment-s)
 
         pairs : (l : List ℕ) → addresses s l ≡ map pairOf (map (at s) l)
@@ -282,14 +282,14 @@ module _ {stands : List (List ℕ)} {ids values alive : List ℕ} (y : Ready sta
         pub room : k + length written-rows ≤ length out
         room = omega (arith, number-new, standing-room ss P′ done′ standing-new, z .room, g .out-size)
 
-        first-alive : aliveBit (p .flag) (wordsAt p alive) (cell cursors s 3) ≡ true
+        first-alive : aliveBit (p .flag) (aliveSetAt p alive) (cell cursors s 3) ≡ true
         unfolding isAlive segmentIn
-        first-alive = ap (aliveBit (p .flag) (wordsAt p alive)) here-3 ∙ ap (λ (x : Segment). isAlive x (P s)) (sym segment-s) ∙ g .standing .alive s live
+        first-alive = ap (aliveBit (p .flag) (aliveSetAt p alive)) here-3 ∙ ap (λ (x : Segment). isAlive x (P s)) (sym segment-s) ∙ g .standing .alive s live
 
         pub one-written : 0 < length written-rows
-        one-written = rest-some s (p .flag) (wordsAt p alive) end (cell cursors s 3) (t .low) first-alive
+        one-written = rest-some s (p .flag) (aliveSetAt p alive) end (cell cursors s 3) (t .low) first-alive
 
-        pub rows-given : ((s < 256) × (cell cursors s 3 ≤ r .end) × (r .end < 4294967296)) × ((p .flag ≡ 1 → r .end ≤ 64 * length (wordsAt p alive)) × (k + length written-rows ≤ length out))
+        pub rows-given : ((s < 256) × (cell cursors s 3 ≤ r .end) × (r .end < 4294967296)) × ((p .flag ≡ 1 → r .end ≤ 64 * length (aliveSetAt p alive)) × (k + length written-rows ≤ length out))
         rows-given = (
           (s-near, omega (arith, t .low), omega (arith, t .high, timed-s .times .small)),
           (λ e. le-trans (t .high) (words-there timed-s run-left e), room),

@@ -241,8 +241,8 @@ pub fn merge(
         let n = h.len;
         let p = stands::stand_at(stands, s);
         let run = run_of(&h.seg, n, bytes, cursors, s, s == last, p, ids, values);
-        let a = p.words.from;
-        let b = p.words.to;
+        let a = p.alive.from;
+        let b = p.alive.to;
         let from = cursors[s][3];
         k = write_rows(s, p.flag, &alive[a..b], from, run.end, out, k);
         cursors[s] = time_cursors::first_from(p, ids, values, alive, run.end, run.times);

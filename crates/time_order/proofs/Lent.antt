@@ -1,21 +1,23 @@
 -- What an answer of 0 gives to the merge, and what the merge gives to the outcome. Assumes nothing.
 use Prim.Native.Nat.{ℕ, suc, _≤_, _<_, suc-le-suc}
 use native.Mathlib.Omega.{arith}
-use mathlib.Core.Path.{_≡_, sym, ap, _∙_, subst}
+use mathlib.Core.Path.{_≡_, refl, sym, ap, _∙_, subst}
 use mathlib.Core.List.{List, [], map}
-use mathlib.Core.Bool.{false, not, _&&_, _||_}
+use mathlib.Core.Bool.{Bool, true, false, not, _&&_, _||_, false≢true}
 use lib.ListN.{length, getD, length-map}
 use lib.Seq.{ext-getD}
 use lib.Dec.{T, eqb, ltb}
-use borrow.Author.Tests.{ltb-false, not-false}
+use borrow.Author.Tests.{ltb-false, not-false, eqb-true}
 use Rattle.definitions.specs.Lists.{all, any, upTo, notFalling}
+use Rattle.definitions.specs.Words.{IpAddr}
 use Rattle.definitions.specs.Segment.{Segment, segmentsFrom, recordFrom, address as at}
-use Rattle.definitions.specs.Row.{rowValues, isPresent}
+use Rattle.definitions.specs.Row.{rowValues, isPresent, noType}
 use Rattle.definitions.specs.Types.{DateTime}
 use Rattle.definitions.specs.Join.{absent}
 use Rattle.definitions.specs.Checks.{Passed}
 use Rattle.definitions.specs.Answer.{indexFits, aliveAddresses, plainChecks}
 use Rattle.definitions.specs.TimeOrder.{TimeInput, timeOf, keyOf, timeOrder, timesWrong, timeOwnChecks, timeChecks, timeAnswer}
+use Rattle.definitions.proofs.Words.{values-plain}
 use Rattle.definitions.proofs.Accept.{index-fits}
 use Rattle.definitions.proofs.Checks.{all-passed, passed-append, passes}
 use Rattle.definitions.proofs.TimeOrder.{order-length}
@@ -34,11 +36,19 @@ use Rattle.time_cursors.specs.Cursors.{timeKind, segmentIn, Timed}
 use Rattle.time_merge.specs.Order as merged
 use Rattle.time_merge.specs.Order.{placed, placedSegments, Rising}
 use Rattle.time_order.proofs.Bare.{bare, Single, bare-sound, keys-rise, order-same}
-use Rattle.definitions.proofs.Lists.{mem-at, mem-upTo, any-false, or-right, getD-in}
+use Rattle.definitions.proofs.Lists.{mem-at, mem-upTo, any-false, or-left, or-right, getD-in}
 use Rattle.segment.proofs.At.{segments-many}
 use Rattle.lists.proofs.Tests.{neither, true-T}
 use Rattle.lists.proofs.Sums.{sum-at}
 use Rattle.lists.proofs.Lists.{all-at}
+
+-- a column that 12 lets pass is of times, or none
+no-address : (t : ℕ) → not (eqb t noType) && not (eqb t DateTime) ≡ false → eqb t IpAddr ≡ false
+no-address t h = go (eqb t IpAddr) refl
+  where
+    go : (b : Bool) → eqb t IpAddr ≡ b → b ≡ false
+    go true e = absurd (false≢true (sym h ∙ ap (λ (n : ℕ). not (eqb n noType) && not (eqb n DateTime)) (eqb-true t IpAddr e)))
+    go false e = refl
 
 module _ (records : List (List ℕ)) (ids offsets values lengths bytes alive : List ℕ) (space : ℕ) where
   abbrev input : TimeInput
@@ -71,7 +81,7 @@ module _ (records : List (List ℕ)) (ids offsets values lengths bytes alive : L
     lists = index-fits (recordsOf records) (sectionsIn ids offsets values lengths bytes alive) plain
 
     held : Held records ids offsets values alive
-    held = record { ids = omega (arith, first .exact .ids); offsets = omega (arith, first .exact .offsets); values = omega (arith, first .exact .values); words = omega (arith, first .exact .alive) }
+    held = record { ids = omega (arith, first .exact .ids); offsets = omega (arith, first .exact .offsets); values = omega (arith, first .exact .words); alive = omega (arith, first .exact .alive) }
 
     few : length records ≤ 256
     few = omega (arith, first .few, length-map records recordFrom)
@@ -96,6 +106,17 @@ module _ (records : List (List ℕ)) (ids offsets values lengths bytes alive : L
       rows-small : getD ss k absent .rows < 4294967296
       rows-small = omega (arith, sum-at (λ (s : Segment). s .rows) ss k absent k-there, rows-all (recordsOf records) (sectionsIn ids offsets values lengths bytes alive), first .rows)
 
+      -- what check 12 says
+      times : (eqb (getD ss k absent .type) IpAddr ≡ false) × (any (λ r. ltb 1 (length (rowValues (getD ss k absent) r))) (upTo (getD ss k absent .rows)) ≡ false) × (not (notFalling (map timeOf (getD ss k absent .values))) ≡ false)
+      unfolding timesWrong
+      times =
+          let s = getD ss k absent in
+          let w = any-false (λ s. (isPresent s && not (eqb (s .type) DateTime)) || any (λ r. ltb 1 (length (rowValues s r))) (upTo (s .rows)) || not (notFalling (map timeOf (s .values)))) ss (later .1) (mem-at ss k absent k-there) in
+          let a = isPresent s && not (eqb (s .type) DateTime) in
+          let b = any (λ r. ltb 1 (length (rowValues s r))) (upTo (s .rows)) in
+          let p = neither (a || b) (not (notFalling (map timeOf (s .values)))) w in
+          (no-address (s .type) (or-left a b (p .0)), or-right a b (p .0), p .1)
+
       bare-here : here k ≡ bare (getD ss k absent)
       unfolding segmentIn
       bare-here =
@@ -107,29 +128,18 @@ module _ (records : List (List ℕ)) (ids offsets values lengths bytes alive : L
             rows = st .rows i;
             ids = st .ids-are i;
             offsets = [];
-            values = st .values-are i;
+            values = (sym (values-plain (getD ss k absent .type) (times .0) (valuesAt p values)) ∙ st .values-are) i;
             terms = [];
             flag = st .flag i;
-            alive = st .words-are i;
+            alive = st .alive-are i;
           }
-
-      -- what check 12 says
-      times : (any (λ r. ltb 1 (length (rowValues (getD ss k absent) r))) (upTo (getD ss k absent .rows)) ≡ false) × (not (notFalling (map timeOf (getD ss k absent .values))) ≡ false)
-      unfolding timesWrong
-      times =
-          let s = getD ss k absent in
-          let w = any-false (λ s. (isPresent s && not (eqb (s .type) DateTime)) || any (λ r. ltb 1 (length (rowValues s r))) (upTo (s .rows)) || not (notFalling (map timeOf (s .values)))) ss (later .1) (mem-at ss k absent k-there) in
-          let a = isPresent s && not (eqb (s .type) DateTime) in
-          let b = any (λ r. ltb 1 (length (rowValues s r))) (upTo (s .rows)) in
-          let p = neither (a || b) (not (notFalling (map timeOf (s .values)))) w in
-          (or-right a b (p .0), p .1)
 
       pub single : Single (getD ss k absent)
       single =
           let s = getD ss k absent in
           record {
             fits = fits;
-            one = λ r m. ltb-false 1 (length (rowValues s r)) (any-false (λ r. ltb 1 (length (rowValues s r))) (upTo (s .rows)) (times .0) (mem-upTo (s .rows) r m));
+            one = λ r m. ltb-false 1 (length (rowValues s r)) (any-false (λ r. ltb 1 (length (rowValues s r))) (upTo (s .rows)) (times .1) (mem-upTo (s .rows) r m));
           }
 
       sound : Sound (timeKind (p .kind)) (p .rows) (length (valuesAt p values)) (idsAt p ids) []
@@ -140,12 +150,12 @@ module _ (records : List (List ℕ)) (ids offsets values lengths bytes alive : L
       timed =
           record {
             times = record { ids-lie = stands .ids-lie; values-lie = stands .values-lie; sound = sound; small = omega (arith, rows-small, stands .rows) };
-            words-lie = stands .words-lie;
+            alive-lie = stands .alive-lie;
             enough = λ e. omega (arith, stands .enough (sym (stands .flag) ∙ e), stands .rows);
           }
 
       times-rise : T (notFalling (map timeOf (getD ss k absent .values)))
-      times-rise = let vs = getD ss k absent .values in true-T (notFalling (map timeOf vs)) (not-false (notFalling (map timeOf vs)) (times .1))
+      times-rise = let vs = getD ss k absent .values in true-T (notFalling (map timeOf vs)) (not-false (notFalling (map timeOf vs)) (times .2))
 
       rising : T (notFalling (map timeOf (here k .values)))
       rising = subst (λ (x : Segment). T (notFalling (map timeOf (x .values)))) (sym bare-here) times-rise

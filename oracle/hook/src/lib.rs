@@ -3,7 +3,8 @@ use std::cell::RefCell;
 use std::sync::OnceLock;
 use std::time::{Duration, Instant};
 
-/// One column, as merge_column handed it to serialize_column_mappable_to_u64.
+/// One column, as merge_column handed it to serialize_column_mappable_to_u64 or, of addresses, to
+/// serialize_column_mappable_to_u128.
 #[derive(Default, Clone, Debug, PartialEq, Eq)]
 pub struct Captured {
     /// Cardinality::to_code of the SerializableColumnIndex.
@@ -14,6 +15,8 @@ pub struct Captured {
     pub offsets: Vec<u32>,
     /// Values in the crate's monotonic u64 form.
     pub values: Vec<u64>,
+    /// The same of addresses, in its u128 form.
+    pub values128: Vec<u128>,
 }
 
 #[derive(Clone, Copy, PartialEq, Eq, Debug, Default)]
@@ -38,6 +41,7 @@ pub struct State {
     /// Empty lists with room, already touched, that Drain mode takes before it makes new ones.
     pub pool32: Vec<Vec<u32>>,
     pub pool64: Vec<Vec<u64>>,
+    pub pool128: Vec<Vec<u128>>,
     /// Time spent opening stand-in storage; a measurement subtracts it.
     pub opening: Duration,
     /// Time spent, in Drain mode, in draining the index and in draining the values.
@@ -69,6 +73,10 @@ pub fn list32() -> Vec<u32> {
 
 pub fn list64() -> Vec<u64> {
     STATE.with(|s| s.borrow_mut().pool64.pop().unwrap_or_default())
+}
+
+pub fn list128() -> Vec<u128> {
+    STATE.with(|s| s.borrow_mut().pool128.pop().unwrap_or_default())
 }
 
 pub fn with(f: impl FnOnce(&mut State)) {

@@ -18,9 +18,9 @@
 //! the working bytes: all rows plus all terms are lent to an ordered join, none to a stacked one,
 //! which needs none.
 //!
-//! The plain copy: the joined row ids (4 bytes each), offsets (4 bytes) and values (8 bytes), no
-//! more, each list by one copy_from_slice from where the joiner left it to a list of the same
-//! length already touched. Terms and map are not copied.
+//! The plain copy: the joined row ids (4 bytes each), offsets (4 bytes) and values (8 bytes, an
+//! address 16), no more, each list by one copy_from_slice from where the joiner left it to a list of
+//! the same length already touched. Terms and map are not copied.
 //!
 //! The time order, which the crate has not, is measured beside a sort of the same rows, in the same
 //! rounds: the whole call, with all checks, into a list already touched; `sort_unstable` of a list of
@@ -46,9 +46,9 @@ use crate::order;
 use crate::ours::{Addresses, Joiner, Lists, NewLists};
 use crate::run::{merge_order, segment_file};
 use crate::table::Lent;
-use crate::wire::{Input, Sections};
-use by_sort::BySort;
-use inputs::{Line, OrderLine};
+use crate::wire::{IP, Input, Sections, width, words_of};
+use by_sort::{BySort, timed};
+use inputs::{LISTENERS, Line, OrderLine};
 
 pub use plot::plot;
 pub use report::{growth, segments, table};
@@ -81,15 +81,16 @@ fn measure(line: Line, segs: usize, rows: u32) -> Measured {
     let looks = [theirs.looks(&clock), clock.look / repeats, clock.look / copy.copies];
     let per_row = |i: usize| least[i].saturating_sub(looks[i]).as_nanos() as f64 / joined as f64;
     ours.check_type(line);
-    let (ids, offsets, values) = ours.lists();
+    let values = ours.values();
+    let (ids, offsets, words) = ours.lists();
     Measured {
         line,
         rows: joined,
-        values: values.len(),
+        values,
         theirs: per_row(0),
         ours: per_row(1),
         copy: per_row(2),
-        sums: [theirs.checksum(), checksum(ids, offsets, values)],
+        sums: [theirs.checksum(), checksum(ids, offsets, words)],
     }
 }
 
@@ -174,11 +175,12 @@ fn measure_order(line: OrderLine, segs: usize, rows: u32) -> MeasuredOrder {
     let rows = order::alive_rows(&segs) as usize;
     let mut joiner = library();
     let mut lists = Addresses::new(rows, 1);
-    let (mut by_sort, mut by_words) = (BySort::<(i64, u32, u32)>::new(&segs), BySort::<u128>::new(&segs));
+    let timed = timed(&segs);
+    let (mut by_sort, mut by_words) = (BySort::<(i64, u32, u32)>::new(&timed), BySort::<u128>::new(&timed));
     let repeats = repeats(rows);
     let (Clock { look, .. }, least) = rounds(|| {
         let ours = mean(repeats, || assert_eq!(joiner.order(&sections, &mut lists), 0));
-        let ([sort, whole], other) = (by_sort.times(&segs), by_words.times(&segs));
+        let ([sort, whole], other) = (by_sort.times(&timed), by_words.times(&timed));
         [ours, sort.min(other[0]), whole.min(other[1])]
     });
     let looks = [look / repeats, look, look];
@@ -265,6 +267,7 @@ struct Theirs<'a> {
     column: Captured,
     spare32: Vec<Vec<u32>>,
     spare64: Vec<Vec<u64>>,
+    spare128: Vec<Vec<u128>>,
     file: Vec<u8>,
 }
 
@@ -272,13 +275,15 @@ impl<'a> Theirs<'a> {
     fn new(input: &'a Input, line: Line, joined: usize) -> Theirs<'a> {
         hook::start(Mode::Off);
         let values = input.segs.iter().map(|s| s.values.len()).sum();
+        let (words, addresses) = if line.column == LISTENERS { (0, values) } else { (values, 0) };
         Theirs {
             input,
             line,
             readers: input.segs.iter().map(|s| ColumnarReader::open(segment_file(s)).unwrap()).collect(),
             column: Captured::default(),
             spare32: vec![touched(joined + 1, 1), touched(joined + 1, 1)],
-            spare64: vec![touched(values, 1)],
+            spare64: vec![touched(words, 1)],
+            spare128: vec![touched(addresses, 1)],
             file: touched(64 << 20, 1),
         }
     }
@@ -299,6 +304,7 @@ impl<'a> Theirs<'a> {
         self.column = state.columns.into_iter().next().unwrap();
         self.spare32 = state.pool32;
         self.spare64 = state.pool64;
+        self.spare128 = state.pool128;
         total.saturating_sub(state.opening)
     }
 
@@ -310,16 +316,19 @@ impl<'a> Theirs<'a> {
 
     /// Hands the lists of the last merge to the next one, empty.
     fn lend(&mut self) {
-        let Captured { ids, offsets, values, .. } = std::mem::take(&mut self.column);
+        let Captured { ids, offsets, values, values128, .. } = std::mem::take(&mut self.column);
         self.spare32.extend([ids, offsets].into_iter().filter(|list| list.capacity() > 0));
         self.spare64.extend([values].into_iter().filter(|list| list.capacity() > 0));
+        self.spare128.extend([values128].into_iter().filter(|list| list.capacity() > 0));
         self.spare32.iter_mut().for_each(Vec::clear);
         self.spare64.iter_mut().for_each(Vec::clear);
+        self.spare128.iter_mut().for_each(Vec::clear);
         self.file.clear();
         hook::start(Mode::Drain);
         hook::with(|s| {
             s.pool32 = std::mem::take(&mut self.spare32);
             s.pool64 = std::mem::take(&mut self.spare64);
+            s.pool128 = std::mem::take(&mut self.spare128);
         });
     }
 
@@ -328,6 +337,9 @@ impl<'a> Theirs<'a> {
         let ty = self.line.joined_type();
         for value in &mut self.column.values {
             *value = ColumnarWriter::internal_to_word(ty, *value);
+        }
+        if self.line.column == LISTENERS {
+            self.column.values = words_of(IP, &self.column.values128);
         }
         checksum(&self.column.ids, &self.column.offsets, &self.column.values)
     }
@@ -366,11 +378,17 @@ impl Ours {
         assert_eq!(self.lent.numbers.lent()[0], line.joined_type().to_code() as u64);
     }
 
-    /// Joined row ids, offsets and values.
+    /// How many values were joined.
+    fn values(&mut self) -> usize {
+        self.lent.numbers.lent()[5] as usize
+    }
+
+    /// Joined row ids, offsets and values, these as words.
     fn lists(&mut self) -> (&[u32], &[u32], &[u64]) {
         let Lists { ids, offsets, values, numbers, .. } = &mut self.lent;
-        let n: [usize; 3] = std::array::from_fn(|i| numbers.lent()[3 + i] as usize);
-        (&ids.lent()[..n[0]], &offsets.lent()[..n[1]], &values.lent()[..n[2]])
+        let [ty, _, _, n_ids, n_offsets, n_values] = std::array::from_fn(|i| numbers.lent()[i] as usize);
+        let words = n_values * width(ty as u32);
+        (&ids.lent()[..n_ids], &offsets.lent()[..n_offsets], &values.lent()[..words])
     }
 }
 

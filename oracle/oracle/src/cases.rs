@@ -1,5 +1,5 @@
-//! Document 01's log sheets C1 to C12, those of multivalued segments in kind 4 as document 02 has them:
-//! input, listing.
+//! Document 01's log sheets C1 to C12, those of multivalued segments in kind 4 as document 02 has them,
+//! and columns of addresses: input, listing.
 use crate::wire::{Input, from_words};
 
 const SHEETS: &[(&str, &str, &str)] = &[
@@ -65,6 +65,65 @@ const SHEETS: &[(&str, &str, &str)] = &[
     ),
 ];
 
+/// Columns of addresses, by hand.
+const LISTENERS: &[(&str, &str, &str)] = &[
+    (
+        "a full one",
+        "0 255 6/1/1/val=3:4",
+        "answer 0\ntype 6\nclass 0\nrows 1\nids 0\noffsets 0\nvalues 1 3 4\nterms 0\nmaps 0\n",
+    ),
+    (
+        "two addresses",
+        "0 255 6/1/2/val=1:2,3:4",
+        "answer 0\ntype 6\nclass 0\nrows 2\nids 0\noffsets 0\nvalues 2 1 2 3 4\nterms 0\nmaps 0\n",
+    ),
+    (
+        "a full and an optional one",
+        "0 255 6/1/1/val=1:2 6/2/2/ids=1/val=18446744073709551615:0",
+        "answer 0\ntype 6\nclass 1\nrows 3\nids 2 0 2\noffsets 0\nvalues 2 1 2 18446744073709551615 0\nterms 0\nmaps 0\n",
+    ),
+    (
+        "a multivalued one",
+        "0 255 6/4/2/ids=1/off=0,2/val=3:4,1:2",
+        "answer 0\ntype 6\nclass 2\nrows 2\nids 1 1\noffsets 2 0 2\nvalues 2 3 4 1 2\nterms 0\nmaps 0\n",
+    ),
+    (
+        "an alive row of one address",
+        "1 255 6/1/1/val=1:2/alive=1 addr=0:0",
+        "answer 0\ntype 6\nclass 0\nrows 1\nids 0\noffsets 0\nvalues 1 1 2\nterms 0\nmaps 0\n",
+    ),
+    (
+        "an ordered multivalued one",
+        "1 255 6/4/3/ids=0,2/off=0,2,3/val=1:2,3:4,5:6/alive=5 addr=0:2,0:0",
+        "answer 0\ntype 6\nclass 2\nrows 2\nids 2 0 1\noffsets 3 0 1 3\nvalues 3 5 6 1 2 3 4\nterms 0\nmaps 0\n",
+    ),
+    (
+        "one row of it",
+        "1 255 6/4/3/ids=0,2/off=0,2,3/val=1:2,3:4,5:6/alive=4 addr=0:2",
+        "answer 0\ntype 6\nclass 0\nrows 1\nids 0\noffsets 0\nvalues 1 5 6\nterms 0\nmaps 0\n",
+    ),
+    (
+        "segments in turn, a dropped one and one without a column among them",
+        "1 255 6/1/2/val=1:2,3:4 6/1/1/val=9:9/alive=0 255/0/1 6/2/2/ids=1/val=5:6 addr=3:1,0:1,2:0,0:0,3:0",
+        "answer 0\ntype 6\nclass 1\nrows 5\nids 3 0 1 3\noffsets 0\nvalues 3 5 6 3 4 1 2\nterms 0\nmaps 0\n",
+    ),
+    (
+        "required, nothing there",
+        "0 6",
+        "answer 0\ntype 6\nclass 0\nrows 0\nids 0\noffsets 0\nvalues 0\nterms 0\nmaps 0\n",
+    ),
+    (
+        "required, rows without a column",
+        "0 6 255/0/3",
+        "answer 0\ntype 6\nclass 1\nrows 3\nids 0\noffsets 0\nvalues 0\nterms 0\nmaps 0\n",
+    ),
+    (
+        "nothing held",
+        "1 255 6/1/1/val=3:4/alive=0",
+        "answer 0\ntype 255\nclass 0\nrows 0\nids 0\noffsets 0\nvalues 0\nterms 0\nmaps 0\n",
+    ),
+];
+
 pub fn input(words: &str) -> Input {
     let words: Vec<String> = words.split_whitespace().map(String::from).collect();
     from_words(&words).unwrap()
@@ -72,7 +131,7 @@ pub fn input(words: &str) -> Input {
 
 /// Name, input, listing.
 pub fn sheets() -> impl Iterator<Item = (&'static str, Input, &'static str)> {
-    SHEETS.iter().map(|&(name, words, listing)| (name, input(words), listing))
+    SHEETS.iter().chain(LISTENERS).map(|&(name, words, listing)| (name, input(words), listing))
 }
 
 #[cfg(test)]
@@ -145,6 +204,8 @@ mod tests {
             ("4/3/2/off=0,0,2/val=1,0/terms=a,b", [4, 4, 2, 1, 2, 2, 2, 0], &[1], &[0, 2]),
             ("3/3/1/off=0,0/terms=a", [3, 4, 1, 0, 1, 0, 1, 0], &[], &[0]),
             ("5/3/3/off=0,1,2,3/val=0,1,1", [5, 4, 3, 3, 4, 3, 0, 0], &[0, 1, 2], &[0, 1, 2, 3]),
+            ("6/3/3/off=0,2,2,3/val=1:2,3:4,5:6", [6, 4, 3, 2, 3, 3, 0, 0], &[0, 2], &[0, 2, 3]),
+            ("6/3/2/off=0,0,1/val=0:1/alive=1", [6, 4, 2, 1, 2, 1, 0, 1], &[1], &[0, 1]),
         ] {
             let new = Converted { record, ids: ids.to_vec(), offsets: offsets.to_vec() };
             assert_eq!(converted(words, large), Outcome::Accepted(new.clone()), "{words}");
@@ -158,7 +219,7 @@ mod tests {
             (3, "1/0/0"),
             (3, "255/3/0"),
             (3, "255/0/0"),
-            (3, "6/3/0/off=0"),
+            (3, "8/3/0/off=0"),
             (4, "1/3/3/off=0,2,1,3/val=7,8,9"),
             (4, "1/3/1/off=1,3/val=7,8"),
             (4, "1/3/1/off=0,1/val=7/ids=0"),
@@ -167,10 +228,12 @@ mod tests {
             (4, "1/3/1/off=0,1/val=7,8"),
             (4, "1/3/4294967295/off=0"),
             (4, "5/3/1/off=0,0/val=2"),
+            (4, "6/3/1/off=0,2/val=3:4"),
             (5, "5/3/1/off=0,1/val=2"),
             (5, "4/3/1/off=0,1/val=1/terms=a"),
             (5, "4/3/1/off=0,1/val=0/terms=b,a"),
             (5, "1/3/0/off=0/terms=a"),
+            (5, "6/3/1/off=0,1/val=3:4/terms=a"),
             (5, "5/3/1/off=0,1/val=2/alive=2"),
             (6, "1/3/1/off=0,1/val=7/alive=2"),
         ] {
@@ -188,6 +251,12 @@ mod tests {
         assert_eq!(answer(&s), 3);
         s.values.clear();
         assert_eq!(answer(&s), 2);
+        // Two words an address.
+        let mut s = input("0 255 6/3/1/off=0,1/val=3:4").sections();
+        for (words, number) in [(1, 2), (2, 0), (3, 2)] {
+            s.values = vec![7; words];
+            assert_eq!(answer(&s), number);
+        }
         // Only flag 1 adds alive words.
         let mut s = input("0 255 1/3/1/off=0,1/val=7/alive=1").sections();
         s.records[0][7] = 2;
@@ -205,7 +274,7 @@ mod tests {
         for step in [1u32, 2, 3, 11, 40, 1000] {
             let rows = 200_000;
             let ids: Vec<u32> = (0..rows).filter(|r| r % step == 0 || r / 65536 == 1).collect();
-            let values: Vec<u64> = ids.iter().map(|&i| i as u64 * 3).collect();
+            let values: Vec<u128> = ids.iter().map(|&i| i as u128 * 3).collect();
             let s = Seg { ty: 1, kind: 2, rows, ids: ids.clone(), values: values.clone(), ..Seg::default() };
             let none = Seg { ty: 255, rows: 5, ..Seg::default() };
             let mut input = Input { mode: 0, required: 255, ..Input::default() };
@@ -235,6 +304,7 @@ mod tests {
         let two = input("0 255 4/1/1/val=0/terms=a 5/1/1/val=1");
         assert!(table::two_categories(&two));
         assert_eq!(run::column(&two), Err("2 columns".to_string()));
+        assert_eq!(run::column(&input("0 6 6/1/1/val=3:4 1/1/1/val=7")), Err("2 columns".to_string()));
         // Very many rows.
         let many = input("0 255 1/2/4294901761/ids=0/val=7");
         assert!(run::beyond_the_crate(&many));

@@ -3,6 +3,7 @@
 //! given to the converter, which is held to its model, and then to the joiner, which is held to the
 //! crate's merge of the segments before their conversion; and segments of times given to the time
 //! order, which is held to its model, and then to the joiner in the order found.
+mod listeners;
 mod orders;
 
 use std::io::{Read, Write};
@@ -12,15 +13,16 @@ use std::sync::atomic::{AtomicU64, Ordering};
 
 use crate::convert::{self, Space};
 use crate::damage;
-use crate::generate::{self, Kinds, Shape};
+use crate::generate::{self, Kinds, Shape, Types};
 use crate::model;
 use crate::order;
 use crate::ours::{Addresses, Joiner, Lists, NewLists};
 use crate::rng::Rng;
 use crate::run;
-use crate::slips::{Standin, slips};
+use crate::slips::{How, Standin, slips};
 use crate::table::{self, CHECKS, Call, Lent, PROGRAM, PROGRAM_BYTES};
-use crate::wire::{Input, Outcome, Sections, to_words};
+use crate::wire::{IP, Input, Listing, Outcome, Sections, Seg, to_words, values_of, width};
+use listeners::Listeners;
 use orders::Orders;
 
 pub enum Ours {
@@ -157,14 +159,23 @@ pub fn expected(call: &Call, stored: Option<&Input>) -> Result<Outcome, String> 
     Ok(Outcome::Accepted(listing))
 }
 
-/// The calls of a case: the join of a good input, mostly of a damaged copy of it, what is made of
-/// stored segments, and time orders.
+/// The calls of a case: joins, of any type and of addresses, what is made of stored segments, and time
+/// orders.
 pub fn tasks(seed: u64, case: u64) -> Vec<Task> {
     let mut rng = Rng::of_case(seed, case);
-    let shape = generate::shape(&mut rng, false);
-    let input = generate::input(&mut rng, shape, Kinds::Joined);
+    let mut list = joins(&mut rng, Types::Any);
+    list.extend(joins(&mut rng, Types::Listeners));
+    list.extend(stored_tasks(&mut rng));
+    list.extend(orders::tasks(&mut Rng::of_orders(seed, case)));
+    list
+}
+
+/// The join of a good input, and mostly of a damaged copy of it.
+fn joins(rng: &mut Rng, types: Types) -> Vec<Task> {
+    let shape = generate::shape(rng, false);
+    let input = generate::input(rng, shape, Kinds::Joined, types);
     let sections = input.sections();
-    let (lent, needed) = lend(&mut rng, &sections);
+    let (lent, needed) = lend(rng, &sections);
     let mut list = vec![Task::join(sections, lent)];
     let copies = match shape {
         Shape::Small => rng.pick(&[1, 1, 2]),
@@ -172,11 +183,9 @@ pub fn tasks(seed: u64, case: u64) -> Vec<Task> {
         _ => 1,
     };
     for _ in 0..copies {
-        let (sections, lent) = damage::copy(&mut rng, &input, needed, lent);
+        let (sections, lent) = damage::copy(rng, &input, needed, lent);
         list.push(Task::join(sections, lent));
     }
-    list.extend(stored_tasks(&mut rng));
-    list.extend(orders::tasks(&mut Rng::of_orders(seed, case)));
     list
 }
 
@@ -184,7 +193,8 @@ pub fn tasks(seed: u64, case: u64) -> Vec<Task> {
 /// copies of them; the join of all as they are, which is refused; the join of all once converted.
 fn stored_tasks(rng: &mut Rng) -> Vec<Task> {
     let shape = generate::stored_shape(rng);
-    let stored = generate::input(rng, shape, Kinds::Stored);
+    let types = if rng.one_in(5) { Types::Listeners } else { Types::Any };
+    let stored = generate::input(rng, shape, Kinds::Stored, types);
     let old = || stored.segs.iter().filter(|s| s.kind == 3);
     let mut list = Vec::new();
     for s in old() {
@@ -234,9 +244,10 @@ fn lend(rng: &mut Rng, sections: &Sections) -> (Lent, Lent) {
 /// The joining program's inputs of a case: a good one, a damaged copy of it, a damaged wire form.
 pub fn program_inputs(seed: u64, case: u64) -> Vec<Vec<u8>> {
     let mut rng = Rng::of_case(seed, case);
+    let types = if rng.one_in(3) { Types::Listeners } else { Types::Any };
     let (input, bytes) = loop {
         let shape = generate::shape(&mut rng, true);
-        let input = generate::input(&mut rng, shape, Kinds::Joined);
+        let input = generate::input(&mut rng, shape, Kinds::Joined, types);
         let bytes = input.sections().encode();
         if bytes.len() <= PROGRAM_BYTES {
             break (input, bytes);
@@ -248,9 +259,10 @@ pub fn program_inputs(seed: u64, case: u64) -> Vec<Vec<u8>> {
     let mut list = vec![bytes, damaged.encode(), wire];
     // Near the limit of 65,536 bytes: one segment of as many values as make so many words.
     if rng.one_in(200) {
-        let words = rng.between(8_190, 8_194) as usize;
-        let values: Vec<u64> = (0..words - 19).map(|_| rng.next()).collect();
-        let s = crate::wire::Seg { ty: 1, kind: 1, rows: values.len() as u32, values, ..Default::default() };
+        let (ty, words) = (rng.pick(&[1, IP]), rng.between(8_190, 8_194) as usize);
+        let words: Vec<u64> = (19..words).map(|_| rng.next()).collect();
+        let values = values_of(ty, &words[words.len() % width(ty)..]);
+        let s = Seg { ty, kind: 1, rows: values.len() as u32, values, ..Seg::default() };
         let full = Input { mode: 0, required: 255, segs: vec![s], addresses: vec![] };
         list.push(full.sections().encode());
     }
@@ -300,6 +312,7 @@ struct Stats {
     classes: [u64; 3],
     types: [u64; 8],
     none: u64,
+    listeners: Listeners,
     conversions: Answers,
     old_types: [u64; 8],
     old_alive: u64,
@@ -322,9 +335,10 @@ impl Stats {
             }
             (Task::Join { source: Source::Converted(stored), .. }, Must::Join(outcome)) => {
                 self.converted.0[outcome.number() as usize] += 1;
-                if outcome.number() == 0 {
+                if let Outcome::Accepted(l) = outcome {
                     self.converted_stacked += (stored.mode == 0) as u64;
                     self.repeats += (run::repeats(stored) > 0) as u64;
+                    self.listeners.count(stored, l);
                 }
             }
             (Task::Join { source: Source::Ordered, .. }, Must::Join(outcome)) => {
@@ -353,6 +367,7 @@ impl Stats {
         self.unkept += held().flat_map(|s| &s.terms).any(|t| l.terms.binary_search(t).is_err()) as u64;
         let rows = input.segs.iter().map(|s| s.rows as u64).sum::<u64>();
         self.wide += (rows > 65_535) as u64;
+        self.listeners.count(&input, l);
         self.most_values = self.most_values.max(input.segs.iter().map(|s| s.values.len() as u64).sum());
         match l.ty {
             255 => self.none += 1,
@@ -396,6 +411,7 @@ impl Stats {
         self.wide += other.wide;
         self.most_values = self.most_values.max(other.most_values);
         self.none += other.none;
+        self.listeners.add(&other.listeners);
         self.old_alive += other.old_alive;
         self.exact += other.exact;
         self.most_rows = self.most_rows.max(other.most_rows);
@@ -427,7 +443,7 @@ impl Stats {
         println!(
             "accepted: stacked {}, ordered {}, with alive sets {}, with a required type {}, coerced {}, \
              with unkept terms {}, above 65,535 rows {}, by the model alone {}; \
-             type 255 {}, I64 {}, U64 {}, F64 {}, Bytes {}, Str {}, Bool {}, DateTime {}; \
+             type 255 {}, I64 {}, U64 {}, F64 {}, Bytes {}, Str {}, Bool {}, IpAddr {}, DateTime {}; \
              class 0 {}, 1 {}, 2 {}; most values in one call {}",
             self.stacked,
             self.joins.accepted() - self.stacked,
@@ -444,12 +460,14 @@ impl Stats {
             t[3],
             t[4],
             t[5],
+            t[6],
             t[7],
             self.classes[0],
             self.classes[1],
             self.classes[2],
             self.most_values
         );
+        self.listeners.print();
         // The joining program does not convert, and has no time order.
         if matches!(ours, Ours::Program(_)) {
             return;
@@ -458,7 +476,7 @@ impl Stats {
         println!(
             "conversions: {}; accepted: with a row of no value {}, without a value {}, without a row {}, \
              with alive sets {}, in exact space {}; \
-             I64 {}, U64 {}, F64 {}, Bytes {}, Str {}, Bool {}, DateTime {}; most rows {}",
+             I64 {}, U64 {}, F64 {}, Bytes {}, Str {}, Bool {}, IpAddr {}, DateTime {}; most rows {}",
             self.conversions.print(convert::CHECKS.iter().map(|(number, _)| *number)),
             self.empty_rows[0],
             self.empty_rows[1],
@@ -471,6 +489,7 @@ impl Stats {
             t[3],
             t[4],
             t[5],
+            t[6],
             t[7],
             self.most_rows
         );
@@ -527,6 +546,13 @@ fn fault(joiner: &mut dyn Joiner, task: &Task, must: &Must, salt: u64) -> Option
         return Some(format!("the answer is {answer}, must be {expected}"));
     }
     fault
+}
+
+/// What is wrong with a listing of what must come of a join, if anything.
+fn listing_fault(list: fn(&Listing) -> String, outcome: &Outcome) -> Option<String> {
+    let Outcome::Accepted(l) = outcome else { return None };
+    let (is, must_be) = (list(l), l.print());
+    (is != must_be).then(|| first_difference(&is, &must_be))
 }
 
 fn text_fault(program: &Path, bytes: &[u8], expected: &str) -> Option<String> {
@@ -647,10 +673,11 @@ pub fn find_slips(o: &Options) -> bool {
         for task in tasks(o.seed, case) {
             let must = task.must().unwrap_or_else(|fault| panic!("case {case}: {fault}"));
             left.retain_mut(|(slip, joiner)| {
-                if slip.part() != task.part() {
-                    return true;
-                }
-                let fault = fault(joiner, &task, &must, o.seed ^ case << 8);
+                let fault = match (slip.how, &must) {
+                    (How::List(list), Must::Join(outcome)) => listing_fault(list, outcome),
+                    _ if slip.part() == task.part() => fault(joiner, &task, &must, o.seed ^ case << 8),
+                    _ => None,
+                };
                 if let Some(fault) = &fault {
                     println!("found in case {case}: {} ({fault})", slip.name);
                 }

@@ -5,10 +5,10 @@ use crate::model;
 use crate::order;
 use crate::rng::Rng;
 use crate::table::{self, Lent};
-use crate::wire::{Input, Sections, Seg};
+use crate::wire::{IP, Input, Sections, Seg, width};
 
-const ODD: &[u32] = &[5, 6, 8, 9, 100, 254, 256, 257, 511, 65_535, 1 << 31, u32::MAX - 1, u32::MAX];
-const TYPES: &[u32] = &[0, 1, 2, 3, 4, 5, 7, 255];
+const ODD: &[u32] = &[5, IP, 8, 9, 100, 254, 256, 257, 511, 65_535, 1 << 31, u32::MAX - 1, u32::MAX];
+const TYPES: &[u32] = &[0, 1, 2, 3, 4, 5, IP, IP, 7, 255];
 
 /// Changes one thing in a segment or in the addresses; record numbers stay those of the runs.
 fn segments(rng: &mut Rng, input: &mut Input) {
@@ -71,7 +71,7 @@ fn segment(rng: &mut Rng, s: &mut Seg, ordered: bool) {
         12 => drop(s.values.pop()),
         13 | 14 => {
             if let Some(j) = at(rng, &s.values) {
-                s.values[j] = rng.pick(&[2, s.terms.len() as u64, 1 << 32, 1 << 63, u64::MAX]);
+                s.values[j] = rng.pick(&[2, s.terms.len() as u128, 1 << 32, 1 << 63, u64::MAX as u128]);
             }
         }
         15 => s.terms.push(s.terms.last().cloned().unwrap_or_default()),
@@ -151,28 +151,31 @@ fn many_segments(rng: &mut Rng, s: &mut Sections) {
 
 fn records_and_runs(rng: &mut Rng, s: &mut Sections) {
     let n = s.records.len();
-    match rng.between(2, 18) {
+    match rng.between(2, 20) {
         2..5 if n > 0 => s.records[rng.index(n)][rng.pick(&[0, 0, 1, 7])] = rng.pick(ODD),
         5..8 if n > 0 => {
             let number = &mut s.records[rng.index(n)][rng.index(5) + 3];
             *number = number.wrapping_add(rng.pick(&[1, u32::MAX, 1 << 31]));
         }
-        // Errors of two records that cancel.
+        // Errors of two records that cancel, those of values in words.
         8 | 9 if n > 1 => {
             let (i, j, k) = (rng.index(n), rng.index(n), rng.index(4) + 3);
-            s.records[i][k] = s.records[i][k].wrapping_add(1);
-            s.records[j][k] = s.records[j][k].wrapping_sub(1);
+            let in_words = k == 5 && !rng.one_in(4);
+            let [more, less] =
+                [j, i].map(|other| if in_words { width(s.records[other][0]) as u32 } else { 1 });
+            s.records[i][k] = s.records[i][k].wrapping_add(more);
+            s.records[j][k] = s.records[j][k].wrapping_sub(less);
         }
         10 => s.ids.push(0),
         11 => s.offsets.push(0),
-        12 => s.values.push(0),
+        12 => s.values.extend(vec![0; 1 + rng.index(2)]),
         13 => s.alive.push(0),
         14 => s.term_lengths.push(0),
         15 => s.term_bytes.push(0),
         16 => match rng.below(6) {
             0 => drop(s.ids.pop()),
             1 => drop(s.offsets.pop()),
-            2 => drop(s.values.pop()),
+            2 => s.values.truncate(s.values.len().saturating_sub(1 + rng.index(2))),
             3 => drop(s.alive.pop()),
             4 => drop(s.term_lengths.pop()),
             _ => drop(s.term_bytes.pop()),
@@ -187,11 +190,32 @@ fn records_and_runs(rng: &mut Rng, s: &mut Sections) {
             s.term_lengths[i] = s.term_lengths[i].wrapping_add(1);
             s.term_lengths[j] = s.term_lengths[j].wrapping_sub(1);
         }
+        19 | 20 if n > 0 => values_and_words(rng, s),
         _ => {}
     }
 }
 
-/// Lends less, mostly one element less than is needed.
+/// Confuses values and words: a word for each value, values announced by their words, or a column of
+/// addresses taken for one of words with the same words, and the other way round. Rows then follow.
+fn values_and_words(rng: &mut Rng, s: &mut Sections) {
+    let values: usize = s.records.iter().map(|r| r[5] as usize).sum();
+    let i = rng.index(s.records.len());
+    let r = &mut s.records[i];
+    let before = r[5];
+    match rng.below(5) {
+        0 => s.values.truncate(values),
+        1 => r[5] = r[5].wrapping_mul(2),
+        2 if r[0] != 255 => r[0] = if r[0] == IP { rng.pick(&[0, 1, 2, 7, 8]) } else { IP },
+        _ if r[0] == IP => (r[0], r[5]) = (rng.pick(&[1, 1, 5, 8]), r[5].wrapping_mul(2)),
+        _ if r[0] != 255 && r[5].is_multiple_of(2) => (r[0], r[5]) = (IP, r[5] / 2),
+        _ => {}
+    }
+    if r[1] == 1 && r[2] == before {
+        r[2] = r[5];
+    }
+}
+
+/// Lends less, mostly one element less than is needed; an address less, or half of it.
 fn space(rng: &mut Rng, lent: &mut Lent) {
     let place = match rng.below(7) {
         0 => &mut lent.working,
@@ -202,7 +226,12 @@ fn space(rng: &mut Rng, lent: &mut Lent) {
         5 => &mut lent.term_bytes,
         _ => &mut lent.map,
     };
-    *place = if rng.one_in(4) { 0 } else { place.saturating_sub(1) };
+    *place = match rng.below(8) {
+        0 | 1 => 0,
+        2 => *place / 2,
+        3 => place.saturating_sub(2),
+        _ => place.saturating_sub(1),
+    };
 }
 
 /// A copy with one to three damages. `needed`: what an accepted input needs at least.
@@ -316,9 +345,9 @@ fn many_rows(rng: &mut Rng, segs: &mut Vec<Seg>) {
 /// Changes what 12 asks for: the type, how many times a row has, or that times don't fall.
 fn times(rng: &mut Rng, s: &mut Seg) {
     match rng.below(8) {
-        0 => s.ty = rng.pick(&[0, 1, 2]),
+        0 => s.ty = rng.pick(&[0, 1, 2, IP]),
         1 => {
-            let ty = rng.pick(&[0, 1, 2, 3, 4, 5]);
+            let ty = rng.pick(&[0, 1, 2, 3, 4, 5, IP]);
             *s = Seg { ty, rows: s.rows, alive: s.alive.clone(), ..Seg::default() };
         }
         2..4 => several_times(rng, s),
@@ -327,8 +356,11 @@ fn times(rng: &mut Rng, s: &mut Seg) {
             let j = 1 + rng.index(s.values.len() - 1);
             match how {
                 4 => s.values.swap(j - 1, j),
-                5 => s.values[j - 1] = rng.pick(&[0, 1 << 62, i64::MAX as u64]),
-                _ => s.values[j] = s.values[j - 1].wrapping_sub(rng.pick(&[1, 1, 2, 1 << 63])),
+                5 => s.values[j - 1] = rng.pick(&[0, 1 << 62, i64::MAX as u128]),
+                _ => {
+                    let time = s.values[j - 1] as u64;
+                    s.values[j] = time.wrapping_sub(rng.pick(&[1, 1, 2, 1 << 63])) as u128;
+                }
             }
         }
     }

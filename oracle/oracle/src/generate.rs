@@ -4,7 +4,7 @@ pub mod times;
 
 use crate::model;
 use crate::rng::Rng;
-use crate::wire::{Input, Seg};
+use crate::wire::{IP, Input, Seg};
 
 #[derive(Clone, Copy, Debug, PartialEq, Eq)]
 pub enum Shape {
@@ -29,6 +29,14 @@ pub enum Kinds {
     Joined,
     /// Kind 3 for the most part.
     Stored,
+}
+
+/// Which types most segments have.
+#[derive(Clone, Copy, Debug, PartialEq, Eq)]
+pub enum Types {
+    Any,
+    /// Addresses alone.
+    Listeners,
 }
 
 /// Which shape a case has. The joining program takes 65,536 bytes, so no Large one.
@@ -82,7 +90,29 @@ fn near_tie(rng: &mut Rng) -> u64 {
     tie.wrapping_add(rng.below(3)).wrapping_sub(1) >> rng.below(2)
 }
 
-fn value(rng: &mut Rng, ty: u32, flavour: u64, terms: usize) -> u64 {
+/// A listener's address: one half the same in all, corners in both halves, IPv4 in its mapped form
+/// (::ffff:a.b.c.d), any.
+fn listener(rng: &mut Rng, flavour: u64) -> u128 {
+    let (high, low) = match if rng.one_in(4) { rng.below(7) } else { flavour } {
+        0 => (0x20010DB8_00000000, rng.below(4)),
+        1 => (rng.below(4), 1),
+        2 => (0, 0xFFFF << 32 | rng.next() >> 32),
+        3 => (rng.pick(&[0, u64::MAX]), rng.pick(&[0, u64::MAX])),
+        4 => (rng.pick(SMALL), rng.pick(SMALL)),
+        5 => (rng.pick(WORDS), rng.pick(WORDS)),
+        _ => (rng.next(), rng.next()),
+    };
+    (high as u128) << 64 | low as u128
+}
+
+fn value(rng: &mut Rng, ty: u32, flavour: u64, terms: usize) -> u128 {
+    match ty {
+        IP => listener(rng, flavour),
+        _ => word(rng, ty, flavour, terms) as u128,
+    }
+}
+
+fn word(rng: &mut Rng, ty: u32, flavour: u64, terms: usize) -> u64 {
     match (ty, flavour) {
         (0 | 1, 0) => rng.pick(SMALL),
         (0, 1) => rng.below(10).wrapping_sub(5),
@@ -271,7 +301,7 @@ fn addresses(rng: &mut Rng, segs: &[Seg]) -> Vec<[u32; 2]> {
     list
 }
 
-pub fn input(rng: &mut Rng, shape: Shape, kinds: Kinds) -> Input {
+pub fn input(rng: &mut Rng, shape: Shape, kinds: Kinds, types: Types) -> Input {
     let mode = if shape == Shape::Huge { 0 } else { rng.below(2) as u32 };
     let n = match (shape, rng.below(20)) {
         (Shape::Segments, 0) => 256,
@@ -284,10 +314,12 @@ pub fn input(rng: &mut Rng, shape: Shape, kinds: Kinds) -> Input {
         (_, _) => 4,
     };
     let base: u32 = match rng.below(10) {
+        _ if types == Types::Listeners => IP,
         _ if shape == Shape::Terms => rng.pick(&[3, 4]),
         0..=3 => 0,
         4..=6 => rng.pick(&[3, 4]),
         7 => 5,
+        8 => IP,
         _ => 7,
     };
     let flavour = rng.below(7);
@@ -299,7 +331,7 @@ pub fn input(rng: &mut Rng, shape: Shape, kinds: Kinds) -> Input {
         (0, None) => rng.below(3) as u32,
         _ => base,
     };
-    let words = if base == 0 { vocabulary(rng, Shape::Small) } else { vocabulary(rng, shape) };
+    let words = vocabulary(rng, if base == 3 || base == 4 { shape } else { Shape::Small });
     let common = Common { kinds, ordered: mode == 1, flavour, shape, words };
     let another = rng.one_in(40);
     let mut segs: Vec<Seg> = Vec::new();
@@ -307,7 +339,7 @@ pub fn input(rng: &mut Rng, shape: Shape, kinds: Kinds) -> Input {
         let ty = if rng.one_in(8) {
             255
         } else if another && rng.one_in(3) {
-            rng.pick(&[0, 3, 4, 5, 7])
+            rng.pick(&[0, 1, 3, 4, 5, IP, 7])
         } else {
             ty_of(rng)
         };
@@ -328,6 +360,7 @@ pub fn input(rng: &mut Rng, shape: Shape, kinds: Kinds) -> Input {
     let required = match rng.below(10) {
         0 | 1 => ty_of(rng),
         2 if base == 0 => rng.below(3) as u32,
+        3 if rng.one_in(5) => rng.pick(&[1, IP]),
         _ => 255,
     };
     let mut input = Input { mode, required, segs, addresses: vec![] };
@@ -339,7 +372,7 @@ pub fn input(rng: &mut Rng, shape: Shape, kinds: Kinds) -> Input {
         for s in input.segs.iter_mut().filter(|s| s.ty <= 1 && s.alive.is_some()) {
             let withdrawn = model::filled(s).into_iter().find(|(row, _)| !s.is_alive(*row));
             if let Some((_, range)) = withdrawn {
-                s.values[range.start] = u64::MAX;
+                s.values[range.start] = u64::MAX as u128;
                 if rng.one_in(2) {
                     input.required = 1 - s.ty;
                     return input;

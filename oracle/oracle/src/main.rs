@@ -28,12 +28,12 @@ const USAGE: &str = "\
 oracle compare SEED COUNT [--library | --program PATH | --model | --slips] [--from CASE] [--jobs N]
                              the joiner against the crate and the table (see oracle/compare)
 oracle crate                 one input on stdin; the listing, made by the crate's merge
-oracle model                 the same by the rules of document 01 alone, as the joining program does
+oracle model                 the same by the documents' rules alone, as the joining program does
 oracle sample SEED COUNT IN OUT
                              the stored sample of inputs and listings (see oracle/sample)
 oracle raw                   what the crate itself writes: every category's column, or its error
 oracle wire MODE REQUIRED [TYPE/KIND/ROWS[/ids=..][/off=..][/val=..][/terms=..][/alive=..]].. [addr=S:R,..]
-                             an input in wire form on stdout
+                             an input in wire form on stdout; an address is val=HIGH:LOW
 oracle bench SEGMENTS ROWS [WORD]
                              times of the crate's merge and of the joiner, a table (see bench/run)
 oracle growth SEGMENTS ROWS [WORD]

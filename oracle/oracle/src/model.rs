@@ -1,5 +1,5 @@
-//! Document 01's join ("The join"), as naively as it reads, for an input that passes its checks
-//! 1 to 10. Nothing here comes from the crate or from the joiner.
+//! Document 01's join ("The join") with document 02's addresses, as naively as it reads, for an input
+//! that passes its checks 1 to 10. Nothing here comes from the crate or from the joiner.
 use std::collections::BTreeMap;
 use std::ops::Range;
 
@@ -41,7 +41,7 @@ pub fn held(s: &Seg) -> bool {
 pub fn joined_type(input: &Input) -> u32 {
     let held: Vec<&Seg> = input.segs.iter().filter(|s| held(s)).collect();
     let exists = |ty: u32| held.iter().any(|s| s.ty == ty);
-    let every = |ty: u32, ok: fn(u64) -> bool| {
+    let every = |ty: u32, ok: fn(u128) -> bool| {
         held.iter().filter(|s| s.ty == ty).all(|s| s.values.iter().all(|&v| ok(v)))
     };
     if input.required != 255 {
@@ -56,14 +56,15 @@ pub fn joined_type(input: &Input) -> u32 {
     }
 }
 
-/// A stored word of one type as a word of another; None if it can't be had.
-pub fn coerced(from: u32, to: u32, v: u64) -> Option<u64> {
+/// A stored value of one type as a value of another; None if it can't be had. An address "is never
+/// coerced".
+pub fn coerced(from: u32, to: u32, v: u128) -> Option<u128> {
     match (from, to) {
         _ if from == to => Some(v),
         (1, 0) if v <= 9223372036854775807 => Some(v),
         (0, 1) if v as i64 >= 0 => Some(v),
-        (0, 2) => Some((v as i64 as f64).to_bits()),
-        (1, 2) => Some((v as f64).to_bits()),
+        (0, 2) => Some((v as i64 as f64).to_bits() as u128),
+        (1, 2) => Some((v as u64 as f64).to_bits() as u128),
         _ => None,
     }
 }
@@ -154,7 +155,7 @@ pub fn join(input: &Input) -> Listing {
         let s = &segs[seg];
         for &v in &s.values[range] {
             out.values.push(match ty {
-                3 | 4 => new_ordinal(&s.terms[v as usize]) as u64,
+                3 | 4 => new_ordinal(&s.terms[v as usize]) as u128,
                 _ => coerced(s.ty, ty, v).expect("check 10 passed"),
             });
         }
@@ -166,4 +167,44 @@ pub fn join(input: &Input) -> Listing {
         }
     }
     out
+}
+
+#[cfg(test)]
+mod tests {
+    use super::*;
+    use crate::generate::{self, Kinds, Shape, Types};
+    use crate::rng::Rng;
+    use crate::wire::IP;
+
+    /// A join of addresses is two joins of numbers, of the high words and of the low ones.
+    #[test]
+    fn addresses_are_two_words() {
+        let mut all = 0;
+        for case in 0..2_000 {
+            let rng = &mut Rng::of_case(1, case);
+            let input = generate::input(rng, Shape::Small, Kinds::Joined, Types::Listeners);
+            let types = || input.segs.iter().map(|s| s.ty).chain([input.required]);
+            if types().any(|ty| ty != IP && ty != 255) {
+                continue;
+            }
+            let half = |half: fn(u128) -> u128| {
+                let mut input = input.clone();
+                input.required = if input.required == IP { 1 } else { 255 };
+                for s in input.segs.iter_mut().filter(|s| s.ty == IP) {
+                    s.ty = 1;
+                    s.values.iter_mut().for_each(|v| *v = half(*v));
+                }
+                join(&input)
+            };
+            let (high, low) = (half(|v| v >> 64), half(|v| v as u64 as u128));
+            let pairs = high.values.iter().zip(&low.values);
+            let values: Vec<u128> = pairs.map(|(high, low)| high << 64 | low).collect();
+            let ty = if low.ty == 1 { IP } else { 255 };
+            all += values.len();
+            for half in [high, low] {
+                assert_eq!(join(&input), Listing { ty, values: values.clone(), ..half }, "case {case}");
+            }
+        }
+        assert!(all > 10_000);
+    }
 }

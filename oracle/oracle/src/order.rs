@@ -99,7 +99,7 @@ pub fn several_times(s: &Seg) -> bool {
 }
 
 /// Values stand in row order; a time is a two's complement word. Equal ones don't fall.
-pub fn falling(times: &[u64]) -> bool {
+pub fn falling(times: &[u128]) -> bool {
     times.windows(2).any(|w| (w[1] as i64) < w[0] as i64)
 }
 
@@ -192,8 +192,11 @@ mod tests {
         assert_eq!(outcome(&Call::new(&s, 1)).number(), 0);
         s.values.clear();
         assert_eq!(outcome(&Call::new(&s, 1)).number(), 2);
+        let mut s = sections(&segments("6/1/1/val=0:4"));
+        s.values.pop();
+        assert_eq!(outcome(&Call::new(&s, 1)).number(), 2);
         // 3, before 19
-        answer(3, "6/1/1/val=7");
+        answer(3, "8/1/1/val=7");
         answer(3, "255/1/1/val=7");
         answer(3, "7/3/1/off=0,1/val=7 7/5/0");
         // 19, before 4
@@ -228,6 +231,9 @@ mod tests {
             "1/1/1/val=4",
             "0/1/1/val=4",
             "4/0/1",
+            "6/1/1/val=0:4",
+            "7/1/1/val=4 6/1/2/val=5:4,4:5",
+            "6/0/1",
         ] {
             answer(12, text);
         }

@@ -86,6 +86,7 @@ pub struct Lists {
     pub working: Run<u8>,
     pub ids: Run<u32>,
     pub offsets: Run<u32>,
+    /// words
     pub values: Run<u64>,
     pub term_lengths: Run<u32>,
     pub term_bytes: Run<u8>,
@@ -126,7 +127,8 @@ impl Lists {
     pub fn write(&mut self, l: &Listing) {
         self.ids.lent()[..l.ids.len()].copy_from_slice(&l.ids);
         self.offsets.lent()[..l.offsets.len()].copy_from_slice(&l.offsets);
-        self.values.lent()[..l.values.len()].copy_from_slice(&l.values);
+        let words = l.words();
+        self.values.lent()[..words.len()].copy_from_slice(&words);
         let bytes = l.terms.concat();
         self.term_bytes.lent()[..bytes.len()].copy_from_slice(&bytes);
         for (length, term) in self.term_lengths.lent().iter_mut().zip(&l.terms) {
@@ -148,7 +150,7 @@ impl Lists {
         None.or_else(|| self.numbers.fault("numbers", &numbers))
             .or_else(|| self.ids.fault("ids", &l.ids))
             .or_else(|| self.offsets.fault("offsets", &l.offsets))
-            .or_else(|| self.values.fault("values", &l.values))
+            .or_else(|| self.values.fault("values", &l.words()))
             .or_else(|| self.term_lengths.fault("term lengths", &lengths))
             .or_else(|| self.term_bytes.fault("term bytes", &l.terms.concat()))
             .or_else(|| self.map.fault("map", &l.map))

@@ -39,6 +39,7 @@ fn column_type(code: u32) -> ColumnType {
         3 => ColumnType::Bytes,
         4 => ColumnType::Str,
         5 => ColumnType::Bool,
+        6 => ColumnType::IpAddr,
         7 => ColumnType::DateTime,
         _ => panic!("no column type {code}"),
     }
@@ -121,13 +122,17 @@ pub fn merge(input: &Input) -> Raw {
         let mut dictionaries = state.terms.into_iter().zip(state.maps);
         let mut listings = Vec::new();
         for (ty, c) in types.into_iter().zip(state.columns) {
+            let word = |&v: &u64| ColumnarWriter::internal_to_word(ty, v) as u128;
             let mut l = Listing {
                 ty: ty.to_code() as u32,
                 class: c.class as u32,
                 rows: merged.num_docs(),
                 ids: c.ids,
                 offsets: c.offsets,
-                values: c.values.iter().map(|&v| ColumnarWriter::internal_to_word(ty, v)).collect(),
+                values: match ty {
+                    ColumnType::IpAddr => c.values128,
+                    _ => c.values.iter().map(word).collect(),
+                },
                 ..Listing::default()
             };
             if matches!(ty, ColumnType::Str | ColumnType::Bytes) {
@@ -222,14 +227,16 @@ fn reopen(file: Vec<u8>) -> Listing {
         }
     }
     l.values = match &column {
-        DynamicColumn::Bool(c) => c.values.iter().map(u64::from).collect(),
-        DynamicColumn::I64(c) => c.values.iter().map(|v| v as u64).collect(),
-        DynamicColumn::U64(c) => c.values.iter().collect(),
-        DynamicColumn::F64(c) => c.values.iter().map(f64::to_bits).collect(),
-        DynamicColumn::DateTime(c) => c.values.iter().map(|v| v.into_timestamp_nanos() as u64).collect(),
-        DynamicColumn::IpAddr(_) => panic!("left out by document 01"),
-        DynamicColumn::Bytes(c) => c.ords().values.iter().collect(),
-        DynamicColumn::Str(c) => c.ords().values.iter().collect(),
+        DynamicColumn::Bool(c) => c.values.iter().map(u128::from).collect(),
+        DynamicColumn::I64(c) => c.values.iter().map(|v| v as u64 as u128).collect(),
+        DynamicColumn::U64(c) => c.values.iter().map(u128::from).collect(),
+        DynamicColumn::F64(c) => c.values.iter().map(|v| v.to_bits() as u128).collect(),
+        DynamicColumn::DateTime(c) => {
+            c.values.iter().map(|v| v.into_timestamp_nanos() as u64 as u128).collect()
+        }
+        DynamicColumn::IpAddr(c) => c.values.iter().map(u128::from).collect(),
+        DynamicColumn::Bytes(c) => c.ords().values.iter().map(u128::from).collect(),
+        DynamicColumn::Str(c) => c.ords().values.iter().map(u128::from).collect(),
     };
     let bytes = match &column {
         DynamicColumn::Bytes(c) => Some(c.clone()),

@@ -24,13 +24,19 @@ const BY_HAND: &[&str] = &[
     "1 255 4/1/2/val=1,0/terms=-,a/alive=1 4/1/1/val=0/terms=- addr=1:0,0:0",
     // a withdrawn value counts for the type
     "1 255 1/1/2/val=9223372036854775807,1/alive=2 0/1/1/val=-1 addr=1:0,0:1",
+    // addresses: corners in both words, equal halves, a required type, dropped ones
+    "0 255 6/1/6/val=0:0,-1:-1,0:-1,-1:0,0:281473902969345,0:1",
+    "0 255 6/4/3/ids=0,2/off=0,3,5/val=5:1,5:2,5:1,1:5,2:5 255/0/2 6/1/1/val=7:7",
+    "1 255 6/1/3/val=1:2,3:4,5:6 6/2/3/ids=0,2/val=7:8,9:10 addr=1:2,0:2,1:1,0:0,1:0,0:1",
+    "1 6 6/1/1/val=3:4/alive=0 255/0/1 addr=1:0",
+    "0 6 6/0/0",
     // doubles: ties to even, both ways and both signs, and the ends
     "0 2 1/1/6/val=9007199254740993,9007199254740995,18446744073709551615,18446744073709550592,18446744073709550591,1",
     "0 2 0/1/6/val=-9007199254740993,-9007199254740995,0x8000000000000000,9223372036854775807,-1,0",
     // 3
-    "0 255 6/1/1/val=0",
+    "0 255 8/1/1/val=0",
     "2 255",
-    "0 6",
+    "0 8",
     "0 256",
     "0 255 1/5/0",
     "0 255 255/1/0",
@@ -41,6 +47,7 @@ const BY_HAND: &[&str] = &[
     "0 255 1/3/0/off=0",
     "0 255 1/3/2/off=0,2,1/val=0",
     "0 255 1/3/4294967295",
+    "0 255 6/3/1/off=0,1/val=3:4",
     "0 255 1/3/1/off=0,1/val=7 1/2/3/ids=1,1/val=0,0",
     "0 255 1/2/3/ids=1,1/val=0,0 5/3/1/off=0,1/val=2",
     "0 255 1/3/1/off=0,1/val=7 9/1/1/val=0",
@@ -55,6 +62,8 @@ const BY_HAND: &[&str] = &[
     "0 255 1/4/2/ids=0,1/off=0,2,1/val=0",
     "0 255 1/4/2/ids=0,1/off=0,1,1/val=0",
     "0 255 1/4/4294967295",
+    "0 255 6/1/4/val=1:2,3:4",
+    "0 255 6/4/1/ids=0/off=0,2/val=3:4",
     // 5
     "0 255 4/1/1/val=0/terms=b,a",
     "0 255 4/1/1/val=0/terms=a,a",
@@ -62,6 +71,8 @@ const BY_HAND: &[&str] = &[
     "0 255 5/1/1/val=2",
     "0 255 1/1/1/val=0/terms=a",
     "0 255 4/0/1/terms=a",
+    "0 255 6/1/1/val=3:4/terms=a",
+    "0 255 6/1/1/val=1:1 5/1/1/val=7",
     // 6
     "1 255 1/1/1/val=0/alive=2",
     "0 255 1/1/1/val=0/alive=1",
@@ -86,9 +97,13 @@ const BY_HAND: &[&str] = &[
     "0 1 0/1/1/val=-1",
     "0 0 2/1/1/val=0",
     "1 0 1/1/2/val=1,9223372036854775808/alive=1 addr=0:0",
+    "0 255 6/1/1/val=1:2 1/1/1/val=9",
+    "0 255 6/1/1/val=7:7 5/1/1/val=1",
+    "0 1 6/1/1/val=0:1",
+    "0 6 1/0/1",
 ];
 
-/// Wire forms that are answered with 2 before all other checks, and their neighbours.
+/// Wire forms that are answered with 2, most of them before all other checks, and their neighbours.
 fn wire_forms() -> Vec<Vec<u8>> {
     let words = |list: &[u64]| list.iter().flat_map(|w| w.to_le_bytes()).collect::<Vec<u8>>();
     let good = [2, 0, 255, 0, 0, 0, 0, 0, 0, 0, 0];
@@ -123,6 +138,12 @@ fn wire_forms() -> Vec<Vec<u8>> {
     forms.push(words(&[2, 0, 255, 0, 0, 0, 0, 0, 1, 256, 0, 0]));
     forms.push(words(&[2, 1, 255, 0, 0, 0, 0, 0, 0, 0, 1, 0, 1 << 32]));
     forms.push(words(&[2, 0, 255, 0, 0, 0, 1, u64::MAX, 0, 0, 0, 0]));
+    // a value of type 6 with one word, with two and with three, and one of type 8 with one and with two
+    for (ty, count) in [(6, 1), (6, 2), (6, 3), (8, 1), (8, 2)] {
+        let record = [2, 0, 255, 1, ty, 1, 1, 0, 0, 1, 0, 0, 0, 0];
+        let values = &[count, 3, 4, 5][..1 + count as usize];
+        forms.push(words(&[&record, values, &[0; 4]].concat()));
+    }
     forms
 }
 

@@ -2,6 +2,7 @@
 //! slips/, which the comparison must find (oracle/compare SEED COUNT --slips). They are tests of the
 //! comparison and of its inputs, of nothing else.
 mod converter;
+mod listeners;
 mod time_order;
 
 use std::collections::BTreeSet;
@@ -31,6 +32,8 @@ pub enum How {
     Leave(fn(&Outcome, &mut Lists)),
     /// The first accepted call's column for every later one.
     First,
+    /// Another listing, by the joining program.
+    List(fn(&Listing) -> String),
     /// A slip of the converter.
     Converter(converter::How),
     /// A slip of the time order.
@@ -59,7 +62,7 @@ impl Slip {
 
 /// All of them: the joiner's, the converter's and the time order's.
 pub fn slips() -> impl Iterator<Item = &'static Slip> {
-    SLIPS.iter().chain(converter::SLIPS).chain(time_order::SLIPS)
+    SLIPS.iter().chain(listeners::SLIPS).chain(converter::SLIPS).chain(time_order::SLIPS)
 }
 
 const SLIPS: &[Slip] = &[
@@ -261,7 +264,7 @@ const SLIPS: &[Slip] = &[
             let (l, lent) = (c.joined(), c.lent);
             lent.ids < l.ids.len()
                 || lent.offsets < l.offsets.len()
-                || lent.values < l.values.len()
+                || lent.values < l.words().len()
                 || lent.term_lengths < l.terms.len()
                 || lent.term_bytes < l.terms.concat().len()
                 || lent.map < l.map.len()
@@ -349,7 +352,7 @@ const SLIPS: &[Slip] = &[
     slip(
         "NaN made one",
         How::Column(|_, l| {
-            let nan = |v: &&mut u64| f64::from_bits(**v).is_nan();
+            let nan = |v: &&mut u128| f64::from_bits(**v as u64).is_nan();
             if l.ty == 2 {
                 l.values.iter_mut().filter(nan).for_each(|v| *v = 0x7FF8000000000000);
             }
@@ -401,7 +404,7 @@ const SLIPS: &[Slip] = &[
         How::Count(|input, l| {
             let first = |t: &Vec<u8>| input.segs.iter().find(|s| model::held(s) && s.terms.contains(t));
             let keeps = |s: &Seg, t: &Vec<u8>| {
-                let used = |v: &u64| s.terms[*v as usize] == *t;
+                let used = |v: &u128| s.terms[*v as usize] == *t;
                 let alive = |(row, range): &(u32, std::ops::Range<usize>)| {
                     s.is_alive(*row) && s.values[range.clone()].iter().any(used)
                 };
@@ -633,12 +636,13 @@ fn round(input: &mut Input, f: fn(u64, u32) -> u64) {
     }
     for s in input.segs.iter_mut().filter(|s| s.ty < 2) {
         for v in &mut s.values {
-            let negative = s.ty == 0 && *v >> 63 == 1;
-            let size = if negative { v.wrapping_neg() } else { *v };
+            let word = *v as u64;
+            let negative = s.ty == 0 && word >> 63 == 1;
+            let size = if negative { word.wrapping_neg() } else { word };
             let drop = (64 - size.leading_zeros()).saturating_sub(53);
             if drop > 0 {
                 let size = f(size, drop);
-                *v = if negative { size.wrapping_neg() } else { size };
+                *v = if negative { size.wrapping_neg() } else { size } as u128;
             }
         }
     }
@@ -657,7 +661,7 @@ fn with_terms(input: &Input, l: &mut Listing, terms: Vec<Vec<u8>>) {
     let place = |t: &Vec<u8>| terms.iter().position(|u| u == t).unwrap_or(0) as u32;
     if l.ty == 3 || l.ty == 4 {
         let new: Vec<u32> = l.terms.iter().map(place).collect();
-        l.values.iter_mut().for_each(|v| *v = new[*v as usize] as u64);
+        l.values.iter_mut().for_each(|v| *v = new[*v as usize] as u128);
         let held = input.segs.iter().filter(|s| model::held(s)).flat_map(|s| &s.terms);
         l.map = held
             .map(|t| if l.terms.contains(t) || terms.len() > l.terms.len() { place(t) } else { 0 })

@@ -1,13 +1,14 @@
-//! Document 01's table of answers ("Answers of the joiner"), 1 to 11, with document 02's 19, and what
-//! the joining program does with standard input: written from the documents' words alone.
+//! Document 01's table of answers ("Answers of the joiner"), 1 to 11, with document 02's 19 and its
+//! addresses, and what the joining program does with standard input: written from the documents' words
+//! alone.
 use std::cell::OnceCell;
 use std::cmp::Ordering;
 use std::collections::HashSet;
 
 use crate::model;
-use crate::wire::{Input, Listing, Outcome, Sections, Seg};
+use crate::wire::{Input, Listing, Outcome, Sections, Seg, width};
 
-/// How many elements are lent.
+/// How many elements are lent, of values words.
 #[derive(Clone, Copy, Debug, Default, PartialEq, Eq)]
 pub struct Lent {
     pub working: usize,
@@ -112,20 +113,20 @@ pub fn segments(call: &Call) -> bool {
 }
 
 /// 2: section lengths differ from the records' sums (only flag 1 adds alive words), or term bytes
-/// from the term lengths' sum
+/// from the term lengths' sum. "Section lengths" count the values' words; 3 has not been asked yet.
 pub fn section_lengths(call: &Call) -> bool {
     let s = call.sections;
-    let sum = |of: &dyn Fn(&[u32; 8]) -> u32| s.records.iter().map(|r| of(r) as u128).sum::<u128>();
-    sum(&|r| r[3]) != s.ids.len() as u128
-        || sum(&|r| r[4]) != s.offsets.len() as u128
-        || sum(&|r| r[5]) != s.values.len() as u128
-        || sum(&|r| r[6]) != s.term_lengths.len() as u128
-        || sum(&|r| if r[7] == 1 { r[2].div_ceil(64) } else { 0 }) != s.alive.len() as u128
+    let sum = |of: &dyn Fn(&[u32; 8]) -> u128| s.records.iter().map(of).sum::<u128>();
+    sum(&|r| r[3] as u128) != s.ids.len() as u128
+        || sum(&|r| r[4] as u128) != s.offsets.len() as u128
+        || sum(&|r| r[5] as u128 * width(r[0]) as u128) != s.values.len() as u128
+        || sum(&|r| r[6] as u128) != s.term_lengths.len() as u128
+        || sum(&|r| if r[7] == 1 { r[2].div_ceil(64) as u128 } else { 0 }) != s.alive.len() as u128
         || s.term_lengths.iter().map(|&n| n as u128).sum::<u128>() != s.term_bytes.len() as u128
 }
 
 pub fn known_type(ty: u32) -> bool {
-    matches!(ty, 0 | 1 | 2 | 3 | 4 | 5 | 7 | 255)
+    ty <= 7 || ty == 255
 }
 
 /// 3: unknown mode, type, required type, kind or flag; type 255 with a kind or lengths
@@ -195,7 +196,7 @@ pub fn contents_of(s: &Seg) -> bool {
     };
     let words = s.ty == 3 || s.ty == 4;
     s.ty == 5 && s.values.iter().any(|&v| v > 1)
-        || words && s.values.iter().any(|&v| v >= s.terms.len() as u64)
+        || words && s.values.iter().any(|&v| v >= s.terms.len() as u128)
         || s.terms.windows(2).any(|w| bytewise(&w[0], &w[1]) != Ordering::Less)
         || !s.terms.is_empty() && (!words || s.kind == 0)
 }
@@ -212,11 +213,11 @@ pub fn past_the_rows(s: &Seg) -> bool {
     words.any(|(i, word)| (0..64).any(|bit| word >> bit & 1 == 1 && past(i, bit)))
 }
 
-/// 7: rows, values or term bytes sum above 4294967294
+/// 7: rows, values or term bytes sum above 4294967294. "Values are counted as addresses."
 pub fn sums(call: &Call) -> bool {
     let s = call.sections;
     s.records.iter().map(|r| r[2] as u128).sum::<u128>() > 4294967294
-        || s.values.len() as u128 > 4294967294
+        || s.records.iter().map(|r| r[5] as u128).sum::<u128>() > 4294967294
         || s.term_bytes.len() as u128 > 4294967294
 }
 
@@ -290,14 +291,15 @@ pub fn needed(call: &Call) -> Lent {
         },
         ids: joined.ids.len(),
         offsets: joined.offsets.len(),
-        values: joined.values.len(),
+        values: joined.words().len(),
         term_lengths: terms,
         term_bytes: held().flat_map(|s| &s.terms).map(|t| t.len()).sum(),
         map: terms,
     }
 }
 
-/// 11: an output shorter than its list; for terms and map, than the held columns' sums
+/// 11: an output shorter than its list; for terms and map, than the held columns' sums. "Output space"
+/// counts the values' words.
 pub fn space(call: &Call) -> bool {
     let (needed, lent) = (needed(call), call.lent);
     lent.ids < needed.ids
@@ -346,11 +348,10 @@ mod tests {
         assert_eq!(outcome(&s, PLENTY), Outcome::Refused(2));
         s.alive.clear();
         assert_eq!(outcome(&s, PLENTY), Outcome::Refused(3));
-        // 3: type 6
+        // 3: type 8
         for text in [
-            "0 255 6/1/1/val=0",
+            "0 255 8/1/1/val=0",
             "2 255",
-            "0 6",
             "0 8",
             "0 254",
             "0 256",
@@ -395,7 +396,7 @@ mod tests {
             "0 255 255/3/0",
             "0 255 255/3/1/off=0,1/val=7",
             "2 255 1/3/0/off=0",
-            "0 6 1/3/0/off=0",
+            "0 8 1/3/0/off=0",
         ] {
             refused(3, text);
         }
@@ -500,18 +501,99 @@ mod tests {
         assert_eq!(number(text, Lent { offsets: 1, ..exact }), 11);
     }
 
+    /// "Values are counted as addresses, and section lengths and output space as words."
+    #[test]
+    fn addresses_and_words() {
+        let refused = |n: u32, text: &str| assert_eq!(number(text, PLENTY), n, "{text}");
+        // 2: two words an address, no more and no less
+        let words = |records: &[[u32; 8]], words: &[u64]| {
+            let (records, values) = (records.to_vec(), words.to_vec());
+            outcome(&Sections { required: 255, records, values, ..Sections::default() }, PLENTY).number()
+        };
+        let full = |ty: u32, values: u32| [ty, 1, values, 0, 0, values, 0, 0];
+        assert_eq!(words(&[full(6, 1)], &[3, 4]), 0);
+        assert_eq!(words(&[full(6, 1)], &[3]), 2);
+        assert_eq!(words(&[full(6, 1)], &[3, 4, 5]), 2);
+        assert_eq!(words(&[full(6, 2)], &[1, 2]), 2);
+        assert_eq!(words(&[full(6, 2)], &[1, 2, 3, 4]), 0);
+        assert_eq!(words(&[full(6, 4)], &[1, 2, 3, 4]), 2);
+        // an unknown type has one word a value, since 2 comes before 3
+        assert_eq!(words(&[full(8, 1)], &[3]), 3);
+        assert_eq!(words(&[full(8, 1)], &[3, 4]), 2);
+        assert_eq!(words(&[full(4_294_967_295, 2)], &[3, 4]), 3);
+        // errors of two records cancel in words, and 4 finds them
+        assert_eq!(words(&[full(6, 1), full(1, 2)], &[1, 2, 3, 4]), 10);
+        assert_eq!(words(&[[6, 1, 1, 0, 0, 2, 0, 0], [1, 1, 2, 0, 0, 0, 0, 0]], &[1, 2, 3, 4]), 4);
+        assert_eq!(words(&[[6, 1, 1, 0, 0, 2, 0, 0], [1, 1, 2, 0, 0, 1, 0, 0]], &[1, 2, 3, 4]), 2);
+        // a segment's words start after the words of the segments before it
+        let (records, values) = (vec![full(6, 1), full(1, 1)], vec![1, 2, 9]);
+        let segs = Sections { records, values, ..Sections::default() }.cut().segs;
+        assert_eq!((&segs[0].values[..], &segs[1].values[..]), (&[(1 << 64) + 2][..], &[9][..]));
+        assert_eq!(words(&[full(6, 1), full(5, 1)], &[7, 7, 1]), 10);
+        assert_eq!(words(&[full(6, 1), full(5, 1)], &[1, 1, 7]), 5);
+        // 3: known, and so as required type
+        for text in ["0 255 6/1/1/val=3:4", "0 6", "0 6 6/1/1/val=3:4", "0 255 6/0/1", "0 6 255/0/1"] {
+            refused(0, text);
+        }
+        refused(3, "0 255 255/0/1/val=3");
+        refused(19, "0 255 6/3/1/off=0,1/val=3:4");
+        // 4: numbers of values, ids and offsets are of addresses
+        for text in [
+            "0 255 6/1/2/val=3:4",
+            "0 255 6/1/4/val=1:2,3:4",
+            "0 255 6/2/2/ids=0,1/val=3:4",
+            "0 255 6/4/1/ids=0/off=0,2/val=3:4",
+            "0 255 6/0/1/val=3:4",
+        ] {
+            refused(4, text);
+        }
+        // 5: terms on another type; no check looks into an address
+        refused(5, "0 255 6/1/1/val=3:4/terms=a");
+        refused(5, "0 255 6/2/1/terms=a");
+        refused(5, "0 255 6/0/1/terms=a");
+        refused(0, "0 255 6/1/4/val=0:0,-1:-1,0:-1,-1:0");
+        // 10: "a category of its own and is never coerced"
+        for text in [
+            "0 255 6/1/1/val=1:2 1/1/1/val=9",
+            "0 255 6/1/1/val=1:2 0/0/1",
+            "0 255 6/0/1 1/1/1/val=9",
+            "0 255 6/1/1/val=0:1 5/1/1/val=1",
+            "0 255 6/1/1/val=0:1 7/1/1/val=1",
+            "0 255 6/1/1/val=0:0 4/1/1/val=0/terms=a",
+            "0 255 6/1/1/val=0:0 3/1/1/val=0/terms=a",
+            "0 0 6/1/1/val=0:1",
+            "0 1 6/1/1/val=0:1",
+            "0 2 6/1/1/val=0:1",
+            "0 6 1/1/1/val=1",
+            "0 6 1/0/1",
+        ] {
+            refused(10, text);
+        }
+        // 11: a place for each word
+        let of_values = |text: &str, values: usize| number(text, Lent { values, ..Lent::default() });
+        let one = "0 255 6/1/1/val=1:2";
+        assert_eq!([0, 1, 2].map(|n| of_values(one, n)), [11, 11, 0]);
+        let two = "0 255 6/1/2/val=1:2,3:4";
+        assert_eq!([2, 3, 4].map(|n| of_values(two, n)), [11, 11, 0]);
+        assert_eq!(of_values("0 6", 0), 0);
+        assert_eq!(of_values("0 255 1/1/1/val=7", 1), 0);
+    }
+
     #[test]
     fn program_form() {
-        let bytes = |values: usize| {
+        let bytes = |ty: u32, values: usize| {
             let mut s = input("0 255 1/1/0").sections();
-            (s.records[0][2], s.records[0][5]) = (values as u32, values as u32);
-            s.values = vec![7; values];
+            (s.records[0][0], s.records[0][2], s.records[0][5]) = (ty, values as u32, values as u32);
+            s.values = vec![7; values * width(ty)];
             s.encode()
         };
         // 8 + 11 words without the values
-        assert_eq!(bytes(8_173).len(), 65_536);
-        assert_eq!(program(&bytes(8_173)).number(), 0);
-        assert_eq!(program(&bytes(8_174)), Outcome::Refused(2));
+        assert_eq!(bytes(1, 8_173).len(), 65_536);
+        assert_eq!(program(&bytes(1, 8_173)).number(), 0);
+        assert_eq!(program(&bytes(1, 8_174)), Outcome::Refused(2));
+        assert_eq!(bytes(6, 4_086).len(), 65_528);
+        assert_eq!(program(&bytes(6, 4_086)).number(), 0);
+        assert_eq!(program(&bytes(6, 4_087)), Outcome::Refused(2));
         assert_eq!(program(&[]), Outcome::Refused(2));
     }
 }

@@ -1,5 +1,6 @@
 //! Document 01's sections, cut into segments or in one run each, their wire form (64-bit
-//! little-endian words), and the listing.
+//! little-endian words), and the listing. A segment's or a column's value is one number here; only
+//! sections, outputs and the listing hold words.
 
 /// The sections as they are lent: each kind of element in one run.
 #[derive(Clone, Debug, Default, PartialEq, Eq)]
@@ -10,12 +11,32 @@ pub struct Sections {
     pub records: Vec<[u32; 8]>,
     pub ids: Vec<u32>,
     pub offsets: Vec<u32>,
+    /// words
     pub values: Vec<u64>,
     pub term_lengths: Vec<u32>,
     pub term_bytes: Vec<u8>,
     pub alive: Vec<u64>,
     /// segment, row
     pub addresses: Vec<[u32; 2]>,
+}
+
+/// The type of listener addresses.
+pub const IP: u32 = 6;
+
+/// How many words a value has: an address two, of any other type, one that nobody knows too, one.
+pub fn width(ty: u32) -> usize {
+    if ty == IP { 2 } else { 1 }
+}
+
+/// The words of values: "a value is two 64-bit words, high word first".
+pub fn words_of(ty: u32, values: &[u128]) -> Vec<u64> {
+    values.iter().flat_map(|&v| [(v >> 64) as u64, v as u64].into_iter().skip(2 - width(ty))).collect()
+}
+
+/// The values of words.
+pub fn values_of(ty: u32, words: &[u64]) -> Vec<u128> {
+    let value = |words: &[u64]| words.iter().fold(0, |v, &word| v << 64 | word as u128);
+    words.chunks(width(ty)).map(value).collect()
 }
 
 /// One segment with its runs.
@@ -26,7 +47,7 @@ pub struct Seg {
     pub rows: u32,
     pub ids: Vec<u32>,
     pub offsets: Vec<u32>,
-    pub values: Vec<u64>,
+    pub values: Vec<u128>,
     pub terms: Vec<Vec<u8>>,
     pub alive: Option<Vec<u64>>,
 }
@@ -72,7 +93,7 @@ impl Input {
             ]);
             s.ids.extend(&seg.ids);
             s.offsets.extend(&seg.offsets);
-            s.values.extend(&seg.values);
+            s.values.extend(words_of(seg.ty, &seg.values));
             for term in &seg.terms {
                 s.term_lengths.push(term.len() as u32);
                 s.term_bytes.extend(term);
@@ -102,7 +123,7 @@ impl Sections {
                 rows: r[2],
                 ids: take(&mut ids, r[3] as usize).to_vec(),
                 offsets: take(&mut offsets, r[4] as usize).to_vec(),
-                values: take(&mut values, r[5] as usize).to_vec(),
+                values: values_of(r[0], take(&mut values, r[5] as usize * width(r[0]))),
                 terms: take(&mut lengths, r[6] as usize)
                     .iter()
                     .map(|&n| take(&mut bytes, n as usize).to_vec())
@@ -195,7 +216,7 @@ pub struct Listing {
     pub rows: u32,
     pub ids: Vec<u32>,
     pub offsets: Vec<u32>,
-    pub values: Vec<u64>,
+    pub values: Vec<u128>,
     pub terms: Vec<Vec<u8>>,
     pub map: Vec<u32>,
 }
@@ -225,10 +246,16 @@ impl Outcome {
 }
 
 impl Listing {
+    /// The values' words.
+    pub fn words(&self) -> Vec<u64> {
+        words_of(self.ty, &self.values)
+    }
+
+    /// "The listing counts addresses and prints each as its two words."
     pub fn print(&self) -> String {
         use std::fmt::{Display, Write};
-        fn list<T: Display>(s: &mut String, name: &str, elements: impl ExactSizeIterator<Item = T>) {
-            write!(s, "{name} {}", elements.len()).unwrap();
+        fn line<T: Display>(s: &mut String, name: &str, count: usize, elements: impl Iterator<Item = T>) {
+            write!(s, "{name} {count}").unwrap();
             for element in elements {
                 write!(s, " {element}").unwrap();
             }
@@ -239,17 +266,18 @@ impl Listing {
             false => t.iter().map(|b| format!("{b:02x}")).collect(),
         };
         let mut s = format!("answer 0\ntype {}\nclass {}\nrows {}\n", self.ty, self.class, self.rows);
-        list(&mut s, "ids", self.ids.iter());
-        list(&mut s, "offsets", self.offsets.iter());
-        list(&mut s, "values", self.values.iter());
-        list(&mut s, "terms", self.terms.iter().map(term));
-        list(&mut s, "maps", self.map.iter());
+        line(&mut s, "ids", self.ids.len(), self.ids.iter());
+        line(&mut s, "offsets", self.offsets.len(), self.offsets.iter());
+        line(&mut s, "values", self.values.len(), self.words().iter());
+        line(&mut s, "terms", self.terms.len(), self.terms.iter().map(term));
+        line(&mut s, "maps", self.map.len(), self.map.iter());
         s
     }
 }
 
 /// An input from words on a command line: MODE REQUIRED SEG.. [addr=s:r,s:r..] with
 /// SEG = type/kind/rows[/ids=1,2][/off=0,1][/val=7,-8][/terms=a,b (or 0x61, a lone - empty)][/alive=5]
+/// and an address by its two words, val=1:2.
 pub fn from_words(words: &[String]) -> Result<Input, String> {
     fn number(text: &str) -> Result<u64, String> {
         let parsed = match (text.strip_prefix("0x"), text.starts_with('-')) {
@@ -261,6 +289,13 @@ pub fn from_words(words: &[String]) -> Result<Input, String> {
     }
     fn narrow(text: &str) -> Result<u32, String> {
         u32::try_from(number(text)?).map_err(|_| format!("too wide: {text}"))
+    }
+    fn value(ty: u32, text: &str) -> Result<u128, String> {
+        let words: Vec<u64> = text.split(':').map(number).collect::<Result<_, _>>()?;
+        match words.len() == width(ty) {
+            true => Ok(values_of(ty, &words)[0]),
+            false => Err(format!("no value of type {ty}: {text}")),
+        }
     }
     fn list<T>(text: &str, f: impl Fn(&str) -> Result<T, String>) -> Result<Vec<T>, String> {
         text.split(',').filter(|t| !t.is_empty()).map(f).collect()
@@ -292,7 +327,7 @@ pub fn from_words(words: &[String]) -> Result<Input, String> {
             match part.split_once('=') {
                 Some(("ids", l)) => seg.ids = list(l, narrow)?,
                 Some(("off", l)) => seg.offsets = list(l, narrow)?,
-                Some(("val", l)) => seg.values = list(l, number)?,
+                Some(("val", l)) => seg.values = list(l, |v| value(seg.ty, v))?,
                 Some(("terms", l)) => seg.terms = list(l, term)?,
                 Some(("alive", l)) => seg.alive = Some(list(l, number)?),
                 _ => return Err(format!("what is {part}?")),
@@ -315,12 +350,14 @@ pub fn to_words(input: &Input) -> String {
         true => "-".to_string(),
         false => t.iter().fold("0x".to_string(), |s, b| format!("{s}{b:02x}")),
     };
+    let value =
+        |ty: u32, v: u128| words_of(ty, &[v]).iter().map(u64::to_string).collect::<Vec<_>>().join(":");
     let mut words = format!("{} {}", input.mode, input.required);
     for s in &input.segs {
         words += &format!(" {}/{}/{}", s.ty, s.kind, s.rows);
         words += &list("ids", &s.ids, u32::to_string);
         words += &list("off", &s.offsets, u32::to_string);
-        words += &list("val", &s.values, u64::to_string);
+        words += &list("val", &s.values, |&v| value(s.ty, v));
         words += &list("terms", &s.terms, term);
         if let Some(alive) = &s.alive {
             words += "/alive=";
@@ -340,6 +377,21 @@ mod tests {
 
     fn words(list: &[u64]) -> Vec<u8> {
         list.iter().flat_map(|w| w.to_le_bytes()).collect()
+    }
+
+    #[test]
+    fn high_word_first() {
+        let address: std::net::Ipv6Addr = "2001:db8::1".parse().unwrap();
+        let words = [0x20010DB800000000, 1];
+        assert_eq!(values_of(IP, &words), [u128::from(address)]);
+        assert_eq!(words_of(IP, &[u128::from(address)]), words);
+        assert_eq!(values_of(1, &words), words.map(u128::from));
+        assert_eq!(words_of(1, &words.map(u128::from)), words);
+        // what `val=` takes
+        let segment = |text: &str| from_words(&["0".into(), "255".into(), text.to_string()]);
+        assert_eq!(segment("6/1/1/val=1:2").unwrap().segs[0].values, [(1 << 64) + 2]);
+        assert!(segment("6/1/1/val=1").is_err());
+        assert!(segment("1/1/1/val=1:2").is_err());
     }
 
     #[test]

@@ -73,11 +73,36 @@ pub fn totals(s: &Sections) -> Option<String> {
     const MOST: u64 = 4294967294;
     let sums = [
         ("rows", s.all_rows()),
-        ("values", s.values.len() as u64),
+        ("values", s.all_values()),
         ("term bytes", s.term_bytes.len() as u64),
     ];
     let (name, sum) = sums.into_iter().find(|(_, sum)| *sum > MOST)?;
     Some(format!(
         "{name}: all segments have {sum} together, above {MOST}"
     ))
+}
+
+#[cfg(test)]
+mod tests {
+    use super::*;
+    use crate::sections::Record;
+
+    /// Words that 32 bits can't count are no matter. (So many addresses are not made for a test.)
+    #[test]
+    fn totals_of_addresses() {
+        let of_addresses = |values| {
+            let records = vec![Record {
+                typ: ColumnType::IpAddr.code(),
+                values,
+                ..Record::default()
+            }];
+            totals(&Sections {
+                records,
+                ..Sections::default()
+            })
+        };
+        assert_eq!(of_addresses(4294967294), None);
+        let text = "values: all segments have 4294967295 together, above 4294967294";
+        assert_eq!(of_addresses(4294967295).as_deref(), Some(text));
+    }
 }

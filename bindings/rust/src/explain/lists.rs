@@ -13,10 +13,18 @@ pub fn lengths(s: &Sections) -> Option<String> {
     let ends = |name, of: fn(&Record) -> usize, there| announced(s, name, of, there);
     ends("row ids", |r| r.ids as usize, s.ids.len())
         .or_else(|| ends("offsets", |r| r.offsets as usize, s.offsets.len()))
-        .or_else(|| ends("values", |r| r.values as usize, s.values.len()))
+        .or_else(|| ends(values_name(s), Record::value_words, s.values.len()))
         .or_else(|| ends("terms", |r| r.terms as usize, s.term_lengths.len()))
         .or_else(|| ends("alive words", Record::alive_words, s.alive.len()))
         .or_else(|| term_bytes(s))
+}
+
+/// Words are spoken of only where they are not the values themselves.
+fn values_name(s: &Sections) -> &'static str {
+    match s.records.iter().any(|r| r.words_per_value() > 1) {
+        true => "words of values (an IpAddr has two)",
+        false => "values",
+    }
 }
 
 /// Compares the records' sum with the elements that are there.
@@ -121,10 +129,9 @@ pub fn row_lists(cut: &Cut<'_>) -> Option<String> {
 
 /// The numbers of elements that the kind asks for.
 fn numbers(cut: &Cut<'_>) -> Option<String> {
-    let rows = u64::from(cut.record.rows);
-    let [ids, offsets, values] =
-        [cut.ids.len(), cut.offsets.len(), cut.values.len()].map(|n| n as u64);
-    let wanted = match cut.record.kind {
+    let r = &cut.record;
+    let [rows, ids, offsets, values] = [r.rows, r.ids, r.offsets, r.values].map(u64::from);
+    let wanted = match r.kind {
         kind::EMPTY => [0, 0, 0],
         kind::FULL => [0, 0, rows],
         kind::OPTIONAL => [ids, 0, ids],
@@ -138,14 +145,14 @@ fn numbers(cut: &Cut<'_>) -> Option<String> {
         there[list],
         wanted[list],
     );
-    let has = match (cut.record.kind, name) {
+    let has = match (r.kind, name) {
         (kind::FULL, "values") => format!("{wanted}, one for each row"),
         (kind::OPTIONAL, "values") => format!("{wanted}, one for each row id"),
         (kind::OLD_MULTIVALUED, "offsets") => format!("{wanted}, one more than rows"),
         (kind::NEW_MULTIVALUED, "offsets") => format!("{wanted}, one more than row ids"),
         _ => "none".to_string(),
     };
-    let kind = kind_name(cut.record.kind);
+    let kind = kind_name(r.kind);
     Some(format!("{name}: {there} there, and kind {kind} has {has}"))
 }
 
@@ -180,8 +187,8 @@ fn offsets(cut: &Cut<'_>) -> Option<String> {
         };
         return Some(format!("{offset}: {how} the one before it"));
     }
-    let values = cut.values.len();
-    (last as usize != values).then(|| {
+    let values = cut.record.values;
+    (last != values).then(|| {
         let offset = element("offset", last, cut.offsets.len() - 1);
         format!("{offset}: the last offset is the number of values, {values}")
     })

@@ -4,7 +4,7 @@ use super::elements;
 use super::reader::Keyword;
 use super::tokens::Token;
 use crate::alive::{AliveSet, words_for};
-use crate::codes::{ColumnType, NO_TYPE, kind};
+use crate::codes::{ColumnType, NO_TYPE, kind, words_per_value};
 use crate::sections::{Record, Sections};
 use crate::terms::Terms;
 use std::collections::{BTreeMap, HashMap};
@@ -44,6 +44,7 @@ pub struct Draft {
     flag: Option<u32>,
     ids: Vec<u32>,
     offsets: Vec<u32>,
+    /// The values' words.
     values: Vec<u64>,
     /// Values written as texts, each with its number in the order of coming; then the values are
     /// these numbers.
@@ -109,17 +110,25 @@ impl Draft {
         if !self.texts.is_empty() {
             return Err(format!("'{word}' stands among values that are texts"));
         }
-        self.values
-            .push(elements::value(word, self.typ.unwrap_or(NO_TYPE))?);
+        match self.column_type() {
+            Some(ColumnType::IpAddr) => self.values.extend(elements::ip_addr(word)?),
+            typ => self.values.push(elements::value(word, typ)?),
+        }
         Ok(())
     }
 
+    /// The type, if it is given and known.
+    fn column_type(&self) -> Option<ColumnType> {
+        self.typ.and_then(ColumnType::from_code)
+    }
+
+    /// How many values there are, not words.
+    fn value_count(&self) -> usize {
+        self.values.len() / words_per_value(self.column_type())
+    }
+
     fn take_text(&mut self, bytes: &[u8]) -> Result<(), String> {
-        if !self
-            .typ
-            .and_then(ColumnType::from_code)
-            .is_some_and(ColumnType::has_terms)
-        {
+        if !self.column_type().is_some_and(ColumnType::has_terms) {
             return Err("only values of type Str or Bytes can be texts".to_string());
         }
         if self.texts.is_empty() && !self.values.is_empty() {
@@ -146,7 +155,7 @@ impl Draft {
             rows,
             ids: self.count(self.ids.len())?,
             offsets: self.count(self.offsets.len())?,
-            values: self.count(self.values.len())?,
+            values: self.count(self.value_count())?,
             terms: self.count(self.terms.len())?,
             flag,
         });
@@ -213,7 +222,7 @@ impl Draft {
         };
         let rows = match (self.rows, kind) {
             (Some(rows), _) => rows,
-            (None, kind::FULL) => self.count(self.values.len())?,
+            (None, kind::FULL) => self.count(self.value_count())?,
             (None, kind::OLD_MULTIVALUED) => self.count(self.offsets.len().saturating_sub(1))?,
             (None, _) => return Err(self.fault(None, "this segment has no 'rows'")),
         };

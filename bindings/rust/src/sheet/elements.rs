@@ -1,11 +1,13 @@
 //! Numbers, values, terms and addresses as they are written in a sheet.
 use crate::codes::{ColumnType, NO_TYPE, kind, mode};
+use crate::ip;
 use crate::sections::Address;
+use std::net::{IpAddr, Ipv6Addr};
 
 /// A number in decimal, or in hexadecimal after 0x.
 pub fn number<T: TryFrom<u64>>(word: &str) -> Result<T, String> {
     let parsed = match word.strip_prefix("0x") {
-        Some(digits) => hexadecimal(digits),
+        Some(digits) => hexadecimal(digits).and_then(|number| u64::try_from(number).ok()),
         None => word.parse().ok(),
     };
     let most = u64::MAX >> (64 - 8 * size_of::<T>());
@@ -14,17 +16,29 @@ pub fn number<T: TryFrom<u64>>(word: &str) -> Result<T, String> {
         .ok_or_else(|| format!("'{word}' is no number from 0 to {most}"))
 }
 
-fn hexadecimal(digits: &str) -> Option<u64> {
+fn hexadecimal(digits: &str) -> Option<u128> {
     let plain = digits.bytes().all(|byte| byte.is_ascii_hexdigit());
-    u64::from_str_radix(digits, 16).ok().filter(|_| plain)
+    u128::from_str_radix(digits, 16).ok().filter(|_| plain)
 }
 
-/// A value's word. A type that is not known has plain numbers.
-pub fn value(word: &str, typ: u32) -> Result<u64, String> {
+/// The two words of a value of type IpAddr: an IPv6 address, an IPv4 address, or the 128 bits in
+/// hexadecimal after 0x.
+pub fn ip_addr(word: &str) -> Result<[u64; 2], String> {
+    let parsed = match word.strip_prefix("0x") {
+        Some(digits) => hexadecimal(digits).map(|bits| Ipv6Addr::from_bits(bits).into()),
+        None => word.parse::<IpAddr>().ok(),
+    };
+    parsed
+        .map(ip::words_of)
+        .ok_or_else(|| format!("'{word}' is no IPv6 address and no IPv4 address"))
+}
+
+/// The word of a value that has one. A type that is not known has plain numbers.
+pub fn value(word: &str, typ: Option<ColumnType>) -> Result<u64, String> {
     if word.starts_with("0x") {
         return number(word);
     }
-    match (ColumnType::from_code(typ), word) {
+    match (typ, word) {
         (Some(ColumnType::I64 | ColumnType::DateTime), _) => {
             let parsed = word.parse::<i64>();
             parsed
@@ -55,9 +69,11 @@ fn double(word: &str) -> Result<f64, String> {
     }
 }
 
-/// A value as [`value`] reads it.
-pub fn value_text(value: u64, typ: u32) -> String {
-    match (ColumnType::from_code(typ), value) {
+/// A value of these words, as [`value`] or [`ip_addr`] reads it.
+pub fn value_text(words: &[u64], typ: Option<ColumnType>) -> String {
+    let value = words[0];
+    match (typ, value) {
+        (Some(ColumnType::IpAddr), high) => ip::ip_addr(high, words[1]).to_string(),
         (Some(ColumnType::I64 | ColumnType::DateTime), _) => (value as i64).to_string(),
         (Some(ColumnType::F64), bits) if !f64::from_bits(bits).is_nan() => {
             format!("{:?}", f64::from_bits(bits))
@@ -114,8 +130,19 @@ pub fn hex_text(bytes: &[u8]) -> String {
     })
 }
 
-/// An address as SEGMENT:ROW.
+/// A row's address as SEGMENT:ROW. A listener's address is none, which is said where the two are
+/// mistaken for each other.
 pub fn address(word: &str) -> Result<Address, String> {
+    row_address(word).map_err(|text| match word.parse::<IpAddr>() {
+        Ok(_) => format!(
+            "'{word}' is a listener's address, which stands among the values; the address of a \
+             row is written SEGMENT:ROW, as 0:3"
+        ),
+        Err(_) => text,
+    })
+}
+
+fn row_address(word: &str) -> Result<Address, String> {
     let (segment, row) = word
         .split_once(':')
         .ok_or_else(|| format!("'{word}' is no address, which is written SEGMENT:ROW, as 0:3"))?;
@@ -210,15 +237,60 @@ mod tests {
             1,
         ];
         for word in words.into_iter().chain(more) {
-            for typ in [0, 1, 2, 3, 4, 5, 6, 7, 255] {
-                assert_eq!(value(&value_text(word, typ), typ), Ok(word), "{typ}");
+            for typ in [0, 1, 2, 3, 4, 5, 7, 8, 255].map(ColumnType::from_code) {
+                assert_eq!(value(&value_text(&[word], typ), typ), Ok(word), "{typ:?}");
+            }
+            for low in words {
+                let text = value_text(&[word, low], Some(ColumnType::IpAddr));
+                assert_eq!(ip_addr(&text), Ok([word, low]), "{text}");
             }
         }
     }
 
     #[test]
+    fn listener_addresses() {
+        let high = 0x2001_0db8_0000_0000;
+        assert_eq!(ip_addr("2001:db8::1"), Ok([high, 1]));
+        assert_eq!(ip_addr("2001:0DB8:0:0:0:0:0:1"), Ok([high, 1]));
+        assert_eq!(ip_addr("0x20010db8000000000000000000000001"), Ok([high, 1]));
+        assert_eq!(ip_addr("::"), Ok([0, 0]));
+        // An IPv4 address, the mapped one, and the compatible one, which is another.
+        assert_eq!(ip_addr("192.0.2.7"), Ok([0, 0xffff_c000_0207]));
+        assert_eq!(ip_addr("::ffff:192.0.2.7"), Ok([0, 0xffff_c000_0207]));
+        assert_eq!(ip_addr("::192.0.2.7"), Ok([0, 0xc000_0207]));
+        let words = [
+            "",
+            "0:3",
+            "7",
+            "::1/64",
+            "[::1]",
+            "fe80::1%eth0",
+            "192.0.2",
+            "192.0.2.256",
+            "0x",
+            "0x+1",
+            "0x100000000000000000000000000000000",
+        ];
+        for word in words {
+            assert!(ip_addr(word).is_err(), "{word}");
+        }
+    }
+
+    /// Neither can be read as the other.
+    #[test]
+    fn addresses_of_rows() {
+        assert_eq!(address("0:3"), Ok(Address { segment: 0, row: 3 }));
+        for word in ["::3", "2001:db8::1", "0:0:0:0:0:0:0:3", "192.0.2.7"] {
+            let text = address(word).unwrap_err();
+            assert!(text.contains("a listener's address"), "{text}");
+        }
+        assert!(address("3").unwrap_err().contains("is no address"));
+        assert!(address("0:3:1").unwrap_err().contains("is no number"));
+    }
+
+    #[test]
     fn doubles() {
-        let f64s = ColumnType::F64.code();
+        let f64s = Some(ColumnType::F64);
         assert_eq!(value("-inf", f64s), Ok(f64::NEG_INFINITY.to_bits()));
         assert_eq!(value("-0.0", f64s), Ok(1 << 63));
         assert_eq!(value("NaN", f64s), Ok(0x7ff8000000000000));

@@ -52,9 +52,10 @@ fn write_segment(cut: &Cut<'_>, out: &mut dyn Write) -> io::Result<()> {
         write_list("offsets", cut.offsets.iter().map(u32::to_string), out)?;
     }
     if !cut.values.is_empty() {
+        let values = cut.values.chunks_exact(r.words_per_value());
         write_list(
             "values",
-            cut.values.iter().map(|&v| value_text(v, r.typ)),
+            values.map(|words| value_text(words, cut.typ())),
             out,
         )?;
     }

@@ -1,4 +1,4 @@
-use Rattle.stands.specs.Look.{wordsAt}
+use Rattle.stands.specs.Look.{aliveSetAt}
 use mathlib.Core.Path.{_∙_}
 use Rattle.census.proofs.Rows.{rows-there, ids-ready, ids-values, ids-many, empty-sum, empty-count, full-sum, full-count}
 use borrow.Author.Needs.{needs}
@@ -27,7 +27,7 @@ alive-before-requires c κs = (rows-there (c .before .before .before .before .pr
 
 -- src/lib.rt:100:9
 returns : tie.Need-returns
-returns c = λ i. record { alive = c .before .before .alive-before .ensures i; listed = empty-count (c .before .before .before .before .before .before .before .args .p) (c .before .before .before .before .before .before .before .args .ids .now) (c .before .before .before .before .before .before .before .args .offsets .now) (wordsAt (c .before .before .before .before .before .before .before .args .p) (c .before .before .before .before .before .before .before .args .words .now)) (c .if1 .taken) (c .before .before .before .before .before .before .before .args .p .rows) i; values = empty-sum (c .before .before .before .before .before .before .before .args .p) (c .before .before .before .before .before .before .before .args .ids .now) (c .before .before .before .before .before .before .before .args .offsets .now) (wordsAt (c .before .before .before .before .before .before .before .args .p) (c .before .before .before .before .before .before .before .args .words .now)) (c .if1 .taken) 0 (c .before .before .before .before .before .before .before .args .p .rows) i }
+returns c = λ i. record { alive = c .before .before .alive-before .ensures i; listed = empty-count (c .before .before .before .before .before .before .before .args .p) (c .before .before .before .before .before .before .before .args .ids .now) (c .before .before .before .before .before .before .before .args .offsets .now) (aliveSetAt (c .before .before .before .before .before .before .before .args .p) (c .before .before .before .before .before .before .before .args .words .now)) (c .if1 .taken) (c .before .before .before .before .before .before .before .args .p .rows) i; values = empty-sum (c .before .before .before .before .before .before .before .args .p) (c .before .before .before .before .before .before .before .args .ids .now) (c .before .before .before .before .before .before .before .args .offsets .now) (aliveSetAt (c .before .before .before .before .before .before .before .args .p) (c .before .before .before .before .before .before .before .args .words .now)) (c .if1 .taken) 0 (c .before .before .before .before .before .before .before .args .p .rows) i }
 
 -- src/lib.rt:107:9
 returns-2 : tie.Need-returns-2

@@ -17,14 +17,10 @@ returns c = census-alive (c .before .before .before .before .before .before .arg
 listed-rows-requires : tie.Need-listed-rows-requires
 listed-rows-requires c κs = search needs
 
--- src/lib.rt:136:17
-sub-t7 : tie.Need-sub-t7
-sub-t7 c = search needs
-
 -- src/lib.rt:126:1
 returns-2 : tie.Need-returns-2
-returns-2 c = census-whole (c .before .before .before .before .before .before .before .args .p) (c .before .before .before .before .before .before .before .args .ids .now) (c .before .before .before .before .before .before .before .args .offsets .now) (c .before .before .before .before .before .before .before .args .words .now) (c .before .before .if1 .left) (c .before .listed-rows .ensures ∙ listed-is (c .before .before .before .before .before .before .before .pre .sound)) (sym (seg-sum (c .before .before .before .before .before .before .before .pre .sound)))
+returns-2 c = census-whole (c .before .before .before .before .before .before .args .p) (c .before .before .before .before .before .before .args .ids .now) (c .before .before .before .before .before .before .args .offsets .now) (c .before .before .before .before .before .before .args .words .now) (c .before .if1 .left) (c .listed-rows .ensures ∙ listed-is (c .before .before .before .before .before .before .pre .sound)) (sym (seg-sum (c .before .before .before .before .before .before .pre .sound)))
 
 pub count-spec : {M : Type 1} → statement M
 count-spec =
-    tie.close (tie.spec alive-census-requires returns listed-rows-requires sub-t7 returns-2)
+    tie.close (tie.spec alive-census-requires returns listed-rows-requires returns-2)

@@ -51,7 +51,7 @@ returns-3 : tie.Need-returns-3
 returns-3 c = part-done _ _ (seg-totals-optional (c .before .before .before .before .before .before .before .before .before .before .before .before .before .before .pre .0) (c .before .before .before .before .before .if3 .taken) (c .before .before .before .before .before .before .before .before .before .before .before .before .before .before .args .total)) _ (length-upFrom _ _) _ _ (c .before .before .append-range2 .ensures)
 
 add-b : tie.Need-add-b
-add-b c = omega (arith, seg-multi-long (c .before .before .before .before .before .before .before .before .before .before .pre .0) (c .before .before .before .before .before .if1 .left) (c .before .before .before .if2 .left) (c .before .if3 .left))
+add-b c = omega (arith, seg-multi-long (c .before .before .before .before .before .before .before .before .before .before .pre .0) (c .before .before .before .before .before .if1 .left) (c .before .before .before .if2 .left) (c .before .if3 .left), c .before .before .before .before .before .before .before .before .before .before .pre .0 .offsets-lie .ends, c .before .before .before .before .before .before .before .before .before .before .good)
 
 mul-append-shifted : tie.Need-mul-append-shifted
 mul-append-shifted c = omega (arith, seg-multi-long (c .before .before .before .before .before .before .before .before .before .before .pre .0) (c .before .before .before .before .before .if1 .left) (c .before .before .before .if2 .left) (c .before .if3 .left), c .before .before .before .before .before .before .before .before .before .before .pre .0 .offsets-lie .ends, c .before .before .before .before .before .before .before .before .before .before .good)

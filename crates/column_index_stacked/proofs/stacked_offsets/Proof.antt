@@ -34,9 +34,6 @@ put-segment-totals-requires c κs =
     let k = now-values (c .before .before .before .before .before .before .before .pre .0) (c .before .before .loop-test .taken) (c .before .stand-at .ensures) in
     (now-sound (c .before .before .before .before .before .before .before .pre .0) (c .before .before .loop-test .taken) (c .before .stand-at .ensures), (omega (arith, c .before .before .before .before .before .before .before .pre .1 .0, c .before .before .before .loop .inv .1), totals-room (c .before .before .before .before .before .before .before .pre .0) (c .before .before .loop-test .taken) (c .before .stand-at .ensures) (c .before .before .before .loop .total) (c .before .before .before .loop .inv .2)))
 
-sub-total : tie.Need-sub-total Inv-loop μ-loop
-sub-total c = now-sound (c .before .before .before .before .before .before .before .before .before .before .before .pre .0) (c .before .before .before .before .before .before .loop-test .taken) (c .before .before .before .before .before .stand-at .ensures) .values-rise
-
 cast-total : tie.Need-cast-total Inv-loop μ-loop
 cast-total c = omega (arith, now-values (c .before .before .before .before .before .before .before .before .before .before .before .pre .0) (c .before .before .before .before .before .before .loop-test .taken) (c .before .before .before .before .before .stand-at .ensures), c .before .before .before .before .before .before .before .before .before .before .before .pre .1 .0, c .before .before .before .before .before .before .before .loop .inv .1)
 
@@ -72,7 +69,6 @@ stacked-offsets-spec =
     loop-holds
     stand-at-requires
     put-segment-totals-requires
-    sub-total
     cast-total
     add-total
     add-s

@@ -16,7 +16,7 @@ put-bytes-requires c κs =
     let name : List ℕ = a .name .now in
     let ns : List ℕ = a .ns .now in
     let r1 : List ℕ = decimal (length ns) ++ (numbersText ns ++ newline) in
-    fill-room (fill-as (fill-from (a .at) (listLine name ns) (a .out .now) (c .before .before .before .before .pre)) (name ++ r1) (lines.list-is _ _)) name r1 refl
+    fill-room (fill-as (fill-from (a .at) (listLine name ns) (a .out .now) (c .before .before .before .before .pre)) (name ++ r1) (lines.counted-is _ _ _)) name r1 refl
 
 put-number-requires : tie.Need-put-number-requires
 put-number-requires c κs =
@@ -25,7 +25,7 @@ put-number-requires c κs =
     let ns : List ℕ = a .ns .now in
     let r2 : List ℕ = numbersText ns ++ newline in
     let r1 : List ℕ = decimal (length ns) ++ r2 in
-    let w0 = fill-as (fill-from (a .at) (listLine name ns) (a .out .now) (c .before .before .before .before .before .before .before .before .pre)) (name ++ r1) (lines.list-is _ _) in
+    let w0 = fill-as (fill-from (a .at) (listLine name ns) (a .out .now) (c .before .before .before .before .before .before .before .before .pre)) (name ++ r1) (lines.counted-is _ _ _) in
     fill-room (fill-more w0 name r1 refl _ _ (c .before .before .before .put-bytes .ensures .0) (c .before .before .before .put-bytes .ensures .1)) (decimal (length ns)) r2 refl
 
 put-numbers-requires : tie.Need-put-numbers-requires
@@ -35,7 +35,7 @@ put-numbers-requires c κs =
     let ns : List ℕ = a .ns .now in
     let r2 : List ℕ = numbersText ns ++ newline in
     let r1 : List ℕ = decimal (length ns) ++ r2 in
-    let w0 = fill-as (fill-from (a .at) (listLine name ns) (a .out .now) (c .before .before .before .before .before .before .before .before .before .before .before .before .pre)) (name ++ r1) (lines.list-is _ _) in
+    let w0 = fill-as (fill-from (a .at) (listLine name ns) (a .out .now) (c .before .before .before .before .before .before .before .before .before .before .before .before .pre)) (name ++ r1) (lines.counted-is _ _ _) in
     let w1 = fill-more w0 name r1 refl _ _ (c .before .before .before .before .before .before .before .put-bytes .ensures .0) (c .before .before .before .before .before .before .before .put-bytes .ensures .1) in
     let w2 = fill-more w1 (decimal (length ns)) r2 refl _ _ (c .before .before .before .put-number .ensures .0) (c .before .before .before .put-number .ensures .1) in
     fill-room w2 (numbersText ns) newline refl
@@ -47,7 +47,7 @@ put-byte-requires c κs =
     let ns : List ℕ = a .ns .now in
     let r2 : List ℕ = numbersText ns ++ newline in
     let r1 : List ℕ = decimal (length ns) ++ r2 in
-    let w0 = fill-as (fill-from (a .at) (listLine name ns) (a .out .now) (c .before .before .before .before .before .before .before .before .before .before .before .before .before .before .before .before .pre)) (name ++ r1) (lines.list-is _ _) in
+    let w0 = fill-as (fill-from (a .at) (listLine name ns) (a .out .now) (c .before .before .before .before .before .before .before .before .before .before .before .before .before .before .before .before .pre)) (name ++ r1) (lines.counted-is _ _ _) in
     let w1 = fill-more w0 name r1 refl _ _ (c .before .before .before .before .before .before .before .before .before .before .before .put-bytes .ensures .0) (c .before .before .before .before .before .before .before .before .before .before .before .put-bytes .ensures .1) in
     let w2 = fill-more w1 (decimal (length ns)) r2 refl _ _ (c .before .before .before .before .before .before .before .put-number .ensures .0) (c .before .before .before .before .before .before .before .put-number .ensures .1) in
     let w3 = fill-more w2 (numbersText ns) newline refl _ _ (c .before .before .before .put-numbers .ensures .0) (c .before .before .before .put-numbers .ensures .1) in
@@ -63,7 +63,7 @@ returns c =
     let ns : List ℕ = a .ns .now in
     let r2 : List ℕ = numbersText ns ++ newline in
     let r1 : List ℕ = decimal (length ns) ++ r2 in
-    let w0 = fill-as (fill-from (a .at) (listLine name ns) (a .out .now) (c .before .before .before .before .before .before .before .before .before .before .before .before .before .before .before .before .before .before .before .pre)) (name ++ r1) (lines.list-is _ _) in
+    let w0 = fill-as (fill-from (a .at) (listLine name ns) (a .out .now) (c .before .before .before .before .before .before .before .before .before .before .before .before .before .before .before .before .before .before .before .pre)) (name ++ r1) (lines.counted-is _ _ _) in
     let w1 = fill-more w0 name r1 refl _ _ (c .before .before .before .before .before .before .before .before .before .before .before .before .before .before .put-bytes .ensures .0) (c .before .before .before .before .before .before .before .before .before .before .before .before .before .before .put-bytes .ensures .1) in
     let w2 = fill-more w1 (decimal (length ns)) r2 refl _ _ (c .before .before .before .before .before .before .before .before .before .before .put-number .ensures .0) (c .before .before .before .before .before .before .before .before .before .before .put-number .ensures .1) in
     let w3 = fill-more w2 (numbersText ns) newline refl _ _ (c .before .before .before .before .before .before .put-numbers .ensures .0) (c .before .before .before .before .before .before .put-numbers .ensures .1) in

@@ -1,7 +1,7 @@
 use mathlib.Core.Path.{refl}
 use mathlib.Core.List.{List, _++_}
 use Prim.Native.Nat.{ℕ}
-use Rattle.definitions.specs.Listing.{listLine, idsName, offsetsName, valuesName}
+use Rattle.definitions.specs.Listing.{countedLine, listLine, idsName, offsetsName, valuesName}
 use Rattle.runs.proofs.Laws.{fill-from, fill-as, fill-room, fill-more, fill-last, fill-all}
 use Rattle.listing.proofs.Lines as lines
 use borrow.Author.Needs.{needs}
@@ -16,8 +16,8 @@ put-list-requires c κs =
     let a = c .before .before .before .before .before .before .args in
     let p0 : List ℕ = listLine idsName (a .ids .now) in
     let p1 : List ℕ = listLine offsetsName (a .offsets .now) in
-    let p2 : List ℕ = listLine valuesName (a .values .now) in
-    fill-room (fill-as (fill-from (a .at) _ (a .out .now) (c .before .before .before .before .before .before .pre)) (p0 ++ (p1 ++ p2)) (lines.lists-part-is _ _ _)) p0 (p1 ++ p2) refl
+    let p2 : List ℕ = countedLine valuesName (a .values) (a .words .now) in
+    fill-room (fill-as (fill-from (a .at) _ (a .out .now) (c .before .before .before .before .before .before .pre)) (p0 ++ (p1 ++ p2)) (lines.lists-part-is _ _ _ _)) p0 (p1 ++ p2) refl
 
 slice-aggregate-put-list-2 : tie.Need-slice-aggregate-put-list-2
 slice-aggregate-put-list-2 c = search needs
@@ -27,8 +27,8 @@ put-list-requires-2 c κs =
     let a = c .before .before .before .before .before .before .before .before .before .before .before .args in
     let p0 : List ℕ = listLine idsName (a .ids .now) in
     let p1 : List ℕ = listLine offsetsName (a .offsets .now) in
-    let p2 : List ℕ = listLine valuesName (a .values .now) in
-    let w = fill-as (fill-from (a .at) _ (a .out .now) (c .before .before .before .before .before .before .before .before .before .before .before .pre)) (p0 ++ (p1 ++ p2)) (lines.lists-part-is _ _ _) in
+    let p2 : List ℕ = countedLine valuesName (a .values) (a .words .now) in
+    let w = fill-as (fill-from (a .at) _ (a .out .now) (c .before .before .before .before .before .before .before .before .before .before .before .pre)) (p0 ++ (p1 ++ p2)) (lines.lists-part-is _ _ _ _) in
     fill-room (fill-more w p0 (p1 ++ p2) refl _ _ (c .before .before .before .before .put-list .ensures .0) (c .before .before .before .before .put-list .ensures .1)) p1 p2 refl
 
 slice-aggregate-put-word-list : tie.Need-slice-aggregate-put-word-list
@@ -39,8 +39,8 @@ put-word-list-requires c κs =
     let a = c .before .before .before .before .before .before .before .before .before .before .before .before .before .before .before .before .args in
     let p0 : List ℕ = listLine idsName (a .ids .now) in
     let p1 : List ℕ = listLine offsetsName (a .offsets .now) in
-    let p2 : List ℕ = listLine valuesName (a .values .now) in
-    let w = fill-as (fill-from (a .at) _ (a .out .now) (c .before .before .before .before .before .before .before .before .before .before .before .before .before .before .before .before .pre)) (p0 ++ (p1 ++ p2)) (lines.lists-part-is _ _ _) in
+    let p2 : List ℕ = countedLine valuesName (a .values) (a .words .now) in
+    let w = fill-as (fill-from (a .at) _ (a .out .now) (c .before .before .before .before .before .before .before .before .before .before .before .before .before .before .before .before .pre)) (p0 ++ (p1 ++ p2)) (lines.lists-part-is _ _ _ _) in
     let w1 = fill-more w p0 (p1 ++ p2) refl _ _ (c .before .before .before .before .before .before .before .before .before .put-list .ensures .0) (c .before .before .before .before .before .before .before .before .before .put-list .ensures .1) in
     fill-all (fill-more w1 p1 p2 refl _ _ (c .before .before .before .before .put-list2 .ensures .0) (c .before .before .before .before .put-list2 .ensures .1))
 
@@ -52,8 +52,8 @@ returns c =
     let a = c .before .before .before .before .before .before .before .before .before .before .before .before .before .before .before .before .before .before .before .args in
     let p0 : List ℕ = listLine idsName (a .ids .now) in
     let p1 : List ℕ = listLine offsetsName (a .offsets .now) in
-    let p2 : List ℕ = listLine valuesName (a .values .now) in
-    let w = fill-as (fill-from (a .at) _ (a .out .now) (c .before .before .before .before .before .before .before .before .before .before .before .before .before .before .before .before .before .before .before .pre)) (p0 ++ (p1 ++ p2)) (lines.lists-part-is _ _ _) in
+    let p2 : List ℕ = countedLine valuesName (a .values) (a .words .now) in
+    let w = fill-as (fill-from (a .at) _ (a .out .now) (c .before .before .before .before .before .before .before .before .before .before .before .before .before .before .before .before .before .before .before .pre)) (p0 ++ (p1 ++ p2)) (lines.lists-part-is _ _ _ _) in
     let w1 = fill-more w p0 (p1 ++ p2) refl _ _ (c .before .before .before .before .before .before .before .before .before .before .before .before .put-list .ensures .0) (c .before .before .before .before .before .before .before .before .before .before .before .before .put-list .ensures .1) in
     let w2 = fill-more w1 p1 p2 refl _ _ (c .before .before .before .before .before .before .before .put-list2 .ensures .0) (c .before .before .before .before .before .before .before .put-list2 .ensures .1) in
     fill-last w2 _ _ (c .before .before .put-word-list .ensures .0) (c .before .before .put-word-list .ensures .1)

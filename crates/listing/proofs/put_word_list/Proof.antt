@@ -2,8 +2,7 @@ use mathlib.Core.Path.{refl}
 use mathlib.Core.List.{List, [], _++_}
 use Prim.Native.Nat.{ℕ}
 use native.Mathlib.Omega.{arith}
-use lib.ListN.{length}
-use Rattle.definitions.specs.Listing.{decimal, newline, numbersText, listLine}
+use Rattle.definitions.specs.Listing.{decimal, newline, numbersText, countedLine}
 use Rattle.runs.proofs.Laws.{fill-from, fill-as, fill-room, fill-more, fill-last}
 use Rattle.listing.proofs.Lines as lines
 use borrow.Author.Needs.{needs}
@@ -15,8 +14,8 @@ put-bytes-requires c κs =
     let a = c .before .before .before .before .args in
     let name : List ℕ = a .name .now in
     let ns : List ℕ = a .ns .now in
-    let r1 : List ℕ = decimal (length ns) ++ (numbersText ns ++ newline) in
-    fill-room (fill-as (fill-from (a .at) (listLine name ns) (a .out .now) (c .before .before .before .before .pre)) (name ++ r1) (lines.list-is _ _)) name r1 refl
+    let r1 : List ℕ = decimal (a .n) ++ (numbersText ns ++ newline) in
+    fill-room (fill-as (fill-from (a .at) (countedLine name (a .n) ns) (a .out .now) (c .before .before .before .before .pre)) (name ++ r1) (lines.counted-is _ _ _)) name r1 refl
 
 put-number-requires : tie.Need-put-number-requires
 put-number-requires c κs =
@@ -24,9 +23,9 @@ put-number-requires c κs =
     let name : List ℕ = a .name .now in
     let ns : List ℕ = a .ns .now in
     let r2 : List ℕ = numbersText ns ++ newline in
-    let r1 : List ℕ = decimal (length ns) ++ r2 in
-    let w0 = fill-as (fill-from (a .at) (listLine name ns) (a .out .now) (c .before .before .before .before .before .before .before .before .pre)) (name ++ r1) (lines.list-is _ _) in
-    fill-room (fill-more w0 name r1 refl _ _ (c .before .before .before .put-bytes .ensures .0) (c .before .before .before .put-bytes .ensures .1)) (decimal (length ns)) r2 refl
+    let r1 : List ℕ = decimal (a .n) ++ r2 in
+    let w0 = fill-as (fill-from (a .at) (countedLine name (a .n) ns) (a .out .now) (c .before .before .before .before .before .before .before .before .pre)) (name ++ r1) (lines.counted-is _ _ _) in
+    fill-room (fill-more w0 name r1 refl _ _ (c .before .before .before .put-bytes .ensures .0) (c .before .before .before .put-bytes .ensures .1)) (decimal (a .n)) r2 refl
 
 put-words-requires : tie.Need-put-words-requires
 put-words-requires c κs =
@@ -34,10 +33,10 @@ put-words-requires c κs =
     let name : List ℕ = a .name .now in
     let ns : List ℕ = a .ns .now in
     let r2 : List ℕ = numbersText ns ++ newline in
-    let r1 : List ℕ = decimal (length ns) ++ r2 in
-    let w0 = fill-as (fill-from (a .at) (listLine name ns) (a .out .now) (c .before .before .before .before .before .before .before .before .before .before .before .before .pre)) (name ++ r1) (lines.list-is _ _) in
+    let r1 : List ℕ = decimal (a .n) ++ r2 in
+    let w0 = fill-as (fill-from (a .at) (countedLine name (a .n) ns) (a .out .now) (c .before .before .before .before .before .before .before .before .before .before .before .before .pre)) (name ++ r1) (lines.counted-is _ _ _) in
     let w1 = fill-more w0 name r1 refl _ _ (c .before .before .before .before .before .before .before .put-bytes .ensures .0) (c .before .before .before .before .before .before .before .put-bytes .ensures .1) in
-    let w2 = fill-more w1 (decimal (length ns)) r2 refl _ _ (c .before .before .before .put-number .ensures .0) (c .before .before .before .put-number .ensures .1) in
+    let w2 = fill-more w1 (decimal (a .n)) r2 refl _ _ (c .before .before .before .put-number .ensures .0) (c .before .before .before .put-number .ensures .1) in
     fill-room w2 (numbersText ns) newline refl
 
 put-byte-requires : tie.Need-put-byte-requires
@@ -46,10 +45,10 @@ put-byte-requires c κs =
     let name : List ℕ = a .name .now in
     let ns : List ℕ = a .ns .now in
     let r2 : List ℕ = numbersText ns ++ newline in
-    let r1 : List ℕ = decimal (length ns) ++ r2 in
-    let w0 = fill-as (fill-from (a .at) (listLine name ns) (a .out .now) (c .before .before .before .before .before .before .before .before .before .before .before .before .before .before .before .before .pre)) (name ++ r1) (lines.list-is _ _) in
+    let r1 : List ℕ = decimal (a .n) ++ r2 in
+    let w0 = fill-as (fill-from (a .at) (countedLine name (a .n) ns) (a .out .now) (c .before .before .before .before .before .before .before .before .before .before .before .before .before .before .before .before .pre)) (name ++ r1) (lines.counted-is _ _ _) in
     let w1 = fill-more w0 name r1 refl _ _ (c .before .before .before .before .before .before .before .before .before .before .before .put-bytes .ensures .0) (c .before .before .before .before .before .before .before .before .before .before .before .put-bytes .ensures .1) in
-    let w2 = fill-more w1 (decimal (length ns)) r2 refl _ _ (c .before .before .before .before .before .before .before .put-number .ensures .0) (c .before .before .before .before .before .before .before .put-number .ensures .1) in
+    let w2 = fill-more w1 (decimal (a .n)) r2 refl _ _ (c .before .before .before .before .before .before .before .put-number .ensures .0) (c .before .before .before .before .before .before .before .put-number .ensures .1) in
     let w3 = fill-more w2 (numbersText ns) newline refl _ _ (c .before .before .before .put-words .ensures .0) (c .before .before .before .put-words .ensures .1) in
     omega (arith, fill-room w3 newline [] refl)
 
@@ -62,10 +61,10 @@ returns c =
     let name : List ℕ = a .name .now in
     let ns : List ℕ = a .ns .now in
     let r2 : List ℕ = numbersText ns ++ newline in
-    let r1 : List ℕ = decimal (length ns) ++ r2 in
-    let w0 = fill-as (fill-from (a .at) (listLine name ns) (a .out .now) (c .before .before .before .before .before .before .before .before .before .before .before .before .before .before .before .before .before .before .before .pre)) (name ++ r1) (lines.list-is _ _) in
+    let r1 : List ℕ = decimal (a .n) ++ r2 in
+    let w0 = fill-as (fill-from (a .at) (countedLine name (a .n) ns) (a .out .now) (c .before .before .before .before .before .before .before .before .before .before .before .before .before .before .before .before .before .before .before .pre)) (name ++ r1) (lines.counted-is _ _ _) in
     let w1 = fill-more w0 name r1 refl _ _ (c .before .before .before .before .before .before .before .before .before .before .before .before .before .before .put-bytes .ensures .0) (c .before .before .before .before .before .before .before .before .before .before .before .before .before .before .put-bytes .ensures .1) in
-    let w2 = fill-more w1 (decimal (length ns)) r2 refl _ _ (c .before .before .before .before .before .before .before .before .before .before .put-number .ensures .0) (c .before .before .before .before .before .before .before .before .before .before .put-number .ensures .1) in
+    let w2 = fill-more w1 (decimal (a .n)) r2 refl _ _ (c .before .before .before .before .before .before .before .before .before .before .put-number .ensures .0) (c .before .before .before .before .before .before .before .before .before .before .put-number .ensures .1) in
     let w3 = fill-more w2 (numbersText ns) newline refl _ _ (c .before .before .before .before .before .before .put-words .ensures .0) (c .before .before .before .before .before .before .put-words .ensures .1) in
     fill-last w3 _ _ (c .before .before .put-byte .ensures .0) (c .before .before .put-byte .ensures .1)
 

@@ -4,7 +4,7 @@ use Rattle.segment.proofs.Lent.{few-records}
 use Rattle.merge_column.proofs.Laws.{left-clean}
 use Rattle.merge_column.proofs.Stand.{all-ready}
 use Rattle.merge_checked.proofs.Given.{checked}
-use Rattle.merge_checked.proofs.Planned.{front-in, front-long, prepared-of, types-lent, listed-low}
+use Rattle.merge_checked.proofs.Planned.{front-in, front-long, prepared-of, types-lent, listed-low, values-low}
 use Rattle.merge_checked.proofs.Ends.{refused-end, dictionary-given, rows-given, accepted-end}
 use borrow.Author.Needs.{needs}
 use Rattle.merge_checked.proofs.join_checked.Statement.{statement}
@@ -34,7 +34,7 @@ slice-aggregate-measure c = front-long _ (c .before .before .prepare .last .1 .1
 measure-requires : tie.Need-measure-requires
 measure-requires c κs =
     let q = prepared-of _ _ _ _ _ _ _ _ (few-records (checked (c .before .before .before .before .before .before .before .before .before .before .before .before .before .before .before .before .before .pre))) (c .before .before .prepare .kept .1 .1 .1 .1 .1 .0) (c .before .before .prepare .ensures .0) (c .before .before .prepare .ensures .1) in
-    (types-lent (c .before .before .before .before .before .before .before .before .before .before .before .before .before .before .before .before .before .pre) q, listed-low (c .before .before .before .before .before .before .before .before .before .before .before .before .before .before .before .before .before .pre) q)
+    (types-lent (c .before .before .before .before .before .before .before .before .before .before .before .before .before .before .before .before .before .pre) q, (listed-low (c .before .before .before .before .before .before .before .before .before .before .before .before .before .before .before .before .before .pre) q, values-low (c .before .before .before .before .before .before .before .before .before .before .before .before .before .before .before .before .before .pre) q))
 
 -- src/lib.rt:61:37
 enum-known-p : tie.Need-enum-known-p
@@ -72,7 +72,7 @@ fill-rows-requires : tie.Need-fill-rows-requires
 fill-rows-requires c κs =
     let q = prepared-of _ _ _ _ _ _ _ _ (few-records (checked (c .before .before .before .before .before .before .before .before .before .before .before .before .before .before .before .before .before .before .before .before .before .before .before .before .before .before .before .before .before .before .before .before .before .before .before .before .before .before .before .before .before .pre))) (c .before .before .before .before .before .before .before .before .before .before .before .before .before .before .before .before .before .before .before .before .before .before .before .before .before .before .prepare .kept .1 .1 .1 .1 .1 .0) (c .before .before .before .before .before .before .before .before .before .before .before .before .before .before .before .before .before .before .before .before .before .before .before .before .before .before .prepare .ensures .0) (c .before .before .before .before .before .before .before .before .before .before .before .before .before .before .before .before .before .before .before .before .before .before .before .before .before .before .prepare .ensures .1) in
     let a = c .before .before .before .before .before .before .before .before .before .before .before .before .before .before .before .before .before .before .before .before .before .before .before .before .before .before .before .before .before .before .before .before .before .before .before .before .before .before .before .before .before .args in
-    rows-given (c .before .before .before .before .before .before .before .before .before .before .before .before .before .before .before .before .before .before .before .before .before .before .before .before .before .before .before .before .before .before .before .before .before .before .before .before .before .before .before .before .before .pre) q (a .out-ids .now) (a .out-offsets .now) (a .out-values .now) (a .out-lengths .now) (a .out-bytes .now) (a .out-map .now) (c .before .before .before .before .before .before .before .before .before .before .before .before .before .before .before .before .before .before .before .before .before .p2 .given .1) (c .before .before .before .before .before .before .before .before .before .before .before .before .before .before .before .before .before .before .before .before .before .before .before .measure .ensures) (c .before .before .before .before .before .before .before .before .before .before .before .before .before .before .fill-dictionary .ensures .merged)
+    rows-given (c .before .before .before .before .before .before .before .before .before .before .before .before .before .before .before .before .before .before .before .before .before .before .before .before .before .before .before .before .before .before .before .before .before .before .before .before .before .before .before .before .before .pre) q (a .out-ids .now) (a .out-offsets .now) (a .out-values .now) (a .out-lengths .now) (a .out-bytes .now) (a .out-map .now) (c .before .before .before .before .before .before .before .before .before .before .before .before .before .before .before .before .before .before .before .before .before .p2 .given .1) (c .before .before .before .before .before .before .before .before .before .before .before .before .before .before .before .before .before .before .before .before .before .before .before .measure .ensures) (record { word = λ i. c .before .before .before .before .before .before .before .before .before .before .before .before .before .before .before .before .before .before .before .before .before .before .before .before .before .before .before .before .before .before .before .before .before .before .before .before .before .before .shared-slice-known3 .given i .fits }) (c .before .before .before .before .before .before .before .before .before .before .before .before .before .before .fill-dictionary .ensures .merged)
 
 -- src/lib.rt:26:1
 returns : tie.Need-returns
@@ -116,7 +116,7 @@ returns-2 c =
     let a = c .before .before .before .before .before .before .before .before .before .before .before .before .before .before .before .before .before .before .before .before .before .before .before .before .before .before .before .before .before .before .before .before .before .before .before .before .before .before .before .before .before .before .before .before .before .before .before .before .before .before .args in
     let d = c .before .before .before .before .before .before .before .before .before .before .before .before .before .before .before .before .before .before .before .before .before .before .before .fill-dictionary .ensures in
     let f = c .before .before .before .before .before .before .before .before .fill-rows .ensures in
-    accepted-end (c .before .before .before .before .before .before .before .before .before .before .before .before .before .before .before .before .before .before .before .before .before .before .before .before .before .before .before .before .before .before .before .before .before .before .before .before .before .before .before .before .before .before .before .before .before .before .before .before .before .before .pre) q (a .out-ids .now) (a .out-offsets .now) (a .out-values .now) (a .out-lengths .now) (a .out-bytes .now) (a .out-map .now) (c .before .before .before .before .before .before .before .before .before .before .before .before .before .before .before .before .before .before .before .before .before .before .before .before .before .before .before .before .before .before .p2 .given .1) (c .before .before .before .before .before .before .before .before .before .before .before .before .before .before .before .before .before .before .before .before .before .before .before .before .before .before .before .before .before .before .before .before .measure .ensures) (d .merged) _ _ _ _ (f .0) (f .1 .0) (f .1 .1 .0) (left-clean _ _ _ _ (c .before .before .before .before .before .before .before .before .before .before .before .before .before .before .before .before .before .before .before .before .before .before .before .before .before .before .before .before .before .before .before .before .before .before .before .before .before .before .before .before .before .before .before .before .before .before .before .before .before .before .pre .clean) (d .clean) (f .1 .1 .1))
+    accepted-end (c .before .before .before .before .before .before .before .before .before .before .before .before .before .before .before .before .before .before .before .before .before .before .before .before .before .before .before .before .before .before .before .before .before .before .before .before .before .before .before .before .before .before .before .before .before .before .before .before .before .before .pre) q (a .out-ids .now) (a .out-offsets .now) (a .out-values .now) (a .out-lengths .now) (a .out-bytes .now) (a .out-map .now) (c .before .before .before .before .before .before .before .before .before .before .before .before .before .before .before .before .before .before .before .before .before .before .before .before .before .before .before .before .before .before .p2 .given .1) (c .before .before .before .before .before .before .before .before .before .before .before .before .before .before .before .before .before .before .before .before .before .before .before .before .before .before .before .before .before .before .before .before .measure .ensures) (record { word = λ i. c .before .before .before .before .before .before .before .before .before .before .before .before .before .before .before .before .before .before .before .before .before .before .before .before .before .before .before .before .before .before .before .before .before .before .before .before .before .before .before .before .before .before .before .before .before .before .before .shared-slice-known3 .given i .fits }) (d .merged) _ _ _ _ (f .0) (f .1 .0) (f .1 .1 .0) (left-clean _ _ _ _ (c .before .before .before .before .before .before .before .before .before .before .before .before .before .before .before .before .before .before .before .before .before .before .before .before .before .before .before .before .before .before .before .before .before .before .before .before .before .before .before .before .before .before .before .before .before .before .before .before .before .before .pre .clean) (d .clean) (f .1 .1 .1))
 
 pub join-checked-spec : {M : Type 1} → statement M
 join-checked-spec =

@@ -1,31 +1,37 @@
+use native.Mathlib.Nat.{mul-le-mul}
+use native.Mathlib.Omega.{arith}
 use Rattle.merge_column.proofs.Laws.{plan-refused, plan-column}
 use borrow.Author.Needs.{needs}
 use Rattle.merge_column.proofs.shape_of.Statement.{statement}
 use Rattle.merge_column.proofs.shape_of.Tie as tie
 
--- src/lib.rt:116:9
 class-of-requires : tie.Need-class-of-requires
 class-of-requires c κs = search needs
 
--- src/lib.rt:121:14
 unless-requires : tie.Need-unless-requires
 unless-requires c κs = search needs
 
--- src/lib.rt:122:18
 offsets-of-requires : tie.Need-offsets-of-requires
 offsets-of-requires c κs = search needs
 
--- src/lib.rt:126:9
+words-per-value-requires : tie.Need-words-per-value-requires
+words-per-value-requires c κs = search needs
+
+mul-t11 : tie.Need-mul-t11
+mul-t11 c = let k = mul-le-mul (c .before .before .before .before .before .pre .1) (c .before .words-per-value .ensures .1) in record { fits = omega arith }
+
 has-room-requires : tie.Need-has-room-requires
 has-room-requires c κs = search needs
 
--- src/lib.rt:127:9
 returns : tie.Need-returns
-returns c = plan-refused (c .before .before .before .before .before .args .typ) (c .before .before .before .before .before .args .rows) (c .before .before .before .before .before .args .t) (c .before .before .before .before .before .args .space) (c .before .before .before .before .class-of .ensures) (c .before .before .before .unless .ensures) (c .before .before .offsets-of .ensures) (c .before .has-room .ensures) (c .if1 .taken)
+returns c =
+    let a = c .before .before .before .before .before .before .before .args in
+    plan-refused (a .typ) (a .rows) (a .t) (a .space) (c .before .before .before .before .before .before .class-of .ensures) (c .before .before .before .before .before .unless .ensures) (c .before .before .before .before .offsets-of .ensures) (c .before .before .before .words-per-value .ensures .0) (c .before .has-room .ensures) (c .if1 .taken)
 
--- src/lib.rt:112:1
 returns-2 : tie.Need-returns-2
-returns-2 c = plan-column (c .before .before .before .before .before .args .typ) (c .before .before .before .before .before .args .rows) (c .before .before .before .before .before .args .t) (c .before .before .before .before .before .args .space) (c .before .before .before .before .class-of .ensures) (c .before .before .before .unless .ensures) (c .before .before .offsets-of .ensures) (c .before .has-room .ensures) (c .if1 .left)
+returns-2 c =
+    let a = c .before .before .before .before .before .before .before .args in
+    plan-column (a .typ) (a .rows) (a .t) (a .space) (c .before .before .before .before .before .before .class-of .ensures) (c .before .before .before .before .before .unless .ensures) (c .before .before .before .before .offsets-of .ensures) (c .before .before .before .words-per-value .ensures .0) (c .before .has-room .ensures) (c .if1 .left)
 
 pub shape-of-spec : {M : Type 1} → statement M
 shape-of-spec =
@@ -34,6 +40,8 @@ shape-of-spec =
     class-of-requires
     unless-requires
     offsets-of-requires
+    words-per-value-requires
+    mul-t11
     has-room-requires
     returns
     returns-2)

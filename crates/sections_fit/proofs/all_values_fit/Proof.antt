@@ -9,7 +9,7 @@ use Rattle.segment.proofs.Walk.{total-step}
 use Rattle.sections_fit.proofs.Walks.{values-step, values-end}
 use Rattle.sections_fit.specs.Walks.{valuesFrom}
 use Rattle.segment.specs.Records.{recordsOf}
-use Rattle.definitions.specs.Segment.{SegmentRecord}
+use Rattle.definitions.specs.Segment.{SegmentRecord, recordWords}
 use Rattle.definitions.specs.Answer.{total}
 use Rattle.definitions.specs.Lists.{sum}
 use lib.Seq.{drop-drop}
@@ -23,7 +23,7 @@ terms-rest : (t n : ℕ) (xs : List ℕ) → drop (t + n - t) (drop t xs) ≡ dr
 terms-rest t n xs = drop-drop (t + n - t) t xs ∙ ap (λ (k : ℕ). drop k xs) (let z : t + (t + n - t) ≡ t + n = omega arith in z)
 
 abbrev Inv-loop : tie.InvT-loop
-Inv-loop records values lengths bytes s₀ v₀ t₀ b₀ s v t b = (s ≤ length records) × (v + total (λ (r : SegmentRecord). r .values) (recordsOf (drop s records)) ≤ length values) × (t + total (λ (r : SegmentRecord). r .terms) (recordsOf (drop s records)) ≤ length lengths) × (b + sum (drop t lengths) ≤ length bytes) × (valuesFrom (recordsOf (drop s records)) (drop v values) (drop t lengths) (drop b bytes) ≡ valuesFrom (recordsOf records) values lengths bytes)
+Inv-loop records values lengths bytes s₀ v₀ t₀ b₀ s v t b = (s ≤ length records) × (v + total recordWords (recordsOf (drop s records)) ≤ length values) × (t + total (λ (r : SegmentRecord). r .terms) (recordsOf (drop s records)) ≤ length lengths) × (b + sum (drop t lengths) ≤ length bytes) × (valuesFrom (recordsOf (drop s records)) (drop v values) (drop t lengths) (drop b bytes) ≡ valuesFrom (recordsOf records) values lengths bytes)
 
 abbrev μ-loop : tie.MeasureT-loop
 μ-loop records values lengths bytes s₀ v₀ t₀ b₀ s v t b = length records - s
@@ -31,26 +31,26 @@ abbrev μ-loop : tie.MeasureT-loop
 loop-holds : tie.Need-loop-holds Inv-loop μ-loop
 loop-holds c =
     let pre = c .before .before .before .pre in
-    (zero-le, omega (arith, pre .values), omega (arith, pre .terms), omega (arith, pre .bytes), refl)
+    (zero-le, omega (arith, pre .words), omega (arith, pre .terms), omega (arith, pre .bytes), refl)
 
 record-at-requires : tie.Need-record-at-requires Inv-loop μ-loop
 record-at-requires c κs = search needs
 
-wide-requires : tie.Need-wide-requires Inv-loop μ-loop
-wide-requires c κs = search needs
+value-words-requires : tie.Need-value-words-requires Inv-loop μ-loop
+value-words-requires c κs = search needs
 
 add-v-end : tie.Need-add-v-end Inv-loop μ-loop
 add-v-end c =
     let l = c .before .before .before .loop in
-    omega (arith, c .wide .ensures .0, total-step (c .before .before .before .before .before .before .before .args .records .now) (l .s) (c .before .before .loop-test .taken) (c .before .record-at .ensures) (λ (r : SegmentRecord). r .values), l .inv .1, c .before .before .before .before .before .before .before .good .1 .0 .0)
+    omega (arith, c .value-words .ensures .0, total-step (c .before .before .before .before .before .before .before .args .records .now) (l .s) (c .before .before .loop-test .taken) (c .before .record-at .ensures) recordWords, l .inv .1, c .before .before .before .before .before .before .before .good .1 .0 .0)
 
-wide-requires-2 : tie.Need-wide-requires-2 Inv-loop μ-loop
-wide-requires-2 c κs = search needs
+wide-requires : tie.Need-wide-requires Inv-loop μ-loop
+wide-requires c κs = search needs
 
 add-t-end : tie.Need-add-t-end Inv-loop μ-loop
 add-t-end c =
     let l = c .before .before .before .before .loop in
-    omega (arith, c .wide2 .ensures .0, total-step (c .before .before .before .before .before .before .before .before .args .records .now) (l .s) (c .before .before .before .loop-test .taken) (c .before .before .record-at .ensures) (λ (r : SegmentRecord). r .terms), l .inv .2, c .before .before .before .before .before .before .before .before .good .1 .1 .0 .0)
+    omega (arith, c .wide .ensures .0, total-step (c .before .before .before .before .before .before .before .before .args .records .now) (l .s) (c .before .before .before .loop-test .taken) (c .before .before .record-at .ensures) (λ (r : SegmentRecord). r .terms), l .inv .2, c .before .before .before .before .before .before .before .before .good .1 .1 .0 .0)
 
 mul-values-fit : tie.Need-mul-values-fit Inv-loop μ-loop
 mul-values-fit c = search needs
@@ -64,7 +64,7 @@ part-values-fit-start c = search needs
 part-values-fit-end : tie.Need-part-values-fit-end Inv-loop μ-loop
 part-values-fit-end c =
     let l = c .before .before .before .before .loop in
-    omega (arith, c .before .wide .ensures .0, total-step (c .before .before .before .before .before .before .before .before .args .records .now) (l .s) (c .before .before .before .loop-test .taken) (c .before .before .record-at .ensures) (λ (r : SegmentRecord). r .values), l .inv .1)
+    omega (arith, c .before .value-words .ensures .0, total-step (c .before .before .before .before .before .before .before .before .args .records .now) (l .s) (c .before .before .before .loop-test .taken) (c .before .before .record-at .ensures) recordWords, l .inv .1)
 
 mul-values-fit-2 : tie.Need-mul-values-fit-2 Inv-loop μ-loop
 mul-values-fit-2 c = search needs
@@ -78,7 +78,7 @@ part-values-fit-start-2 c = search needs
 part-values-fit-end-2 : tie.Need-part-values-fit-end-2 Inv-loop μ-loop
 part-values-fit-end-2 c =
     let l = c .before .before .before .before .before .loop in
-    omega (arith, c .before .wide2 .ensures .0, total-step (c .before .before .before .before .before .before .before .before .before .args .records .now) (l .s) (c .before .before .before .before .loop-test .taken) (c .before .before .before .record-at .ensures) (λ (r : SegmentRecord). r .terms), l .inv .2)
+    omega (arith, c .before .wide .ensures .0, total-step (c .before .before .before .before .before .before .before .before .before .args .records .now) (l .s) (c .before .before .before .before .loop-test .taken) (c .before .before .before .record-at .ensures) (λ (r : SegmentRecord). r .terms), l .inv .2)
 
 sub-values-fit-3 : tie.Need-sub-values-fit-3 Inv-loop μ-loop
 sub-values-fit-3 c = search needs
@@ -93,15 +93,15 @@ values-fit-requires : tie.Need-values-fit-requires Inv-loop μ-loop
 values-fit-requires c κs =
     let a = c .before .before .before .before .before .before .before .before .before .before .before .args in
     let l = c .before .before .before .before .before .before .before .loop in
-    rw (part-rest (l .b) (a .bytes .now), length-drop (l .b) (a .bytes .now)) (omega (arith, sum-split (l .t + c .before .before .before .wide2 .result - l .t) (drop (l .t) (a .lengths .now)), l .inv .3))
+    rw (part-rest (l .b) (a .bytes .now), length-drop (l .b) (a .bytes .now)) (omega (arith, sum-split (l .t + c .before .before .before .wide .result - l .t) (drop (l .t) (a .lengths .now)), l .inv .3))
 
 returns : tie.Need-returns Inv-loop μ-loop
 returns c =
     let the-args = c .before .before .before .before .before .before .before .before .before .before .before .before .before .args in
     let the-loop = c .before .before .before .before .before .before .before .before .before .loop in
-    let the-wide = c .before .before .before .before .before .before .wide in
-    let the-wide2 = c .before .before .before .before .before .wide2 in
-    fell _ (c .before .values-fit .ensures) (values-step (the-args .records .now) (the-loop .s) (c .before .before .before .before .before .before .before .before .loop-test .taken) (c .before .before .before .before .before .before .before .record-at .ensures) (the-args .values .now) (the-args .lengths .now) (the-args .bytes .now) (the-loop .v) (the-loop .v + the-wide .result) (the-loop .t) (the-loop .t + the-wide2 .result) (the-loop .b) (sum (take (the-loop .t + the-wide2 .result - the-loop .t) (drop (the-loop .t) (the-args .lengths .now)))) (ap (λ (n : ℕ). the-loop .v + n) (the-wide .ensures .0)) (ap (λ (n : ℕ). the-loop .t + n) (the-wide2 .ensures .0)) (refl)) (not-true _ (c .if1 .taken)) ∙ the-loop .inv .4
+    let the-value-words = c .before .before .before .before .before .before .value-words in
+    let the-wide = c .before .before .before .before .before .wide in
+    fell _ (c .before .values-fit .ensures) (values-step (the-args .records .now) (the-loop .s) (c .before .before .before .before .before .before .before .before .loop-test .taken) (c .before .before .before .before .before .before .before .record-at .ensures) (the-args .values .now) (the-args .lengths .now) (the-args .bytes .now) (the-loop .v) (the-loop .v + the-value-words .result) (the-loop .t) (the-loop .t + the-wide .result) (the-loop .b) (sum (take (the-loop .t + the-wide .result - the-loop .t) (drop (the-loop .t) (the-args .lengths .now)))) (ap (λ (n : ℕ). the-loop .v + n) (the-value-words .ensures .0)) (ap (λ (n : ℕ). the-loop .t + n) (the-wide .ensures .0)) (refl)) (not-true _ (c .if1 .taken)) ∙ the-loop .inv .4
 
 mul-sum-of : tie.Need-mul-sum-of Inv-loop μ-loop
 mul-sum-of c = search needs
@@ -115,17 +115,17 @@ part-sum-of-start c = search needs
 part-sum-of-end : tie.Need-part-sum-of-end Inv-loop μ-loop
 part-sum-of-end c =
     let l = c .before .before .before .before .before .before .before .before .before .loop in
-    omega (arith, c .before .before .before .before .before .wide2 .ensures .0, total-step (c .before .before .before .before .before .before .before .before .before .before .before .before .before .args .records .now) (l .s) (c .before .before .before .before .before .before .before .before .loop-test .taken) (c .before .before .before .before .before .before .before .record-at .ensures) (λ (r : SegmentRecord). r .terms), l .inv .2)
+    omega (arith, c .before .before .before .before .before .wide .ensures .0, total-step (c .before .before .before .before .before .before .before .before .before .before .before .before .before .args .records .now) (l .s) (c .before .before .before .before .before .before .before .before .loop-test .taken) (c .before .before .before .before .before .before .before .record-at .ensures) (λ (r : SegmentRecord). r .terms), l .inv .2)
 
 sum-of-requires : tie.Need-sum-of-requires Inv-loop μ-loop
 sum-of-requires c κs =
     let l = c .before .before .before .before .before .before .before .before .before .before .loop in
-    omega (arith, sum-split (l .t + c .before .before .before .before .before .before .wide2 .result - l .t) (drop (l .t) (c .before .before .before .before .before .before .before .before .before .before .before .before .before .before .args .lengths .now)), l .inv .3, c .before .before .before .before .before .before .before .before .before .before .before .before .before .before .good .1 .1 .1 .0 .0)
+    omega (arith, sum-split (l .t + c .before .before .before .before .before .before .wide .result - l .t) (drop (l .t) (c .before .before .before .before .before .before .before .before .before .before .before .before .before .before .args .lengths .now)), l .inv .3, c .before .before .before .before .before .before .before .before .before .before .before .before .before .before .good .1 .1 .1 .0 .0)
 
 add-b : tie.Need-add-b Inv-loop μ-loop
 add-b c =
     let l = c .before .before .before .before .before .before .before .before .before .before .before .loop in
-    omega (arith, c .sum-of .ensures, sum-split (l .t + c .before .before .before .before .before .before .before .wide2 .result - l .t) (drop (l .t) (c .before .before .before .before .before .before .before .before .before .before .before .before .before .before .before .args .lengths .now)), l .inv .3, c .before .before .before .before .before .before .before .before .before .before .before .before .before .before .before .good .1 .1 .1 .0 .0)
+    omega (arith, c .sum-of .ensures, sum-split (l .t + c .before .before .before .before .before .before .before .wide .result - l .t) (drop (l .t) (c .before .before .before .before .before .before .before .before .before .before .before .before .before .before .before .args .lengths .now)), l .inv .3, c .before .before .before .before .before .before .before .before .before .before .before .before .before .before .before .good .1 .1 .1 .0 .0)
 
 add-s : tie.Need-add-s Inv-loop μ-loop
 add-s c = search needs
@@ -139,9 +139,9 @@ loop-again c =
     let l = c .before .before .before .before .before .before .before .before .before .before .before .loop in
     let t = c .before .before .before .before .before .before .before .before .before .before .loop-test in
     let the-record-at = c .before .before .before .before .before .before .before .before .before .record-at in
-    let the-wide = c .before .before .before .before .before .before .before .before .wide in
-    let the-wide2 = c .before .before .before .before .before .before .before .wide2 in
-    (omega arith, omega (arith, the-wide .ensures .0, total-step (a .records .now) (l .s) (t .taken) (the-record-at .ensures) (λ (r : SegmentRecord). r .values), l .inv .1), omega (arith, the-wide2 .ensures .0, total-step (a .records .now) (l .s) (t .taken) (the-record-at .ensures) (λ (r : SegmentRecord). r .terms), l .inv .2), omega (arith, c .sum-of .ensures, sum-split (l .t + the-wide2 .result - l .t) (drop (l .t) (a .lengths .now)), ap sum (terms-rest (l .t) (the-wide2 .result) (a .lengths .now)), l .inv .3), went _ (c .before .before .before .values-fit .ensures) (values-step (a .records .now) (l .s) (t .taken) (the-record-at .ensures) (a .values .now) (a .lengths .now) (a .bytes .now) (l .v) (l .v + the-wide .result) (l .t) (l .t + the-wide2 .result) (l .b) (c .sum-of .result) (ap (λ (n : ℕ). l .v + n) (the-wide .ensures .0)) (ap (λ (n : ℕ). l .t + n) (the-wide2 .ensures .0)) (c .sum-of .ensures)) (not-false _ (c .before .before .if1 .left)) ∙ l .inv .4)
+    let the-value-words = c .before .before .before .before .before .before .before .before .value-words in
+    let the-wide = c .before .before .before .before .before .before .before .wide in
+    (omega arith, omega (arith, the-value-words .ensures .0, total-step (a .records .now) (l .s) (t .taken) (the-record-at .ensures) recordWords, l .inv .1), omega (arith, the-wide .ensures .0, total-step (a .records .now) (l .s) (t .taken) (the-record-at .ensures) (λ (r : SegmentRecord). r .terms), l .inv .2), omega (arith, c .sum-of .ensures, sum-split (l .t + the-wide .result - l .t) (drop (l .t) (a .lengths .now)), ap sum (terms-rest (l .t) (the-wide .result) (a .lengths .now)), l .inv .3), went _ (c .before .before .before .values-fit .ensures) (values-step (a .records .now) (l .s) (t .taken) (the-record-at .ensures) (a .values .now) (a .lengths .now) (a .bytes .now) (l .v) (l .v + the-value-words .result) (l .t) (l .t + the-wide .result) (l .b) (c .sum-of .result) (ap (λ (n : ℕ). l .v + n) (the-value-words .ensures .0)) (ap (λ (n : ℕ). l .t + n) (the-wide .ensures .0)) (c .sum-of .ensures)) (not-false _ (c .before .before .if1 .left)) ∙ l .inv .4)
 
 returns-2 : tie.Need-returns-2 Inv-loop μ-loop
 returns-2 c = values-end (c .before .before .before .before .before .args .records .now) (c .before .loop .s) (c .loop-test .left) _ _ _ ∙ c .before .loop .inv .4
@@ -154,9 +154,9 @@ all-values-fit-spec =
     μ-loop
     loop-holds
     record-at-requires
-    wide-requires
+    value-words-requires
     add-v-end
-    wide-requires-2
+    wide-requires
     add-t-end
     mul-values-fit
     sub-values-fit

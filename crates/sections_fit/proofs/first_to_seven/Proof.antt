@@ -25,8 +25,8 @@ few : (records : List (List ℕ)) → length records ≤ 256 → tooManySegments
 unfolding tooManySegments
 few records h = le-ltb 256 (length (recordsOf records)) (rw (length-map records recordFrom) h)
 
-rows-of : {a b : ℕ} (v w : ℕ) → a ≡ b → sumsRight b v w ≡ sumsRight a v w
-rows-of v w e = rw e
+sums-of : {t u : Totals} (w : ℕ) → t ≡ u → sumsRight (u .rows) (u .values) w ≡ sumsRight (t .rows) (t .values) w
+sums-of w e = ap (λ (t : Totals). sumsRight (t .rows) (t .values) w) (sym e)
 
 returns : tie.Need-returns
 returns c = taken _ _ (many (c .before .before .before .before .before .before .before .args .records .now) (c .if1 .taken))
@@ -93,7 +93,7 @@ all-values-fit-requires c κs =
     let the-lengths-fit = c .before .before .before .before .before .before .before .lengths-fit in
     let the-if2 = c .before .before .before .before .before .before .if2 in
     let x = exact _ _ (sym (the-lengths-fit .ensures) ∙ not-false _ (the-if2 .left)) in
-    record { values = le-of-eq (x .values); terms = le-of-eq (x .terms); bytes = le-of-eq (x .bytes) }
+    record { words = le-of-eq (x .words); terms = le-of-eq (x .terms); bytes = le-of-eq (x .bytes) }
 
 returns-6 : tie.Need-returns-6
 returns-6 c =
@@ -147,7 +147,7 @@ returns-8 c =
     let four = lists-wrong _ _ x old ∙ ap not (sym (c .before .before .before .before .before .before .before .before .all-lists-fit .ensures)) ∙ c .before .before .before .before .before .before .before .if5 .left in
     let five = values-wrong _ _ x ∙ ap not (sym (c .before .before .before .before .before .before .all-values-fit .ensures)) ∙ c .before .before .before .before .before .if6 .left in
     let six = input-alive i ∙ ap not (sym (c .before .before .before .before .all-alive-fit .ensures)) ∙ c .before .before .before .if7 .left in
-    other _ one (other _ two (other _ three (other _ old (other _ four (other _ five (other _ six (taken _ _ (sums-large _ _ x ∙ ap not (rows-of _ _ (ap (λ (x : Totals). x .rows) (c .before .before .totals-of .ensures)) ∙ sym (c .before .sums-fit .ensures)) ∙ c .if8 .taken))))))))
+    other _ one (other _ two (other _ three (other _ old (other _ four (other _ five (other _ six (taken _ _ (sums-large _ _ x ∙ ap not (sums-of _ (c .before .before .totals-of .ensures) ∙ sym (c .before .sums-fit .ensures)) ∙ c .if8 .taken))))))))
 
 returns-9 : tie.Need-returns-9
 returns-9 c =
@@ -163,7 +163,7 @@ returns-9 c =
     let four = lists-wrong _ _ x old ∙ ap not (sym (c .before .before .before .before .before .before .before .before .all-lists-fit .ensures)) ∙ c .before .before .before .before .before .before .before .if5 .left in
     let five = values-wrong _ _ x ∙ ap not (sym (c .before .before .before .before .before .before .all-values-fit .ensures)) ∙ c .before .before .before .before .before .if6 .left in
     let six = input-alive i ∙ ap not (sym (c .before .before .before .before .all-alive-fit .ensures)) ∙ c .before .before .before .if7 .left in
-    let seven = sums-large _ _ x ∙ ap not (rows-of _ _ (ap (λ (x : Totals). x .rows) (c .before .before .totals-of .ensures)) ∙ sym (c .before .sums-fit .ensures)) ∙ c .if8 .left in
+    let seven = sums-large _ _ x ∙ ap not (sums-of _ (c .before .before .totals-of .ensures) ∙ sym (c .before .sums-fit .ensures)) ∙ c .if8 .left in
     other _ one (other _ two (other _ three (other _ old (other _ four (other _ five (other _ six (other _ seven refl)))))))
 
 pub first-to-seven-spec : {M : Type 1} → statement M

@@ -29,13 +29,13 @@ returns-3 : tie.Need-returns-3
 unfolding lengthsRight
 returns-3 c =
     let the-totals-of = c .before .before .before .before .before .before .totals-of in
-    past (eqb-of _ (ap (λ (x : Totals). x .ids) (the-totals-of .ensures)) ∙ eq-eqb _ _ (c .before .before .before .before .if1 .left)) (past (eqb-of _ (ap (λ (x : Totals). x .offsets) (the-totals-of .ensures)) ∙ eq-eqb _ _ (c .before .before .if2 .left)) (stop _ (eqb-of _ (ap (λ (x : Totals). x .values) (the-totals-of .ensures)) ∙ ne-eqb _ _ (c .if3 .taken))))
+    past (eqb-of _ (ap (λ (x : Totals). x .ids) (the-totals-of .ensures)) ∙ eq-eqb _ _ (c .before .before .before .before .if1 .left)) (past (eqb-of _ (ap (λ (x : Totals). x .offsets) (the-totals-of .ensures)) ∙ eq-eqb _ _ (c .before .before .if2 .left)) (stop _ (eqb-of _ (ap (λ (x : Totals). x .words) (the-totals-of .ensures)) ∙ ne-eqb _ _ (c .if3 .taken))))
 
 returns-4 : tie.Need-returns-4
 unfolding lengthsRight
 returns-4 c =
     let the-totals-of = c .before .before .before .before .before .before .before .before .totals-of in
-    past (eqb-of _ (ap (λ (x : Totals). x .ids) (the-totals-of .ensures)) ∙ eq-eqb _ _ (c .before .before .before .before .before .before .if1 .left)) (past (eqb-of _ (ap (λ (x : Totals). x .offsets) (the-totals-of .ensures)) ∙ eq-eqb _ _ (c .before .before .before .before .if2 .left)) (past (eqb-of _ (ap (λ (x : Totals). x .values) (the-totals-of .ensures)) ∙ eq-eqb _ _ (c .before .before .if3 .left)) (stop _ (eqb-of _ (ap (λ (x : Totals). x .terms) (the-totals-of .ensures)) ∙ ne-eqb _ _ (c .if4 .taken)))))
+    past (eqb-of _ (ap (λ (x : Totals). x .ids) (the-totals-of .ensures)) ∙ eq-eqb _ _ (c .before .before .before .before .before .before .if1 .left)) (past (eqb-of _ (ap (λ (x : Totals). x .offsets) (the-totals-of .ensures)) ∙ eq-eqb _ _ (c .before .before .before .before .if2 .left)) (past (eqb-of _ (ap (λ (x : Totals). x .words) (the-totals-of .ensures)) ∙ eq-eqb _ _ (c .before .before .if3 .left)) (stop _ (eqb-of _ (ap (λ (x : Totals). x .terms) (the-totals-of .ensures)) ∙ ne-eqb _ _ (c .if4 .taken)))))
 
 adds-up-requires : tie.Need-adds-up-requires
 adds-up-requires c κs = search needs
@@ -44,13 +44,13 @@ returns-5 : tie.Need-returns-5
 unfolding lengthsRight
 returns-5 c =
     let the-totals-of = c .before .before .before .before .before .before .before .before .before .before .totals-of in
-    past (eqb-of _ (ap (λ (x : Totals). x .ids) (the-totals-of .ensures)) ∙ eq-eqb _ _ (c .before .before .before .before .before .before .before .before .if1 .left)) (past (eqb-of _ (ap (λ (x : Totals). x .offsets) (the-totals-of .ensures)) ∙ eq-eqb _ _ (c .before .before .before .before .before .before .if2 .left)) (past (eqb-of _ (ap (λ (x : Totals). x .values) (the-totals-of .ensures)) ∙ eq-eqb _ _ (c .before .before .before .before .if3 .left)) (past (eqb-of _ (ap (λ (x : Totals). x .terms) (the-totals-of .ensures)) ∙ eq-eqb _ _ (c .before .before .if4 .left)) (stop _ (sym (c .before .adds-up .ensures) ∙ not-true _ (c .if5 .taken))))))
+    past (eqb-of _ (ap (λ (x : Totals). x .ids) (the-totals-of .ensures)) ∙ eq-eqb _ _ (c .before .before .before .before .before .before .before .before .if1 .left)) (past (eqb-of _ (ap (λ (x : Totals). x .offsets) (the-totals-of .ensures)) ∙ eq-eqb _ _ (c .before .before .before .before .before .before .if2 .left)) (past (eqb-of _ (ap (λ (x : Totals). x .words) (the-totals-of .ensures)) ∙ eq-eqb _ _ (c .before .before .before .before .if3 .left)) (past (eqb-of _ (ap (λ (x : Totals). x .terms) (the-totals-of .ensures)) ∙ eq-eqb _ _ (c .before .before .if4 .left)) (stop _ (sym (c .before .adds-up .ensures) ∙ not-true _ (c .if5 .taken))))))
 
 returns-6 : tie.Need-returns-6
 unfolding lengthsRight
 returns-6 c =
     let the-totals-of = c .before .before .before .before .before .before .before .before .before .before .before .totals-of in
-    past (eqb-of _ (ap (λ (x : Totals). x .ids) (the-totals-of .ensures)) ∙ eq-eqb _ _ (c .before .before .before .before .before .before .before .before .before .if1 .left)) (past (eqb-of _ (ap (λ (x : Totals). x .offsets) (the-totals-of .ensures)) ∙ eq-eqb _ _ (c .before .before .before .before .before .before .before .if2 .left)) (past (eqb-of _ (ap (λ (x : Totals). x .values) (the-totals-of .ensures)) ∙ eq-eqb _ _ (c .before .before .before .before .before .if3 .left)) (past (eqb-of _ (ap (λ (x : Totals). x .terms) (the-totals-of .ensures)) ∙ eq-eqb _ _ (c .before .before .before .if4 .left)) (past (sym (c .before .before .adds-up .ensures) ∙ not-false _ (c .before .if5 .left)) (sym (eqb-of _ (ap (λ (x : Totals). x .alive) (the-totals-of .ensures))))))))
+    past (eqb-of _ (ap (λ (x : Totals). x .ids) (the-totals-of .ensures)) ∙ eq-eqb _ _ (c .before .before .before .before .before .before .before .before .before .if1 .left)) (past (eqb-of _ (ap (λ (x : Totals). x .offsets) (the-totals-of .ensures)) ∙ eq-eqb _ _ (c .before .before .before .before .before .before .before .if2 .left)) (past (eqb-of _ (ap (λ (x : Totals). x .words) (the-totals-of .ensures)) ∙ eq-eqb _ _ (c .before .before .before .before .before .if3 .left)) (past (eqb-of _ (ap (λ (x : Totals). x .terms) (the-totals-of .ensures)) ∙ eq-eqb _ _ (c .before .before .before .if4 .left)) (past (sym (c .before .before .adds-up .ensures) ∙ not-false _ (c .before .if5 .left)) (sym (eqb-of _ (ap (λ (x : Totals). x .alive) (the-totals-of .ensures))))))))
 
 pub lengths-fit-spec : {M : Type 1} → statement M
 lengths-fit-spec =

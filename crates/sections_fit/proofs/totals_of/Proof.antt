@@ -11,16 +11,16 @@ use Rattle.sections_fit.proofs.totals_of.Statement.{statement}
 use Rattle.sections_fit.proofs.totals_of.Tie as tie
 
 wider : {t : Totals} {m n : ℕ} → Below t m → m ≤ n → Below t n
-wider b h = record { rows = omega (arith, b .rows); ids = omega (arith, b .ids); offsets = omega (arith, b .offsets); values = omega (arith, b .values); terms = omega (arith, b .terms); alive = omega (arith, b .alive) }
+wider b h = record { rows = omega (arith, b .rows); ids = omega (arith, b .ids); offsets = omega (arith, b .offsets); values = omega (arith, b .values); words = omega (arith, b .words); terms = omega (arith, b .terms); alive = omega (arith, b .alive) }
 
 abbrev Inv-loop : tie.InvT-loop
-Inv-loop records t₀ i₀ t i = (i ≤ length records) × (totalsFrom t (recordsOf (drop i records)) ≡ totalsFrom noTotals (recordsOf records)) × Below t (i * 4294967296)
+Inv-loop records t₀ i₀ t i = (i ≤ length records) × (totalsFrom t (recordsOf (drop i records)) ≡ totalsFrom noTotals (recordsOf records)) × Below t (i * 8589934592)
 
 abbrev μ-loop : tie.MeasureT-loop
 μ-loop records t₀ i₀ t i = length records - i
 
 loop-holds : tie.Need-loop-holds Inv-loop μ-loop
-loop-holds c = (zero-le, refl, record { rows = zero-le; ids = zero-le; offsets = zero-le; values = zero-le; terms = zero-le; alive = zero-le })
+loop-holds c = (zero-le, refl, record { rows = zero-le; ids = zero-le; offsets = zero-le; values = zero-le; words = zero-le; terms = zero-le; alive = zero-le })
 
 record-at-requires : tie.Need-record-at-requires Inv-loop μ-loop
 record-at-requires c κs = search needs
@@ -38,7 +38,7 @@ loop-again : tie.Need-loop-again Inv-loop μ-loop
 loop-again c =
     let a = c .before .before .before .before .args in
     let l = c .before .before .before .loop in
-    (omega arith, ap (λ (t : Totals). totalsFrom t (recordsOf (drop (l .i + 1) (a .records .now)))) (c .plus .ensures .0) ∙ totals-step (a .records .now) (l .i) (c .before .before .loop-test .taken) (c .before .record-at .ensures) (l .t) ∙ l .inv .1, wider (c .plus .ensures .1 (l .i * 4294967296) (l .inv .2)) (omega arith))
+    (omega arith, ap (λ (t : Totals). totalsFrom t (recordsOf (drop (l .i + 1) (a .records .now)))) (c .plus .ensures .0) ∙ totals-step (a .records .now) (l .i) (c .before .before .loop-test .taken) (c .before .record-at .ensures) (l .t) ∙ l .inv .1, wider (c .plus .ensures .1 (l .i * 8589934592) (l .inv .2)) (omega arith))
 
 returns : tie.Need-returns Inv-loop μ-loop
 returns c = totals-end (c .before .before .args .records .now) (c .before .loop .i) (c .loop-test .left) (c .before .loop .t) ∙ c .before .loop .inv .1 ∙ totals-all _

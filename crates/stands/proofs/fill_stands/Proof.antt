@@ -13,7 +13,7 @@ use Rattle.stands.proofs.fill_stands.Statement.{statement}
 use Rattle.stands.proofs.fill_stands.Tie as tie
 
 abbrev Inv-loop : tie.InvT-loop
-Inv-loop records stands₀ p₀ s₀ stands p s = (s ≤ length records) × Ends records s p × Low p (s * 4294967296) × (stands ≡ putting 0 (table (λ k. numbersOf (standIn records k)) (length records)) stands₀ s) × (length stands ≡ length stands₀)
+Inv-loop records stands₀ p₀ s₀ stands p s = (s ≤ length records) × Ends records s p × Low p (s * 8589934592) × (stands ≡ putting 0 (table (λ k. numbersOf (standIn records k)) (length records)) stands₀ s) × (length stands ≡ length stands₀)
 
 abbrev μ-loop : tie.MeasureT-loop
 μ-loop records stands₀ p₀ s₀ stands p s = length records - s

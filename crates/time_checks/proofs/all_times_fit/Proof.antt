@@ -8,20 +8,20 @@ use Rattle.segment.proofs.Walk.{total-step}
 use Rattle.time_checks.proofs.Laws.{times-step, times-end}
 use Rattle.time_checks.specs.Times.{timesFrom}
 use Rattle.segment.specs.Records.{recordsOf}
-use Rattle.definitions.specs.Segment.{SegmentRecord}
+use Rattle.definitions.specs.Segment.{SegmentRecord, recordWords}
 use Rattle.definitions.specs.Answer.{total}
 use Rattle.time_checks.proofs.all_times_fit.Statement.{statement}
 use Rattle.time_checks.proofs.all_times_fit.Tie as tie
 use Rattle.lists.proofs.Tests.{fell, went}
 
 abbrev Inv-loop : tie.InvT-loop
-Inv-loop records offsets values s₀ o₀ v₀ s o v = (s ≤ length records) × (o + total (λ (r : SegmentRecord). r .offsets) (recordsOf (drop s records)) ≤ length offsets) × (v + total (λ (r : SegmentRecord). r .values) (recordsOf (drop s records)) ≤ length values) × (timesFrom (recordsOf (drop s records)) (drop o offsets) (drop v values) ≡ timesFrom (recordsOf records) offsets values)
+Inv-loop records offsets values s₀ o₀ v₀ s o v = (s ≤ length records) × (o + total (λ (r : SegmentRecord). r .offsets) (recordsOf (drop s records)) ≤ length offsets) × (v + total recordWords (recordsOf (drop s records)) ≤ length values) × (timesFrom (recordsOf (drop s records)) (drop o offsets) (drop v values) ≡ timesFrom (recordsOf records) offsets values)
 
 abbrev μ-loop : tie.MeasureT-loop
 μ-loop records offsets values s₀ o₀ v₀ s o v = length records - s
 
 loop-holds : tie.Need-loop-holds Inv-loop μ-loop
-loop-holds c = (zero-le, omega (arith, c .before .before .pre .offsets), omega (arith, c .before .before .pre .values), refl)
+loop-holds c = (zero-le, omega (arith, c .before .before .pre .offsets), omega (arith, c .before .before .pre .words), refl)
 
 record-at-requires : tie.Need-record-at-requires Inv-loop μ-loop
 record-at-requires c κs = search needs
@@ -32,11 +32,11 @@ wide-requires c κs = search needs
 add-o-end : tie.Need-add-o-end Inv-loop μ-loop
 add-o-end c = omega (arith, c .wide .ensures .0, total-step (c .before .before .before .before .before .before .args .records .now) (c .before .before .before .loop .s) (c .before .before .loop-test .taken) (c .before .record-at .ensures) (λ (r : SegmentRecord). r .offsets), c .before .before .before .loop .inv .1, c .before .before .before .before .before .before .good .1 .0 .0)
 
-wide-requires-2 : tie.Need-wide-requires-2 Inv-loop μ-loop
-wide-requires-2 c κs = search needs
+value-words-requires : tie.Need-value-words-requires Inv-loop μ-loop
+value-words-requires c κs = search needs
 
 add-v-end : tie.Need-add-v-end Inv-loop μ-loop
-add-v-end c = omega (arith, c .wide2 .ensures .0, total-step (c .before .before .before .before .before .before .before .args .records .now) (c .before .before .before .before .loop .s) (c .before .before .before .loop-test .taken) (c .before .before .record-at .ensures) (λ (r : SegmentRecord). r .values), c .before .before .before .before .loop .inv .2, c .before .before .before .before .before .before .before .good .1 .1 .0 .0)
+add-v-end c = omega (arith, c .value-words .ensures .0, total-step (c .before .before .before .before .before .before .before .args .records .now) (c .before .before .before .before .loop .s) (c .before .before .before .loop-test .taken) (c .before .before .record-at .ensures) recordWords, c .before .before .before .before .loop .inv .2, c .before .before .before .before .before .before .before .good .1 .1 .0 .0)
 
 mul-times-fit : tie.Need-mul-times-fit Inv-loop μ-loop
 mul-times-fit c = search needs
@@ -60,7 +60,7 @@ part-times-fit-start-2 : tie.Need-part-times-fit-start-2 Inv-loop μ-loop
 part-times-fit-start-2 c = search needs
 
 part-times-fit-end-2 : tie.Need-part-times-fit-end-2 Inv-loop μ-loop
-part-times-fit-end-2 c = omega (arith, c .before .wide2 .ensures .0, total-step (c .before .before .before .before .before .before .before .before .args .records .now) (c .before .before .before .before .before .loop .s) (c .before .before .before .before .loop-test .taken) (c .before .before .before .record-at .ensures) (λ (r : SegmentRecord). r .values), c .before .before .before .before .before .loop .inv .2)
+part-times-fit-end-2 c = omega (arith, c .before .value-words .ensures .0, total-step (c .before .before .before .before .before .before .before .before .args .records .now) (c .before .before .before .before .before .loop .s) (c .before .before .before .before .loop-test .taken) (c .before .before .before .record-at .ensures) recordWords, c .before .before .before .before .before .loop .inv .2)
 
 times-fit-requires : tie.Need-times-fit-requires Inv-loop μ-loop
 times-fit-requires c κs = search needs
@@ -70,8 +70,8 @@ returns c =
     let the-args = c .before .before .before .before .before .before .before .before .before .before .before .args in
     let the-loop = c .before .before .before .before .before .before .before .before .loop in
     let the-wide = c .before .before .before .before .before .wide in
-    let the-wide2 = c .before .before .before .before .wide2 in
-    fell _ (c .before .times-fit .ensures) (times-step (the-args .records .now) (the-loop .s) (c .before .before .before .before .before .before .before .loop-test .taken) (c .before .before .before .before .before .before .record-at .ensures) (the-args .offsets .now) (the-args .values .now) (the-loop .o) (the-loop .o + the-wide .result) (the-loop .v) (the-loop .v + the-wide2 .result) (ap (λ (n : ℕ). the-loop .o + n) (the-wide .ensures .0)) (ap (λ (n : ℕ). the-loop .v + n) (the-wide2 .ensures .0))) (not-true _ (c .if1 .taken)) ∙ the-loop .inv .3
+    let the-value-words = c .before .before .before .before .value-words in
+    fell _ (c .before .times-fit .ensures) (times-step (the-args .records .now) (the-loop .s) (c .before .before .before .before .before .before .before .loop-test .taken) (c .before .before .before .before .before .before .record-at .ensures) (the-args .offsets .now) (the-args .values .now) (the-loop .o) (the-loop .o + the-wide .result) (the-loop .v) (the-loop .v + the-value-words .result) (ap (λ (n : ℕ). the-loop .o + n) (the-wide .ensures .0)) (ap (λ (n : ℕ). the-loop .v + n) (the-value-words .ensures .0))) (not-true _ (c .if1 .taken)) ∙ the-loop .inv .3
 
 add-s : tie.Need-add-s Inv-loop μ-loop
 add-s c = search needs
@@ -80,7 +80,7 @@ loop-less : tie.Need-loop-less Inv-loop μ-loop
 loop-less c = search needs
 
 loop-again : tie.Need-loop-again Inv-loop μ-loop
-loop-again c = (omega (arith, c .before .before .before .before .before .before .before .loop-test .taken), omega (arith, c .before .before .before .before .before .wide .ensures .0, total-step (c .before .before .before .before .before .before .before .before .before .before .before .args .records .now) (c .before .before .before .before .before .before .before .before .loop .s) (c .before .before .before .before .before .before .before .loop-test .taken) (c .before .before .before .before .before .before .record-at .ensures) (λ (r : SegmentRecord). r .offsets), c .before .before .before .before .before .before .before .before .loop .inv .1), omega (arith, c .before .before .before .before .wide2 .ensures .0, total-step (c .before .before .before .before .before .before .before .before .before .before .before .args .records .now) (c .before .before .before .before .before .before .before .before .loop .s) (c .before .before .before .before .before .before .before .loop-test .taken) (c .before .before .before .before .before .before .record-at .ensures) (λ (r : SegmentRecord). r .values), c .before .before .before .before .before .before .before .before .loop .inv .2), went _ (c .before .times-fit .ensures) (times-step (c .before .before .before .before .before .before .before .before .before .before .before .args .records .now) (c .before .before .before .before .before .before .before .before .loop .s) (c .before .before .before .before .before .before .before .loop-test .taken) (c .before .before .before .before .before .before .record-at .ensures) (c .before .before .before .before .before .before .before .before .before .before .before .args .offsets .now) (c .before .before .before .before .before .before .before .before .before .before .before .args .values .now) (c .before .before .before .before .before .before .before .before .loop .o) (c .before .before .before .before .before .before .before .before .loop .o + c .before .before .before .before .before .wide .result) (c .before .before .before .before .before .before .before .before .loop .v) (c .before .before .before .before .before .before .before .before .loop .v + c .before .before .before .before .wide2 .result) (ap (λ (n : ℕ). c .before .before .before .before .before .before .before .before .loop .o + n) (c .before .before .before .before .before .wide .ensures .0)) (ap (λ (n : ℕ). c .before .before .before .before .before .before .before .before .loop .v + n) (c .before .before .before .before .wide2 .ensures .0))) (not-false _ (c .if1 .left)) ∙ c .before .before .before .before .before .before .before .before .loop .inv .3)
+loop-again c = (omega (arith, c .before .before .before .before .before .before .before .loop-test .taken), omega (arith, c .before .before .before .before .before .wide .ensures .0, total-step (c .before .before .before .before .before .before .before .before .before .before .before .args .records .now) (c .before .before .before .before .before .before .before .before .loop .s) (c .before .before .before .before .before .before .before .loop-test .taken) (c .before .before .before .before .before .before .record-at .ensures) (λ (r : SegmentRecord). r .offsets), c .before .before .before .before .before .before .before .before .loop .inv .1), omega (arith, c .before .before .before .before .value-words .ensures .0, total-step (c .before .before .before .before .before .before .before .before .before .before .before .args .records .now) (c .before .before .before .before .before .before .before .before .loop .s) (c .before .before .before .before .before .before .before .loop-test .taken) (c .before .before .before .before .before .before .record-at .ensures) recordWords, c .before .before .before .before .before .before .before .before .loop .inv .2), went _ (c .before .times-fit .ensures) (times-step (c .before .before .before .before .before .before .before .before .before .before .before .args .records .now) (c .before .before .before .before .before .before .before .before .loop .s) (c .before .before .before .before .before .before .before .loop-test .taken) (c .before .before .before .before .before .before .record-at .ensures) (c .before .before .before .before .before .before .before .before .before .before .before .args .offsets .now) (c .before .before .before .before .before .before .before .before .before .before .before .args .values .now) (c .before .before .before .before .before .before .before .before .loop .o) (c .before .before .before .before .before .before .before .before .loop .o + c .before .before .before .before .before .wide .result) (c .before .before .before .before .before .before .before .before .loop .v) (c .before .before .before .before .before .before .before .before .loop .v + c .before .before .before .before .value-words .result) (ap (λ (n : ℕ). c .before .before .before .before .before .before .before .before .loop .o + n) (c .before .before .before .before .before .wide .ensures .0)) (ap (λ (n : ℕ). c .before .before .before .before .before .before .before .before .loop .v + n) (c .before .before .before .before .value-words .ensures .0))) (not-false _ (c .if1 .left)) ∙ c .before .before .before .before .before .before .before .before .loop .inv .3)
 
 returns-2 : tie.Need-returns-2 Inv-loop μ-loop
 returns-2 c = times-end (c .before .before .before .before .args .records .now) (c .before .loop .s) (c .loop-test .left) _ _ ∙ c .before .loop .inv .3
@@ -95,7 +95,7 @@ all-times-fit-spec =
     record-at-requires
     wide-requires
     add-o-end
-    wide-requires-2
+    value-words-requires
     add-v-end
     mul-times-fit
     sub-times-fit

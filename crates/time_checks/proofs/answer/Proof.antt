@@ -32,7 +32,7 @@ all-times-fit-requires : tie.Need-all-times-fit-requires
 all-times-fit-requires c κs =
     let i = lentTimes (c .before .before .before .before .before .before .before .before .before .before .args .records .now) (c .before .before .before .before .before .before .before .before .before .before .args .ids .now) (c .before .before .before .before .before .before .before .before .before .before .args .offsets .now) (c .before .before .before .before .before .before .before .before .before .before .args .values .now) (c .before .before .before .before .before .before .before .before .before .before .args .lengths .now) (c .before .before .before .before .before .before .before .before .before .before .args .bytes .now) (c .before .before .before .before .before .before .before .before .before .before .args .alive .now) (c .before .before .before .before .before .before .before .before .before .before .args .space) in
     let y = first-ready i (sym (c .before .before .before .first-to-seven .ensures) ∙ c .before .before .if1 .left) in
-    record { offsets = omega (arith, y .exact .offsets); values = omega (arith, y .exact .values) }
+    record { offsets = omega (arith, y .exact .offsets); words = omega (arith, y .exact .words) }
 
 returns-3 : tie.Need-returns-3
 returns-3 c =

@@ -42,16 +42,16 @@ index-2-from : tie.Need-index-2-from Inv-loop μ-loop
 index-2-from c = search needs
 
 mul-write-rows : tie.Need-mul-write-rows Inv-loop μ-loop
-mul-write-rows c = omega (arith, timed-s (c .before .before .before .before .before .before .before .before .before .before .before .before .before .before .pre .0) (c .before .before .before .before .before .before .before .before .before .before .before .before .before .before .pre .1 .0) (c .before .before .before .before .before .before .before .before .before .loop .inv .2) (c .before .before .before .before .before .before .before .before .loop-test .taken) (c .before .before .before .before .before .before .byte .ensures .0) (c .before .before .before .before .before .stand-at .ensures) .words-lie .rises, timed-s (c .before .before .before .before .before .before .before .before .before .before .before .before .before .before .pre .0) (c .before .before .before .before .before .before .before .before .before .before .before .before .before .before .pre .1 .0) (c .before .before .before .before .before .before .before .before .before .loop .inv .2) (c .before .before .before .before .before .before .before .before .loop-test .taken) (c .before .before .before .before .before .before .byte .ensures .0) (c .before .before .before .before .before .stand-at .ensures) .words-lie .ends, c .before .before .before .before .before .before .before .before .before .before .before .before .before .before .good)
+mul-write-rows c = omega (arith, timed-s (c .before .before .before .before .before .before .before .before .before .before .before .before .before .before .pre .0) (c .before .before .before .before .before .before .before .before .before .before .before .before .before .before .pre .1 .0) (c .before .before .before .before .before .before .before .before .before .loop .inv .2) (c .before .before .before .before .before .before .before .before .loop-test .taken) (c .before .before .before .before .before .before .byte .ensures .0) (c .before .before .before .before .before .stand-at .ensures) .alive-lie .rises, timed-s (c .before .before .before .before .before .before .before .before .before .before .before .before .before .before .pre .0) (c .before .before .before .before .before .before .before .before .before .before .before .before .before .before .pre .1 .0) (c .before .before .before .before .before .before .before .before .before .loop .inv .2) (c .before .before .before .before .before .before .before .before .loop-test .taken) (c .before .before .before .before .before .before .byte .ensures .0) (c .before .before .before .before .before .stand-at .ensures) .alive-lie .ends, c .before .before .before .before .before .before .before .before .before .before .before .before .before .before .good)
 
 sub-write-rows : tie.Need-sub-write-rows Inv-loop μ-loop
-sub-write-rows c = timed-s (c .before .before .before .before .before .before .before .before .before .before .before .before .before .before .pre .0) (c .before .before .before .before .before .before .before .before .before .before .before .before .before .before .pre .1 .0) (c .before .before .before .before .before .before .before .before .before .loop .inv .2) (c .before .before .before .before .before .before .before .before .loop-test .taken) (c .before .before .before .before .before .before .byte .ensures .0) (c .before .before .before .before .before .stand-at .ensures) .words-lie .rises
+sub-write-rows c = timed-s (c .before .before .before .before .before .before .before .before .before .before .before .before .before .before .pre .0) (c .before .before .before .before .before .before .before .before .before .before .before .before .before .before .pre .1 .0) (c .before .before .before .before .before .before .before .before .before .loop .inv .2) (c .before .before .before .before .before .before .before .before .loop-test .taken) (c .before .before .before .before .before .before .byte .ensures .0) (c .before .before .before .before .before .stand-at .ensures) .alive-lie .rises
 
 part-write-rows-start : tie.Need-part-write-rows-start Inv-loop μ-loop
-part-write-rows-start c = timed-s (c .before .before .before .before .before .before .before .before .before .before .before .before .before .before .pre .0) (c .before .before .before .before .before .before .before .before .before .before .before .before .before .before .pre .1 .0) (c .before .before .before .before .before .before .before .before .before .loop .inv .2) (c .before .before .before .before .before .before .before .before .loop-test .taken) (c .before .before .before .before .before .before .byte .ensures .0) (c .before .before .before .before .before .stand-at .ensures) .words-lie .rises
+part-write-rows-start c = timed-s (c .before .before .before .before .before .before .before .before .before .before .before .before .before .before .pre .0) (c .before .before .before .before .before .before .before .before .before .before .before .before .before .before .pre .1 .0) (c .before .before .before .before .before .before .before .before .before .loop .inv .2) (c .before .before .before .before .before .before .before .before .loop-test .taken) (c .before .before .before .before .before .before .byte .ensures .0) (c .before .before .before .before .before .stand-at .ensures) .alive-lie .rises
 
 part-write-rows-end : tie.Need-part-write-rows-end Inv-loop μ-loop
-part-write-rows-end c = timed-s (c .before .before .before .before .before .before .before .before .before .before .before .before .before .before .pre .0) (c .before .before .before .before .before .before .before .before .before .before .before .before .before .before .pre .1 .0) (c .before .before .before .before .before .before .before .before .before .loop .inv .2) (c .before .before .before .before .before .before .before .before .loop-test .taken) (c .before .before .before .before .before .before .byte .ensures .0) (c .before .before .before .before .before .stand-at .ensures) .words-lie .ends
+part-write-rows-end c = timed-s (c .before .before .before .before .before .before .before .before .before .before .before .before .before .before .pre .0) (c .before .before .before .before .before .before .before .before .before .before .before .before .before .before .pre .1 .0) (c .before .before .before .before .before .before .before .before .before .loop .inv .2) (c .before .before .before .before .before .before .before .before .loop-test .taken) (c .before .before .before .before .before .before .byte .ensures .0) (c .before .before .before .before .before .stand-at .ensures) .alive-lie .ends
 
 write-rows-requires : tie.Need-write-rows-requires Inv-loop μ-loop
 write-rows-requires c κs = rows-given (c .before .before .before .before .before .before .before .before .before .before .before .before .before .before .before .before .pre .0) (c .before .before .before .before .before .before .before .before .before .before .before .before .before .before .before .before .pre .1 .0) (c .before .before .before .before .before .before .before .before .before .before .before .loop .inv .2) (c .before .before .before .before .before .before .before .before .before .before .loop-test .taken) (c .before .before .before .before .before .before .before .before .byte .ensures .0) (c .before .before .before .before .before .before .before .stand-at .ensures) (c .before .before .before .run-of .ensures)

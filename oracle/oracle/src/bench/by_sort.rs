@@ -4,7 +4,17 @@
 use std::time::Duration;
 
 use super::mean;
-use crate::wire::Seg;
+use crate::wire::{Seg, words_of};
+
+/// A segment and its times as words.
+pub struct Timed<'a> {
+    segment: &'a Seg,
+    times: Vec<u64>,
+}
+
+pub fn timed(segs: &[Seg]) -> Vec<Timed<'_>> {
+    segs.iter().map(|segment| Timed { segment, times: words_of(segment.ty, &segment.values) }).collect()
+}
 
 /// An element of the list.
 pub trait Element: Copy + Ord {
@@ -40,18 +50,18 @@ pub struct BySort<E> {
 
 impl<E: Element> BySort<E> {
     /// With both lists already touched.
-    pub fn new(segs: &[Seg]) -> BySort<E> {
-        let rows: usize = segs.iter().map(|s| s.rows as usize).sum();
+    pub fn new(segs: &[Timed]) -> BySort<E> {
+        let rows: usize = segs.iter().map(|s| s.segment.rows as usize).sum();
         BySort { list: vec![E::new(1, 1, 1); rows + 1], rows: 0, addresses: vec![[1; 2]; rows] }
     }
 
     /// Of the sort alone, and of the whole.
-    pub fn times(&mut self, segs: &[Seg]) -> [Duration; 2] {
+    pub fn times(&mut self, segs: &[Timed]) -> [Duration; 2] {
         self.fill(segs);
         [mean(1, || self.sort()), mean(1, || self.whole(segs))]
     }
 
-    fn whole(&mut self, segs: &[Seg]) {
+    fn whole(&mut self, segs: &[Timed]) {
         self.fill(segs);
         self.sort();
         for (address, element) in self.addresses.iter_mut().zip(&self.list[..self.rows]) {
@@ -61,14 +71,14 @@ impl<E: Element> BySort<E> {
     }
 
     /// Puts the alive rows into the list, in segment and row order. Each segment has a time.
-    fn fill(&mut self, segs: &[Seg]) {
+    fn fill(&mut self, segs: &[Timed]) {
         self.rows = 0;
-        for (segment, s) in (0..).zip(segs) {
-            let full = |row: u32| s.values[row as usize];
-            let mut times = 0;
+        for (segment, Timed { segment: s, times }) in (0..).zip(segs) {
+            let full = |row: u32| times[row as usize];
+            let mut before = 0;
             let optional = |row: u32| {
-                times += (times < s.ids.len() && s.ids[times] == row) as usize;
-                s.values[times.saturating_sub(1)]
+                before += (before < s.ids.len() && s.ids[before] == row) as usize;
+                times[before.saturating_sub(1)]
             };
             match (s.kind, &s.alive) {
                 (1, None) => self.append(segment, s.rows, full, |_| 1),
@@ -115,8 +125,9 @@ mod tests {
     #[test]
     fn is_the_time_order() {
         fn addresses<E: Element>(segs: &[Seg]) -> Vec<[u32; 2]> {
-            let mut by_sort = BySort::<E>::new(segs);
-            by_sort.whole(segs);
+            let timed = timed(segs);
+            let mut by_sort = BySort::<E>::new(&timed);
+            by_sort.whole(&timed);
             by_sort.addresses().to_vec()
         }
         for line in order_lines("") {

@@ -10,6 +10,7 @@
 //! str        kind 1, Str, one term for ten rows but at most 100,000 ("term" and 8 digits, of twice
 //!            as many), value = next() % terms
 //! terms      the same with one term for each row, and a hundredth of the rows
+//! ip         kind 1, IpAddr, high word = next(), low word = next()
 //!
 //! stacked            segment after segment
 //! interleaved        row 0 of each segment, row 1 of each segment, ..
@@ -29,9 +30,12 @@
 use tantivy_columnar::ColumnType;
 
 use crate::rng::Rng;
-use crate::wire::{Input, Seg};
+use crate::wire::{IP, Input, Seg};
 
-pub const COLUMNS: &[&str] = &["full", "opt", "optsparse", "multi", "mixed", "mixed-f64", "str", TERMS];
+pub const COLUMNS: &[&str] =
+    &["full", "opt", "optsparse", "multi", "mixed", "mixed-f64", "str", LISTENERS, TERMS];
+/// The column of addresses.
+pub const LISTENERS: &str = "ip";
 /// The column that is measured with up to 256 segments.
 pub const TERMS: &str = "terms";
 pub const ORDERS: &[&str] = &["stacked", "interleaved", "shuffled", "interleaved-alive"];
@@ -59,6 +63,7 @@ impl Line {
             "mixed" => ColumnType::I64,
             "mixed-f64" => ColumnType::F64,
             "str" | TERMS => ColumnType::Str,
+            LISTENERS => ColumnType::IpAddr,
             _ => ColumnType::U64,
         }
     }
@@ -111,6 +116,10 @@ impl Line {
             }
             "str" => dictionary(&mut s, &mut rng, (rows as usize / 10).clamp(1, 100_000)),
             TERMS => dictionary(&mut s, &mut rng, rows as usize),
+            LISTENERS => {
+                s.ty = IP;
+                s.values = (0..rows).map(|_| (rng.next() as u128) << 64 | rng.next() as u128).collect();
+            }
             other => panic!("column {other}?"),
         }
         s
@@ -147,8 +156,8 @@ impl OrderLine {
     fn segment(&self, i: u64, rows: u32) -> Seg {
         let mut rng = Rng::new(1 + i);
         let n = rows as u64;
-        let mut times: Vec<u64> = match self.times {
-            IN_TURN => (i * n..(i + 1) * n).map(|second| 1_000_000_000 * second).collect(),
+        let mut times: Vec<u128> = match self.times {
+            IN_TURN => (i * n..(i + 1) * n).map(|second| 1_000_000_000 * second as u128).collect(),
             _ => words(&mut rng, rows),
         };
         times.sort_unstable();
@@ -173,14 +182,14 @@ pub fn stored(rows: u32) -> Seg {
     s
 }
 
-fn words(rng: &mut Rng, n: u32) -> Vec<u64> {
-    (0..n).map(|_| rng.next() >> 24).collect()
+fn words(rng: &mut Rng, n: u32) -> Vec<u128> {
+    (0..n).map(|_| (rng.next() >> 24) as u128).collect()
 }
 
-fn number(ty: u32, word: u64) -> u64 {
+fn number(ty: u32, word: u64) -> u128 {
     match ty {
-        2 => (word as f64 / 1024.0).to_bits(),
-        _ => word,
+        2 => (word as f64 / 1024.0).to_bits() as u128,
+        _ => word as u128,
     }
 }
 
@@ -216,7 +225,7 @@ fn dictionary(s: &mut Seg, rng: &mut Rng, most: usize) {
             s.terms.push(format!("term{t:08}").into_bytes());
         }
     }
-    s.values = (0..s.rows).map(|_| rng.below(most as u64)).collect();
+    s.values = (0..s.rows).map(|_| rng.below(most as u64) as u128).collect();
 }
 
 fn alive(rng: &mut Rng, rows: u32) -> Vec<u64> {

@@ -132,7 +132,7 @@ impl Log<'_> {
 fn segment(rng: &mut Rng, times: &[Option<i64>], with_alive: u64) -> Seg {
     let rows = times.len() as u32;
     let mut s = Seg { ty: 7, rows, ..Seg::default() };
-    s.values = times.iter().flatten().map(|&time| time as u64).collect();
+    s.values = times.iter().flatten().map(|&time| time as u64 as u128).collect();
     s.kind = match s.values.len() {
         n if n == times.len() => rng.pick(&[1, 1, 2, 4]),
         0 => rng.pick(&[0, 2, 4]),

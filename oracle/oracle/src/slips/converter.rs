@@ -1,9 +1,10 @@
 //! Converters that are wrong on purpose.
+use super::listeners::{in_words, lengths_by, termless, two_if_unknown};
 use super::{Slip, put_before, put_in_place, slip};
 use crate::convert::{self, CHECKS, Call, Check, Converted, Outcome};
 use crate::ours::NewLists;
 use crate::table;
-use crate::wire::{Sections, Seg};
+use crate::wire::{IP, Sections, Seg, width};
 
 #[derive(Clone, Copy)]
 pub enum How {
@@ -46,7 +47,13 @@ pub const SLIPS: &[Slip] = &[
     ),
     wrong("converter: 3 not for kind 4", How::Check(3, |c| record(c)[1] != 4 && convert::unknown(c))),
     wrong("converter: 3 not for type 255", How::Check(3, |c| record(c)[0] != 255 && convert::unknown(c))),
-    wrong("converter: 3 not for type 6", How::Check(3, |c| record(c)[0] != 6 && convert::unknown(c))),
+    wrong("converter: 2 by one word an address", How::Check(2, |c| lengths_by(&table_call(c), |_| 1))),
+    wrong(
+        "converter: 2 by two words a value of an unknown type",
+        How::Check(2, |c| lengths_by(&table_call(c), two_if_unknown)),
+    ),
+    wrong("converter: 3 for type 6", How::Check(3, |c| record(c)[0] == IP || convert::unknown(c))),
+    wrong("converter: 3 not for type 8", How::Check(3, |c| record(c)[0] != 8 && convert::unknown(c))),
     wrong("converter: 3 not for an unknown flag", How::Check(3, |c| record(c)[7] < 2 && convert::unknown(c))),
     wrong(
         "converter: 3 with a kind that nobody knows alone",
@@ -82,6 +89,11 @@ pub const SLIPS: &[Slip] = &[
     wrong(
         "converter: 4 for a repeated offset",
         How::Check(4, |c| convert::runs(c) || c.segment().offsets.windows(2).any(|w| w[0] == w[1])),
+    ),
+    wrong("converter: 4 by words", How::Check(4, |c| table::runs_of(&in_words(&c.segment())))),
+    wrong(
+        "converter: 5 not for terms on addresses",
+        How::Check(5, |c| table::contents_of(&termless(&c.segment()))),
     ),
     wrong(
         "converter: 5 not for equal terms",
@@ -159,6 +171,11 @@ pub const SLIPS: &[Slip] = &[
         }),
     ),
     wrong(
+        "converter: offsets by words",
+        How::Write(|old, new| new.offsets.iter_mut().for_each(|offset| *offset *= width(old.ty) as u32)),
+    ),
+    wrong("converter: values counted in words", How::Write(|old, new| new.record[5] *= width(old.ty) as u32)),
+    wrong(
         "converter: no offset where no row has a value",
         How::Write(|_, new| {
             if new.ids.is_empty() {
@@ -224,6 +241,10 @@ pub const SLIPS: &[Slip] = &[
         }),
     ),
 ];
+
+fn table_call<'a>(call: &Call<'a>) -> table::Call<'a> {
+    table::Call::new(call.sections, table::Lent::default())
+}
 
 fn record(call: &Call) -> [u32; 8] {
     call.sections.records[0]

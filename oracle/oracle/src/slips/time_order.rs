@@ -1,11 +1,12 @@
 //! Time orders that are wrong on purpose.
 use std::cmp::Reverse;
 
+use super::listeners::{lengths_by, two_if_unknown};
 use super::{Slip, put_before, put_in_place, slip};
 use crate::model;
 use crate::order::{self, CHECKS, Call, Check, Outcome};
 use crate::ours::Addresses;
-use crate::wire::{Sections, Seg};
+use crate::wire::{IP, Sections, Seg};
 
 #[derive(Clone, Copy)]
 pub enum How {
@@ -47,6 +48,15 @@ pub const SLIPS: &[Slip] = &[
     wrong("time order: no 11", How::Skip(11)),
     wrong("time order: no 12", How::Skip(12)),
     wrong("time order: 1 from 256 segments on", How::Check(1, |c| c.join.sections.records.len() > 255)),
+    wrong("time order: 2 by one word an address", How::Check(2, |c| lengths_by(&c.join, |_| 1))),
+    wrong(
+        "time order: 2 by two words a value of an unknown type",
+        How::Check(2, |c| lengths_by(&c.join, two_if_unknown)),
+    ),
+    wrong(
+        "time order: 3 for type 6",
+        How::Check(3, |c| order::unknown(c) || c.join.sections.records.iter().any(|r| r[0] == IP)),
+    ),
     wrong(
         "time order: 6 for an alive set",
         How::Check(6, |c| order::alive_sets(c) || c.join.any_segment(|s| s.alive.is_some())),
@@ -67,7 +77,7 @@ pub const SLIPS: &[Slip] = &[
         How::Check(12, |c| {
             c.join.any_segment(|s| {
                 let alive = || model::filled(s).into_iter().filter(|(row, _)| s.is_alive(*row));
-                let times: Vec<u64> = alive().flat_map(|(_, range)| s.values[range].to_vec()).collect();
+                let times: Vec<u128> = alive().flat_map(|(_, range)| s.values[range].to_vec()).collect();
                 order::another_type(s) || alive().any(|(_, range)| range.len() > 1) || order::falling(&times)
             })
         }),
@@ -94,7 +104,10 @@ pub const SLIPS: &[Slip] = &[
     ),
     wrong(
         "time order: 12 from one segment to the next",
-        How::Check(12, |c| order::times(c) || order::falling(&c.join.sections.values)),
+        How::Check(12, |c| {
+            let all: Vec<u128> = c.segments().iter().flat_map(|s| s.values.clone()).collect();
+            order::times(c) || order::falling(&all)
+        }),
     ),
     wrong(
         "time order: 12 not for another type",
@@ -104,6 +117,13 @@ pub const SLIPS: &[Slip] = &[
         "time order: 12 not for another type without values",
         How::Check(12, |c| {
             let another_type = |s: &Seg| order::another_type(s) && !s.values.is_empty();
+            c.join.any_segment(|s| another_type(s) || order::several_times(s) || order::falling(&s.values))
+        }),
+    ),
+    wrong(
+        "time order: 12 not for addresses",
+        How::Check(12, |c| {
+            let another_type = |s: &Seg| order::another_type(s) && s.ty != IP;
             c.join.any_segment(|s| another_type(s) || order::several_times(s) || order::falling(&s.values))
         }),
     ),

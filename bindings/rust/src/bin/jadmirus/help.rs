@@ -22,7 +22,7 @@ A sheet, here of two days:
   required none           # or the type that the joined column must have
 
   segment
-  type Str                # I64 U64 F64 Bytes Str Bool DateTime; none: no column
+  type Str                # I64 U64 F64 Bytes Str Bool IpAddr DateTime; none: no column
   kind Optional           # Empty Full Optional NewMultivalued; OldMultivalued: to convert
   rows 3
   ids 0 2                 # the rows with a value
@@ -31,7 +31,8 @@ A sheet, here of two days:
   segment type Str kind Full values \"Can\" \"Air\"
 
 Lists may go on over lines. 'withdrawn 1 5' withdraws rows of a segment in an ordered join.
-Numbers are decimal, or hexadecimal after 0x. FORMAT.md has the whole of it.
+Numbers are decimal, or hexadecimal after 0x. Values of type IpAddr, the addresses of listeners,
+are written as IPv6 or IPv4 addresses. FORMAT.md has the whole of it.
 ";
 
 const JOIN: &str = "\
@@ -39,13 +40,13 @@ jadmirus join FILE [--rows|--numbers] [--output FILE] [--as sheet|wire] [--from 
 
 Joins the segments of FILE and lists the column: answer, type, class, rows, then ids,
 offsets, values, terms and maps, each after its number of elements. Values are unsigned
-64-bit words, terms are in hexadecimal ('-': empty). A refusal is listed as its answer's
-number alone; its name and meaning go to standard error, and 'jadmirus check FILE' says
-where it comes from. Segments of kind OldMultivalued are refused (answer 19) until 'jadmirus
-convert' has made them new ones.
+64-bit words, an IpAddr is its two, the high word first; terms are in hexadecimal ('-': empty).
+A refusal is listed as its answer's number alone; its name and meaning go to standard error, and
+'jadmirus check FILE' says where it comes from. Segments of kind OldMultivalued are refused
+(answer 19) until 'jadmirus convert' has made them new ones.
 
-  --rows          print the values in words in the listing's place: each row that has any, its
-                  number (from 0) and its values
+  --rows          print the rows in the listing's place: each that has values, its number (from
+                  0) and its values as in a sheet
   --numbers       print the numbers of the result in the listing's place: type, class, rows, how
                   many elements each list has, and how many term bytes were copied
   --output FILE   write the joined column too, as one segment to be joined again: sheets of
@@ -110,7 +111,8 @@ const ENCODE: &str = "\
 jadmirus encode SHEET [--output FILE] [--from sheet|wire]
 
 Writes the wire form of a sheet: nine sections, each after its count, every number as a 64-bit
-word with the lowest byte first. It is what the joining program reads.
+word with the lowest byte first. An IpAddr is two words, the high one first, and both count in
+the values' count. It is what the joining program reads.
 
   --output FILE   write to that file instead of standard output
   --from FORM     the form of the input (sheet or wire), if it can't be told

@@ -6,6 +6,7 @@ mod column_writers;
 mod serializer;
 
 use std::io::{self, Write};
+use std::net::Ipv6Addr;
 
 use common::DateTime;
 use sstable::{SSTable, VoidSSTable};
@@ -13,24 +14,26 @@ use sstable::{SSTable, VoidSSTable};
 pub(crate) use column_writers::CompatibleNumericalTypes;
 pub(crate) use serializer::ColumnarSerializer;
 
-use crate::column::serialize_column_mappable_to_u64;
+use crate::column::{serialize_column_mappable_to_u64, serialize_column_mappable_to_u128};
 use crate::column_index::{
     SerializableColumnIndex, SerializableMultivalueIndex, SerializableOptionalIndex,
 };
 use crate::column_values::{
-    CodecType, MonotonicallyMappableToU64, serialize_u64_based_column_values,
+    CodecType, MonotonicallyMappableToU64, serialize_column_values_u128,
+    serialize_u64_based_column_values,
 };
 use crate::{ColumnType, RowId, Version};
 
 pub struct ColumnarWriter;
 
-/// A column as document 01 gives it.
+/// A column as document 01 gives it, each value as one number: of an address the high word times 2^64
+/// plus the low one.
 #[derive(Clone, Debug, Default)]
 pub struct ColumnLists {
     pub kind: u32,
     pub ids: Vec<u32>,
     pub offsets: Vec<u32>,
-    pub values: Vec<u64>,
+    pub values: Vec<u128>,
     pub terms: Vec<Vec<u8>>,
 }
 
@@ -99,11 +102,6 @@ fn write_column(
         non_null_row_ids: Box::new(&lists.ids[..]),
         num_rows: rows,
     };
-    let internal: Vec<u64> = lists
-        .values
-        .iter()
-        .map(|&word| ColumnarWriter::word_to_internal(column_type, word))
-        .collect();
     let index = match lists.kind {
         1 => Some(SerializableColumnIndex::Full),
         // No file of the crate holds ColumnIndex::Empty: an Optional column without ids.
@@ -115,14 +113,20 @@ fn write_column(
         _ => None,
     };
     match index {
-        Some(index) => serialize_column_mappable_to_u64(index, &&internal[..], out)?,
+        Some(index) => write_indexed(index, column_type, lists, out)?,
         None => {
             // Version 1: the cardinality code, then the start offsets alone.
             let mut index_bytes = vec![2u8];
             let codecs = &[CodecType::Bitpacked];
             serialize_u64_based_column_values(&&lists.offsets[..], codecs, &mut index_bytes)?;
             out.write_all(&index_bytes)?;
-            serialize_u64_based_column_values(&&internal[..], codecs, out)?;
+            match column_type {
+                ColumnType::IpAddr => serialize_column_values_u128(&&addresses(lists)[..], out)?,
+                _ => {
+                    let internal = internal(column_type, lists);
+                    serialize_u64_based_column_values(&&internal[..], codecs, out)?
+                }
+            }
             out.write_all(&(index_bytes.len() as u32).to_le_bytes())?;
         }
     }
@@ -130,4 +134,25 @@ fn write_column(
         out.write_all(&n.to_le_bytes())?;
     }
     Ok(())
+}
+
+fn write_indexed(
+    index: SerializableColumnIndex<'_>,
+    column_type: ColumnType,
+    lists: &ColumnLists,
+    out: &mut impl Write,
+) -> io::Result<()> {
+    match column_type {
+        ColumnType::IpAddr => serialize_column_mappable_to_u128(index, &&addresses(lists)[..], out),
+        _ => serialize_column_mappable_to_u64(index, &&internal(column_type, lists)[..], out),
+    }
+}
+
+fn addresses(lists: &ColumnLists) -> Vec<Ipv6Addr> {
+    lists.values.iter().map(|&value| Ipv6Addr::from(value)).collect()
+}
+
+fn internal(column_type: ColumnType, lists: &ColumnLists) -> Vec<u64> {
+    let words = lists.values.iter().map(|&value| value as u64);
+    words.map(|word| ColumnarWriter::word_to_internal(column_type, word)).collect()
 }
