@@ -339,6 +339,21 @@ mod tests {
         (answer, ids, offsets, record)
     }
 
+    fn new_record(old: &Cut<'_>) -> Record {
+        Record {
+            kind: 4,
+            ids: 2,
+            offsets: 3,
+            ..old.record
+        }
+    }
+
+    /// In as much space as it takes.
+    fn converts(old: &Cut<'_>) {
+        let exact = (0, vec![0, 2], vec![0, 2, 3], new_record(old));
+        assert_eq!(converted(old, 2, 3), exact);
+    }
+
     /// Space for 1 id, and for 2 offsets; what is beyond the lists stays.
     #[test]
     fn answer_11_of_the_converter() {
@@ -349,15 +364,8 @@ mod tests {
         refused(1, 9);
         refused(9, 2);
         refused(0, 0);
-        let record = Record {
-            kind: 4,
-            ids: 2,
-            offsets: 3,
-            ..OLD.record
-        };
-        let exact = (0, vec![0, 2], vec![0, 2, 3], record);
-        assert_eq!(converted(&OLD, 2, 3), exact);
-        let ample = (0, vec![0, 2, 77, 77], vec![0, 2, 3, 77], record);
+        converts(&OLD);
+        let ample = (0, vec![0, 2, 77, 77], vec![0, 2, 3, 77], new_record(&OLD));
         assert_eq!(converted(&OLD, 4, 4), ample);
     }
 
@@ -368,14 +376,7 @@ mod tests {
         old.record.typ = 6;
         assert_eq!(converted(&old, 9, 9).0, 2);
         old.values = &[1, 2, 3, 4, 5, 6];
-        let record = Record {
-            kind: 4,
-            ids: 2,
-            offsets: 3,
-            ..old.record
-        };
-        let exact = (0, vec![0, 2], vec![0, 2, 3], record);
-        assert_eq!(converted(&old, 2, 3), exact);
+        converts(&old);
         assert_eq!(converted(&old, 1, 3).0, 11);
         old.values = &[1, 2, 3, 4, 5, 6, 7];
         assert_eq!(converted(&old, 9, 9).0, 2);

@@ -1,28 +1,15 @@
 //! Columns of listener addresses (document 02, (g)): joins, answers, sheets and wire forms. An
 //! address is written here as its two words, the high one first, or as text.
+mod common;
+
+use common::{alive, ordered, stacked};
 use jadmirus::{
-    Address, AliveSet, Class, ColumnType, Index, Joined, OldSegment, Order, Refusal, Sections,
-    Segment, Value, convert, explain, ip_addrs, ip_words, join, sheet, time_order,
+    Class, ColumnType, Index, Joined, OldSegment, Order, Refusal, Sections, Segment, Value,
+    convert, explain, ip_addrs, ip_words, join, sheet, time_order,
 };
 use std::net::{IpAddr, Ipv4Addr, Ipv6Addr};
 
 const IP: ColumnType = ColumnType::IpAddr;
-
-fn stacked(segments: &[Segment]) -> Joined {
-    join(segments, Order::Stacked, None).unwrap()
-}
-
-fn ordered(segment: Segment, rows: &[u32]) -> Joined {
-    let addresses: Vec<Address> = rows
-        .iter()
-        .map(|&row| Address { segment: 0, row })
-        .collect();
-    join(&[segment], Order::Ordered(&addresses), None).unwrap()
-}
-
-fn alive(word: u64) -> AliveSet {
-    AliveSet::from_words(vec![word])
-}
 
 fn listing(joined: &Joined) -> String {
     let mut listing = Vec::new();

@@ -1,30 +1,17 @@
 //! The log sheets C1 to C13 of document 01, C13 as document 02, (e), has it, by the safe interface.
+mod common;
+
+use common::{alive, ordered, stacked};
 use jadmirus::{
-    Address, AliveSet, Class, ColumnType, Joined, OldSegment, Order, Refusal, Segment, Value,
-    convert, join, time_order,
+    Address, Class, ColumnType, Joined, OldSegment, Order, Refusal, Segment, Value, convert, join,
+    time_order,
 };
 use std::net::Ipv6Addr;
-
-fn stacked(segments: &[Segment]) -> Joined {
-    join(segments, Order::Stacked, None).unwrap()
-}
-
-fn ordered(segment: Segment, rows: &[u32]) -> Joined {
-    let addresses: Vec<Address> = rows
-        .iter()
-        .map(|&row| Address { segment: 0, row })
-        .collect();
-    join(&[segment], Order::Ordered(&addresses), None).unwrap()
-}
 
 /// C5's segment.
 fn multivalued() -> Segment {
     let (ids, offsets) = (vec![0, 2], vec![0, 2, 3]);
     Segment::new_multivalued(ColumnType::U64, 3, ids, offsets, vec![7, 8, 9])
-}
-
-fn alive(word: u64) -> AliveSet {
-    AliveSet::from_words(vec![word])
 }
 
 fn terms(joined: &Joined) -> Vec<&[u8]> {

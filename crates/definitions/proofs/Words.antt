@@ -90,14 +90,26 @@ pub values-plain : (type : ℕ) → eqb type IpAddr ≡ false → (ws : List ℕ
 unfolding valuesIn
 values-plain type e ws = rw e
 
+-- a type of which something holds that does not hold of addresses is another one
+pub not-address : (p : ℕ → Bool) → p IpAddr ≡ false → (type : ℕ) → p type ≡ true → eqb type IpAddr ≡ false
+not-address p none type h = go (eqb type IpAddr) refl
+  where
+    go : (b : Bool) → eqb type IpAddr ≡ b → b ≡ false
+    go true e = sym h ∙ ap p (eqb-true type IpAddr e) ∙ none
+    go false e = refl
+
 -- ordinals are no addresses
 pub terms-plain : (type : ℕ) → hasTerms type ≡ true → eqb type IpAddr ≡ false
 unfolding hasTerms
-terms-plain type h = go (eqb type IpAddr) refl
+terms-plain type h = not-address hasTerms refl type h
+
+-- a test that does not look into addresses says the same of words and of the values that they say
+pub unseen : (test : ℕ → List ℕ → Bool) → ((vs ws : List ℕ) → test IpAddr vs ≡ test IpAddr ws) → (type : ℕ) (ws : List ℕ) → test type (valuesIn type ws) ≡ test type ws
+unseen test blind type ws = go (eqb type IpAddr) refl
   where
-    go : (b : Bool) → eqb type IpAddr ≡ b → b ≡ false
-    go true e = sym h ∙ ap hasTerms (eqb-true type IpAddr e)
-    go false e = refl
+    go : (b : Bool) → eqb type IpAddr ≡ b → test type (valuesIn type ws) ≡ test type ws
+    go true e = rw (eqb-true type IpAddr e) (blind (valuesIn IpAddr ws) ws)
+    go false e = ap (test type) (values-plain type e ws)
 
 -- nothing but an address becomes one, and it becomes nothing else
 pub address-becomes : (u : ℕ) (vs : List ℕ) → isCoercible IpAddr u vs ≡ eqb IpAddr u
@@ -117,6 +129,10 @@ becomes-alike t u vs h = go (eqb t IpAddr) (eqb u IpAddr) refl refl
     go false true p q =
         let e : isCoercible t IpAddr vs ≡ true = subst (λ (n : ℕ). isCoercible t n vs ≡ true) (eqb-true u IpAddr q) h in
         sym p ∙ (simp or-false at e)
+
+either-none : (b : Bool) → cond {A = List ℕ} b [] [] ≡ []
+either-none true = refl
+either-none false = refl
 
 module _ (type : ℕ) where
   pub length-words : (vs : List ℕ) → length (valueWords type vs) ≡ length vs * wordsPerValue type
@@ -167,19 +183,11 @@ module _ (type : ℕ) where
 
   pub values-none : valuesIn type [] ≡ []
   unfolding valuesIn
-  values-none = go (eqb type IpAddr)
-    where
-      go : (b : Bool) → cond {A = List ℕ} b [] [] ≡ []
-      go true = refl
-      go false = refl
+  values-none = either-none (eqb type IpAddr)
 
   pub words-none : valueWords type [] ≡ []
   unfolding valueWords
-  words-none = go (eqb type IpAddr)
-    where
-      go : (b : Bool) → cond {A = List ℕ} b [] [] ≡ []
-      go true = refl
-      go false = refl
+  words-none = either-none (eqb type IpAddr)
 
   -- a part of the words, cut at values, says a part of the values
   pub values-slice : (a b : ℕ) (ws : List ℕ) → valuesIn type (slice (a * wordsPerValue type) (b * wordsPerValue type) ws) ≡ slice a b (valuesIn type ws)

@@ -179,9 +179,9 @@ module _ {stands : List (List ℕ)} {ids offsets values lengths bytes words : Li
   -- ---- the fills
 
   module _ {map′ : List ℕ} (m : Mapped map′ ss) (all : AllWords values) (a : Alike (joinedType required ss) ss) where
-    alive-are : joinedWords mode (joinedType required ss) addresses stands ids offsets values map′ ≡ valueWords (col .type) (col .values)
+    words-are : joinedWords mode (joinedType required ss) addresses stands ids offsets values map′ ≡ valueWords (col .type) (col .values)
     unfolding joinedWords rowOrder joinedColumn encode
-    alive-are = go (eqb mode 0) refl
+    words-are = go (eqb mode 0) refl
       where
         go : (b : Bool) → eqb mode 0 ≡ b → cond b (stackedWords (joinedType required ss) stands values map′) (orderedWords (joinedType required ss) stands ids offsets values map′ addresses)
             ≡ valueWords (joinedType required ss) (concat (joinedCells required ss (cond b (stackedFrom 0 ss) (addressesOf addresses))))
@@ -214,11 +214,11 @@ module _ {stands : List (List ℕ)} {ids offsets values lengths bytes words : Li
           ordered = λ n. ordered-given (r .order n);
           ids-room = room-ids (joinedClass required ss) ws cells widths-are (length outIds) hi;
           offsets-room = room-offsets (joinedClass required ss) ws cells widths-are (length outOffsets) ho;
-          values-room = subst (λ (l : List ℕ). length l ≤ length outValues) (sym alive-are) hv;
+          values-room = subst (λ (l : List ℕ). length l ≤ length outValues) (sym words-are) hv;
         }
 
     pub values-are : (old : List ℕ) → put 0 (joinedWords mode (joinedType required ss) addresses stands ids offsets values map′) old ≡ written (valueWords (col .type) (col .values)) old
-    values-are old = ap (λ (l : List ℕ). put 0 l old) alive-are ∙ put-written (valueWords (col .type) (col .values)) old
+    values-are old = ap (λ (l : List ℕ). put 0 l old) words-are ∙ put-written (valueWords (col .type) (col .values)) old
 
   pub ids-are : (old : List ℕ) → putIf (not (eqb (joinedClass required ss) 0)) 0 (idsOf 0 ws) old ≡ written (col .ids) old
   unfolding joinedColumn encode

@@ -239,9 +239,9 @@ module _ {stands : List (List ℕ)} {ids offsets values lengths bytes words : Li
         go false q = refl
 
     -- of n values: the words that the code writes are those of the values that the rules give
-    pub alive-are : (to : ℕ) (n : ℕ) (ws : List ℕ) → Alike to ss → AllWords ws → length ws ≡ n * p .unit → Own (getD ss k absent) ws
+    pub words-are : (to : ℕ) (n : ℕ) (ws : List ℕ) → Alike to ss → AllWords ws → length ws ≡ n * p .unit → Own (getD ss k absent) ws
         → newWords to p map′ ws ≡ valueWords to (map (newWord to (termsOf ss) (counted ss k)) (valuesIn (counted ss k .type) ws))
-    alive-are to n ws a all e o = go (isHeld (getD ss k absent)) refl
+    words-are to n ws a all e o = go (isHeld (getD ss k absent)) refl
       where
         s : Segment
         s = getD ss k absent

@@ -32,7 +32,7 @@ use Rattle.column_index_shuffled.specs.Order.{orderedWords}
 use Rattle.census.specs.Table.{counted, Table}
 use Rattle.merge_column.specs.Mapped.{Mapped}
 use Rattle.merge_column.proofs.Index.{there, known-rows}
-use Rattle.merge_column.proofs.Map.{Alike, Own, own-slice, own-values, worded, alive-are}
+use Rattle.merge_column.proofs.Map.{Alike, Own, own-slice, own-values, worded, words-are}
 
 concat-map : (f : ℕ → ℕ) (g : ℕ → List ℕ) (l : List ℕ) → concat (map (λ r. map f (g r)) l) ≡ map f (concat (map g l))
 concat-map f g [] = refl
@@ -113,7 +113,7 @@ module _ {stands : List (List ℕ)} {ids offsets values lengths bytes words : Li
         let st = t .each n b in
         ap (λ (x : List (List ℕ)). stackedWords to x values map′) (drop-cons stands n [] l)
         ∙ ap₂ (λ (x y : List ℕ). x ++ y)
-        (alive-are t m n b to (p .count) (valuesAt p values) a (take-words (many (p .values)) (drop-words (p .values .from) all)) (run-length (p .values .from) (p .values .to) values (st .values-lie .ends) ∙ st .long) (own-values t m n b)
+        (words-are t m n b to (p .count) (valuesAt p values) a (take-words (many (p .values)) (drop-words (p .values .from) all)) (run-length (p .values .from) (p .values .to) values (st .values-lie .ends) ∙ st .long) (own-values t m n b)
         ∙ ap (λ (vs : List ℕ). valueWords to (map (value required n) vs)) (st .values-are))
         (words-from k (suc n) (omega arith))
         ∙ sym (words-append to (map (value required n) (counted ss n .values)) (Rest required (suc n)))
@@ -130,7 +130,7 @@ module _ {stands : List (List ℕ)} {ids offsets values lengths bytes words : Li
         let p = standAt stands n in
         let st = there t n h in
         let q : r < counted ss n .rows = rw (effective-rows (getD ss n absent)) l in
-        alive-are t m n h to (widthIn p ids offsets r) (cellIn p ids offsets values r) a
+        words-are t m n h to (widthIn p ids offsets r) (cellIn p ids offsets values r) a
         (drop-words (startIn p ids offsets r * p .unit) (take-words (endIn p ids offsets r * p .unit) (take-words (many (p .values)) (drop-words (p .values .from) all))))
         (cell-length p ids offsets values r (inside-stands (st .0) (st .1) r q)) (own-cell n r h)
         ∙ ap (λ (vs : List ℕ). valueWords to (map (value required n) vs)) (cell-stands (st .0) (st .1) r)

@@ -6,7 +6,7 @@ use Prim.Native.Nat.{ℕ, suc, _<_, zero-le, suc-le-suc}
 use native.Mathlib.Omega.{arith}
 use lib.Dec.{eqb, ltb}
 use lib.ListN.{length, getD}
-use borrow.Author.Tests.{not-true, not-false, eqb-true}
+use borrow.Author.Tests.{not-true, not-false}
 use Rattle.definitions.specs.Lists.{all, any, filter}
 use Rattle.definitions.specs.Words.{IpAddr, valuesIn}
 use Rattle.definitions.specs.Segment.{Segment}
@@ -14,7 +14,7 @@ use Rattle.definitions.specs.Row.{noType, isDropped, isHeld, heldOf}
 use Rattle.definitions.specs.Types.{F64, U64, I64, isCoercible, hasType, everyValue, onlyType, numericalType, heldType, typeOf, greatestI64, isNegative}
 use Rattle.definitions.specs.Join.{joinedType, absent}
 use Rattle.definitions.specs.Answer.{presentTypes, allCoercible, typesWrong}
-use Rattle.definitions.proofs.Words.{values-plain, address-becomes}
+use Rattle.definitions.proofs.Words.{address-becomes, unseen}
 use Rattle.stands.specs.Stand.{standOf, standAt}
 use Rattle.stands.specs.Look.{valuesAt}
 use Rattle.merge_type.specs.declared.TypeAnswer.{TypeAnswer}
@@ -57,11 +57,11 @@ module _ (required : ℕ) (stands : List (List ℕ)) (values : List ℕ) {b : Bo
     unfolding typeAnswer
     right-type h = ap Joined u-is ∙ answer-all _ _ _ (one-here ∙ not-false b k) (become-is ∙ not-false c h)
 
--- ---- columns that the rules can't tell apart: of one type, and of the same values unless they are addresses, which no rule looks into
+-- ---- columns that the rules can't tell apart: of words and of the values that they say, for no rule looks into an address
 
 record One (x h : Segment) : Type 0 where
   type : x .type ≡ h .type
-  values : eqb (h .type) IpAddr ≡ false → x .values ≡ h .values
+  values : valuesIn (h .type) (x .values) ≡ h .values
 
 data Same : List Segment → List Segment → Type 0 where
   none : Same [] []
@@ -85,11 +85,7 @@ has-same t r = any-same (λ (s : Segment). eqb (s .type) t) (λ x h o. ap (λ (n
 
 -- a test that reads a column's type and values, and no addresses
 by-values : (f : ℕ → List ℕ → Bool) → ((vs ws : List ℕ) → f IpAddr vs ≡ f IpAddr ws) → (x h : Segment) → One x h → f (x .type) (x .values) ≡ f (h .type) (h .values)
-by-values f blind x h o = ap (λ (t : ℕ). f t (x .values)) (o .type) ∙ go (eqb (h .type) IpAddr) refl
-  where
-    go : (b : Bool) → eqb (h .type) IpAddr ≡ b → f (h .type) (x .values) ≡ f (h .type) (h .values)
-    go true e = rw (eqb-true (h .type) IpAddr e) (blind (x .values) (h .values))
-    go false e = ap (f (h .type)) (o .values e)
+by-values f blind x h o = ap (λ (t : ℕ). f t (x .values)) (o .type) ∙ sym (unseen f blind (h .type) (x .values)) ∙ ap (f (h .type)) (o .values)
 
 every-same : (t : ℕ) (test : ℕ → Bool) → eqb IpAddr t ≡ false → {xs hs : List Segment} → Same xs hs → everyValue t test xs ≡ everyValue t test hs
 unfolding everyValue
@@ -169,8 +165,7 @@ held-typed (r ∷ rs) values (s ∷ ss) t =
   where
     go : Same (heldColumns (partsIn rs values)) (filter isHeld ss) → (b : Bool) → isHeld s ≡ b
         → Same (heldColumns (record { type = standOf r .typ; values = valuesAt (standOf r) values; held = b } ∷ partsIn rs values)) (cond b (s ∷ filter isHeld ss) (filter isHeld ss))
-    go more true e =
-        some (record { type = type-here t; values = λ q. sym (values-plain (s .type) q (valuesAt (standOf r) values)) ∙ t .values-are 0 (suc-le-suc zero-le) e }) more
+    go more true e = some (record { type = type-here t; values = t .values-are 0 (suc-le-suc zero-le) e }) more
     go more false e = more
 
 cond-not : (b : Bool) (x y : TypeAnswer) → cond b x y ≡ cond (not b) y x

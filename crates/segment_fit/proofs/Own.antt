@@ -9,13 +9,14 @@ use lib.ListN.{length, take, getD}
 use lib.Seq.{length-take-le}
 use borrow.Author.Tests.{eqb-true}
 use Rattle.definitions.specs.Lists.{all, isEmpty, last, ascending, termsAscending, allBelow}
-use Rattle.definitions.specs.Words.{IpAddr, paired, valuesIn}
+use Rattle.definitions.specs.Words.{valuesIn}
 use Rattle.definitions.specs.Segment.{SegmentRecord, Sections, cut, aliveWords, recordWords, firstSegment}
 use Rattle.definitions.specs.Row.{hasAliveSet, noType}
 use Rattle.definitions.specs.Types.{isKnownType, hasTerms, BoolType}
 use Rattle.definitions.specs.Answer.{codesKnown, noColumnIsBare, idsFit, offsetsFit, emptyFits, fullFits, optionalFits, oldFits, newFits, listsFit, valuesFit, bitPastRows}
 use Rattle.lists.proofs.Numbers.{leb-suc}
 use Rattle.lists.proofs.Lists.{empty-length, all-ext}
+use Rattle.definitions.proofs.Words.{unseen}
 use Rattle.definitions.proofs.Sections.{cut-length, values-many}
 use Rattle.segment.specs.Kind.{byIndex}
 use Rattle.segment.proofs.Kind.{by-index}
@@ -126,12 +127,8 @@ words-is t n vs = go (eqb t BoolType) refl
 
 -- no test looks into an address
 words-same : (t n : ℕ) (ws : List ℕ) → fitsWords t n (valuesIn t ws) ≡ fitsWords t n ws
-unfolding fitsWords valuesIn hasTerms
-words-same t n ws = go (eqb t IpAddr) refl
-  where
-    go : (b : Bool) → eqb t IpAddr ≡ b → fitsWords t n (cond b (paired ws) ws) ≡ fitsWords t n ws
-    go true e = rw (eqb-true t 6 e)
-    go false e = refl
+unfolding fitsWords hasTerms
+words-same t n ws = unseen (λ u vs. fitsWords u n vs) (λ vs ws. refl) t ws
 
 terms-is : (t k : ℕ) (ls bs : List ℕ) → termsAscending (cut ls bs) && (isEmpty (cut ls bs) || (hasTerms t && not (eqb k 0))) ≡ fitsTerms t k ls bs
 unfolding fitsTerms termsRise

@@ -27,9 +27,9 @@ pub record Held (records : List (List ℕ)) (is os vs ws : List ℕ) : Type 0 wh
   pub alive : total aliveWords (recordsOf records) ≤ length ws
 
 -- a record's words are as many for each of its values
-words-many : (r : SegmentRecord) → recordWords r ≡ r .values * wordsPerValue (r .type)
+record-words : (r : SegmentRecord) → recordWords r ≡ r .values * wordsPerValue (r .type)
 unfolding recordWords
-words-many r = refl
+record-words r = refl
 
 -- the run of each count, behind those of the segments before
 module _ (f : SegmentRecord → ℕ) (records : List (List ℕ)) (section : List ℕ) (u : total f (recordsOf records) ≤ length section) (k : ℕ) (h : k < length records) where
@@ -58,7 +58,7 @@ module _ (records : List (List ℕ)) (ids offsets values lengths bytes words : L
         values-are = ap (valuesIn (recordAt records k .type)) (run-there recordWords records values (u .values) k h);
         count = sym (values-many (recordAt records k) (drop (total recordWords (take k (recordsOf records))) values) fits);
         unit = refl;
-        long = add-sub-cancel-left (startAt recordWords records k) (recordWords (recordAt records k)) ∙ words-many (recordAt records k);
+        long = add-sub-cancel-left (startAt recordWords records k) (recordWords (recordAt records k)) ∙ record-words (recordAt records k);
         alive-are = run-there aliveWords records words (u .alive) k h;
         ids-lie = lies-there (λ r. r .ids) records ids (u .ids) k h;
         offsets-lie = lies-there (λ r. r .offsets) records offsets (u .offsets) k h;

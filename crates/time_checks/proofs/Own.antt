@@ -9,16 +9,16 @@ use lib.ListN.{length, take, drop, length-drop}
 use lib.Seq.{length-take-le}
 use lib.Dec.{T, eqb, ltb, leb}
 use lib.Ieee.Fits.{and-l, and-r}
-use borrow.Author.Tests.{le-leb, lt-ltb, le-ltb, eqb-true}
+use borrow.Author.Tests.{le-leb, lt-ltb, le-ltb}
 use Rattle.definitions.specs.Lists.{all, any, count, upFrom, upTo, sum, notFalling}
-use Rattle.definitions.specs.Words.{IpAddr, valuesIn}
+use Rattle.definitions.specs.Words.{valuesIn}
 use Rattle.definitions.specs.Segment.{Segment, SegmentRecord, Sections, Input, wordsFor, aliveWords, recordWords, firstSegment, afterFirst, segmentsFrom, segmentsOf}
 use Rattle.definitions.specs.Row.{bitAt, isAlive, aliveRows, rowValues, isPresent, noType}
 use Rattle.definitions.specs.Types.{isKnownType, DateTime}
 use Rattle.definitions.specs.Checks.{Check, firstOf, Passed}
 use Rattle.definitions.specs.Answer.{total, segmentCodesWrong, codesWrong, aliveWrong, indexFits, bitPastRows, aliveAddresses, segmentChecks, plainChecks, checksToSeven}
 use Rattle.definitions.specs.TimeOrder.{TimeInput, timeOf, timesWrong, timeOwnChecks, timeChecks, timeAnswer}
-use Rattle.definitions.proofs.Words.{values-plain}
+use Rattle.definitions.proofs.Words.{unseen}
 use Rattle.definitions.proofs.Accept.{index-fits}
 use Rattle.definitions.proofs.Checks.{first-stays, first-passed, all-passed, passes}
 use Rattle.definitions.proofs.TimeOrder.{filter-count, alive-total}
@@ -71,11 +71,7 @@ not-and false b = refl
 
 -- addresses are no times, whatever their words
 words-times : (t : ℕ) (b : Bool) (ws : List ℕ) → (eqb t noType || eqb t DateTime) && (b && timesRise (valuesIn t ws)) ≡ (eqb t noType || eqb t DateTime) && (b && timesRise ws)
-words-times t b ws = go (eqb t IpAddr) refl
-  where
-    go : (a : Bool) → eqb t IpAddr ≡ a → (eqb t noType || eqb t DateTime) && (b && timesRise (valuesIn t ws)) ≡ (eqb t noType || eqb t DateTime) && (b && timesRise ws)
-    go true e = rw (eqb-true t IpAddr e)
-    go false e = ap (λ (vs : List ℕ). (eqb t noType || eqb t DateTime) && (b && timesRise vs)) (values-plain t e ws)
+words-times t b ws = unseen (λ u vs. (eqb u noType || eqb u DateTime) && (b && timesRise vs)) (λ vs ws. refl) t ws
 
 pub times-all : (rs : List SegmentRecord) (s : Sections) → T (all indexFits (segmentsFrom rs s)) → timesWrong (segmentsFrom rs s) ≡ not (timesFrom rs (s .offsets) (s .values))
 unfolding timesWrong timesFrom fitsTimes firstSegment afterFirst

@@ -3,11 +3,11 @@ use Prim.Native.Nat.{ℕ, suc, _≤_, _<_, suc-le-suc}
 use native.Mathlib.Omega.{arith}
 use mathlib.Core.Path.{_≡_, refl, sym, ap, _∙_, subst}
 use mathlib.Core.List.{List, [], map}
-use mathlib.Core.Bool.{Bool, true, false, not, _&&_, _||_, false≢true}
+use mathlib.Core.Bool.{false, not, _&&_, _||_}
 use lib.ListN.{length, getD, length-map}
 use lib.Seq.{ext-getD}
 use lib.Dec.{T, eqb, ltb}
-use borrow.Author.Tests.{ltb-false, not-false, eqb-true}
+use borrow.Author.Tests.{ltb-false, not-false}
 use Rattle.definitions.specs.Lists.{all, any, upTo, notFalling}
 use Rattle.definitions.specs.Words.{IpAddr}
 use Rattle.definitions.specs.Segment.{Segment, segmentsFrom, recordFrom, address as at}
@@ -17,7 +17,7 @@ use Rattle.definitions.specs.Join.{absent}
 use Rattle.definitions.specs.Checks.{Passed}
 use Rattle.definitions.specs.Answer.{indexFits, aliveAddresses, plainChecks}
 use Rattle.definitions.specs.TimeOrder.{TimeInput, timeOf, keyOf, timeOrder, timesWrong, timeOwnChecks, timeChecks, timeAnswer}
-use Rattle.definitions.proofs.Words.{values-plain}
+use Rattle.definitions.proofs.Words.{values-plain, not-address}
 use Rattle.definitions.proofs.Accept.{index-fits}
 use Rattle.definitions.proofs.Checks.{all-passed, passed-append, passes}
 use Rattle.definitions.proofs.TimeOrder.{order-length}
@@ -44,11 +44,7 @@ use Rattle.lists.proofs.Lists.{all-at}
 
 -- a column that 12 lets pass is of times, or none
 no-address : (t : ℕ) → not (eqb t noType) && not (eqb t DateTime) ≡ false → eqb t IpAddr ≡ false
-no-address t h = go (eqb t IpAddr) refl
-  where
-    go : (b : Bool) → eqb t IpAddr ≡ b → b ≡ false
-    go true e = absurd (false≢true (sym h ∙ ap (λ (n : ℕ). not (eqb n noType) && not (eqb n DateTime)) (eqb-true t IpAddr e)))
-    go false e = refl
+no-address t h = not-address (λ n. not (not (eqb n noType) && not (eqb n DateTime))) refl t (ap not h)
 
 module _ (records : List (List ℕ)) (ids offsets values lengths bytes alive : List ℕ) (space : ℕ) where
   abbrev input : TimeInput
