@@ -1,4 +1,5 @@
-/* The proved joiner of play-log columns, their time order and the converter of old segments, for C. Link with target/staticlib/libjadmirus.a (rt staticlib jadmirus).
+/* The proved joiner of play-log columns, their time order, the converter of old segments, and plays withdrawn and reinstated, for C. Link with
+ * target/staticlib/libjadmirus.a (rt staticlib jadmirus).
  *
  * The proof takes for granted what a caller in C must see to: each pointer is of as many elements as the count after it says (where the count is 0, any aligned
  * one that is not NULL), and no run that is written overlaps another run. */
@@ -20,6 +21,9 @@ extern "C" {
  * A value is one 64-bit word, of an unknown type too, but one of type 6, an IPv6 address, is two, the high word first. Numbers of values (in records, offsets,
  * checks 4 and 7, and out_numbers) count such an address once; values_count and out_values_count are in words.
  *
+ * A record is nine numbers. The ninth is how many rows are alive: with flag 1 the number of set alive bits, else the number of rows (of type 255 too);
+ * jadmirus_withdraw and jadmirus_reinstate keep it.
+ *
  * Returns the answer. The checks run in the order of this list, each over all segments, and the first that fails gives its number:
  *
  *    0  accepted: the lists are written, and out_numbers
@@ -29,7 +33,7 @@ extern "C" {
  *   19  a segment of kind 3: jadmirus_convert makes it one of kind 4
  *    4  row ids, offsets or the number of values don't fit their kind
  *    5  a value or the terms don't fit their type
- *    6  an alive bit past the rows, or an alive set in a stacked join
+ *    6  an alive bit past the rows, an alive set in a stacked join, or a ninth number that is wrong, in any one segment
  *    7  rows, values or term bytes sum above 4294967294
  *    8  ordered, and fewer working bytes than all rows plus all terms
  *    9  the addresses are not the alive rows, each once (ordered), or there are any (stacked)
@@ -43,7 +47,7 @@ extern "C" {
 uint32_t jadmirus_join(
     uint32_t mode,                                               /* 0 stacked, 1 in the order of the addresses */
     uint32_t required,                                           /* the required type, 255 for none */
-    const uint32_t (*records)[8], size_t records_count,          /* type, kind, rows, numbers of ids, offsets, values and terms, flag */
+    const uint32_t (*records)[9], size_t records_count,          /* type, kind, rows, numbers of ids, offsets, values and terms, flag, number of alive rows */
     const uint32_t *ids, size_t ids_count,                       /* row ids of kinds 2 and 4, one segment's after another's; so all lists up to alive */
     const uint32_t *offsets, size_t offsets_count,               /* of kind 4, one more than ids */
     const uint64_t *values, size_t values_count,                 /* 64-bit words: two's complement (0, 7), IEEE bits (2), ordinals of the segment's terms (3, 4), 0 or 1 (5), high and low word (6) */
@@ -71,7 +75,7 @@ uint32_t jadmirus_join(
  *
  * With any number but 0 neither output is changed. Elements beyond the addresses keep their values. */
 uint32_t jadmirus_time_order(
-    const uint32_t (*records)[8], size_t records_count,          /* as above, and so the next six */
+    const uint32_t (*records)[9], size_t records_count,          /* as above, and so the next six */
     const uint32_t *ids, size_t ids_count,
     const uint32_t *offsets, size_t offsets_count,
     const uint64_t *values, size_t values_count,                 /* times: 64-bit two's complement; of any other type, which gives 12, in words as above */
@@ -82,21 +86,21 @@ uint32_t jadmirus_time_order(
     uint64_t out_count[1]);                                      /* the number of addresses, which is the number of alive rows */
 
 /* Converts one stored segment of kind 3, old multivalued, to kind 4: each row has the same values in the same order afterwards. Only row ids, offsets and the
- * record's kind and numbers of both are new; values, terms and alive set stay what they are, and are not copied. Returns the answer, the first in the order of
- * this list:
+ * record's kind and numbers of both are new; values, terms, alive set and the number of alive rows stay what they are, and no list of them is copied. Returns the
+ * answer, the first in the order of this list:
  *
  *    0  accepted: the lists are written, and out_record
  *    2  a list's length differs from the record's number (that of values is in words, two for each of type 6), or the term bytes from the term lengths' sum
  *    3  a kind other than 3, an unknown type or flag, or type 255
  *    4  there are row ids, or not one more offset than rows; the offsets don't begin with 0, they fall, or the last one is not the number of values
  *    5  a value or the terms don't fit their type
- *    6  an alive bit past the rows
+ *    6  an alive bit past the rows, or a ninth number that is wrong
  *   11  an output is shorter than its list
  *
  * With any number but 0 no output is changed. Elements beyond a list keep their values. It doesn't convert in place: out_offsets is not offsets, nor out_record
  * record. */
 uint32_t jadmirus_convert(
-    const uint32_t record[8],                                    /* as one of the records above; the lists are this segment's alone */
+    const uint32_t record[9],                                    /* as one of the records above; the lists are this segment's alone */
     const uint32_t *ids, size_t ids_count,                       /* none: kind 3 has no row ids */
     const uint32_t *offsets, size_t offsets_count,               /* one more than rows: where each row's values begin, and their number at the end */
     const uint64_t *values, size_t values_count,                 /* in words, as above */
@@ -105,7 +109,48 @@ uint32_t jadmirus_convert(
     const uint64_t *alive, size_t alive_count,
     uint32_t *out_ids, size_t out_ids_count,                     /* the rows with a value, ascending; values_count elements always suffice, and so does the number of rows */
     uint32_t *out_offsets, size_t out_offsets_count,             /* 0, then the running total after each such row; one more than for out_ids suffices */
-    uint32_t out_record[8]);                                     /* the record, with kind 4 and the numbers of new ids and offsets */
+    uint32_t out_record[9]);                                     /* the record, with kind 4 and the numbers of new ids and offsets */
+
+/* Withdraws a row of a segment, or reinstates it: the row's alive bit and the record's ninth number are changed, and nothing else of the record is looked at but rows
+ * and flag. Returns the answer, the first in the order of this list:
+ *
+ *    0  accepted: out_changed is 1; or the row was so already, nothing is changed and out_changed is 0
+ *    2  the alive words don't fit the record: not one for each 64 rows or part of them with flag 1, or any with another flag
+ *    3  an unknown flag
+ *    6  an alive bit past the rows, or a ninth number that is wrong
+ *   15  the row is not below the segment's rows
+ *   16  the segment has no alive set (flag 0)
+ *
+ * With any number but 0 neither record, alive words nor out_changed is changed. For a record and alive words that pass 2 and 6, and that nobody else writes, the
+ * ninth number is that of the set bits after any sequence of these calls.
+ *
+ * A call reads all alive words once, for 6; apart from that, its time doesn't grow with the rows. Many single calls for one long segment thus take time that grows
+ * with the square of its rows: hand the rows over in one call of those below. */
+uint32_t jadmirus_withdraw(
+    uint32_t record[9],                                          /* as one of the records above; the ninth number is written */
+    uint64_t *alive, size_t alive_count,                         /* this segment's alive words alone, which are written */
+    uint32_t row,
+    uint64_t out_changed[1]);                                    /* how many rows changed */
+
+uint32_t jadmirus_reinstate(
+    uint32_t record[9],
+    uint64_t *alive, size_t alive_count,
+    uint32_t row,
+    uint64_t out_changed[1]);
+
+/* The same for a run of rows, in any order: all of them, or none. Accepted, it leaves what single calls in turn leave, so a row that is named twice changes once.
+ * out_changed counts the rows that changed; 15 is given if any row is not below the segment's rows. Without rows the other answers are the same. */
+uint32_t jadmirus_withdraw_rows(
+    uint32_t record[9],
+    uint64_t *alive, size_t alive_count,
+    const uint32_t *rows, size_t rows_count,                     /* the rows to withdraw */
+    uint64_t out_changed[1]);
+
+uint32_t jadmirus_reinstate_rows(
+    uint32_t record[9],
+    uint64_t *alive, size_t alive_count,
+    const uint32_t *rows, size_t rows_count,                     /* the rows to reinstate */
+    uint64_t out_changed[1]);
 
 #ifdef __cplusplus
 }

@@ -8,11 +8,13 @@ output. It does not join: no list of an answer is computed from the segments, bu
 byte strings, sorted, in which each old term is looked up.
 
 Standard input is hexadecimal numbers. First how many cases; then of each case its name (its bytes, after their number), 0 for a join, 1 for a time
-order or 2 for a conversion, mode, required type; records (each of its numbers), ids, offsets, values, term lengths, term bytes, alive words and addresses, each list after
-its count (records and addresses counted whole); the working bytes lent and the elements lent of ids, offsets, values, term lengths, term bytes and
-map, or, of a time order, the addresses lent, or, of a conversion, the ids and offsets lent. This file alone knows that order, with the program: RECORD, SECTIONS and OUTPUTS below.
+order, 2 for a conversion, or 3 to 6 for withdraw and reinstate of one row and of a run, mode, required type; records (each of its numbers), ids, offsets, values,
+term lengths, term bytes, alive words and addresses, each list after its count (records and addresses counted whole); the working bytes lent and the elements lent of
+ids, offsets, values, term lengths, term bytes and map, or, of a time order, the addresses lent, or, of a conversion, the ids and offsets lent, or, of withdraw and
+reinstate, the rows named, after their count. This file alone knows that order, with the program: RECORD, SECTIONS and OUTPUTS below.
 
-A case in standard output: the name, the answer and its numbers, then each output to its last element, and the working bytes."""
+A case in standard output: the name, the answer and its numbers, then each output to its last element, and the working bytes; of withdraw and reinstate the
+record and the alive words as they are left."""
 import re
 import sys
 
@@ -31,6 +33,7 @@ RECORD = [
     ("values", lambda s: len(s["values"])),
     ("terms", lambda s: len(s["terms"])),
     ("flag", lambda s: 0 if s["alive"] is None else 1),
+    ("alive-rows", lambda s: s["rows"] if s["alive"] is None else sum(bin(w).count("1") for w in s["alive"])),
 ]
 # The sections after the records, in their order, and a segment's run in each.
 SECTIONS = [
@@ -115,14 +118,17 @@ JOINED = {
 }
 SORTED = {"addresses": (MANY, address)}
 CONVERTED = {"ids": (MANY, number), "offsets": (MANY, number), "record": (MANY, number)}
+MARKED = {"changed": (ONE, number), "alive-rows": (ONE, number), "alive": (MANY, number)}
+MARKS = ["withdraw", "reinstate", "withdraw-rows", "reinstate-rows"]
 # The entries: their number in a stored case, what an answer of 0 has, and the spaces lent.
 ENTRIES = {
     "join": (0, JOINED, SPACES),
     "time-order": (1, SORTED, ["addresses"]),
     "convert": (2, CONVERTED, ["ids", "offsets"]),
 }
+ENTRIES.update({name: (3 + k, MARKED, []) for k, name in enumerate(MARKS)})
 DICTIONARY = {"held": (MANY, number), "kept": (MANY, term)}
-PARTS = ["join", "time-order", "convert", "segment", "space", "answer", "dictionary", "rule"]
+PARTS = list(ENTRIES) + ["segment", "space", "answer", "dictionary", "rule"]
 
 
 def entries(words, form):
@@ -170,6 +176,10 @@ def read_case(name, words):
         if part == "join":
             case["call"] = {"mode": named(MODES)(words[0]), "required": TYPES["none"], "addresses": []}
             case["call"].update(entries(words[1:], JOIN))
+        elif part in MARKS:
+            case["named"] = [number(w) for w in words]
+            if not part.endswith("-rows") and len(words) != 1:
+                raise ValueError("one row")
         elif part in ENTRIES:
             entries(words, {})
         elif part == "segment":
@@ -257,6 +267,10 @@ def spaces(case):
     return [case["space"].get(n, USUAL) for n in ENTRIES[case["entry"]][2]]
 
 
+def record(s):
+    return [s.get("announced-" + n, usual(s)) for n, usual in RECORD]
+
+
 def stored(case):
     """the numbers of a case in their stored order"""
 
@@ -266,14 +280,15 @@ def stored(case):
         return [len(elements) // width] + elements
 
     name, segments = list(case["name"].encode()), case["segments"]
-    if len(name) > NAME or max(spaces(case)) > LIST:
+    if len(name) > NAME or max(spaces(case), default=0) > LIST:
         sys.exit("case %s: the name or a space is larger than the program's place for it" % case["name"])
     call = case["call"]
     numbers = counted(name) + [ENTRIES[case["entry"]][0], call["mode"], call["required"]]
-    numbers += counted([s.get("announced-" + n, usual(s)) for s in segments for n, usual in RECORD], len(RECORD))
+    numbers += counted([n for s in segments for n in record(s)], len(RECORD))
     for _, run in SECTIONS:
         numbers += counted([x for s in segments for x in run(s)])
-    return numbers + counted([x for a in call["addresses"] for x in a], 2) + spaces(case)
+    numbers += counted([x for a in call["addresses"] for x in a], 2)
+    return numbers + (counted(case["named"]) if case["entry"] in MARKS else spaces(case))
 
 
 def line(case, name, elements, space, before):
@@ -291,6 +306,13 @@ def printed(case):
         if answer == 0:
             head += ", record" + "".join(" %d" % n for n in column["record"])
         return [head] + [line(case, n, column[n], space, str(BEFORE)) for n, space in zip(["ids", "offsets"], lent)]
+    if case["entry"] in MARKS:
+        (s,) = case["segments"]
+        numbers, words = record(s), s["alive"] or []
+        if answer == 0:
+            head += ", changed %d" % column["changed"]
+            numbers, words = numbers[:-1] + [column["alive-rows"]], column["alive"]
+        return [head, line(case, "record", numbers, len(RECORD), ""), line(case, "alive", words, len(words), "")]
     if case["entry"] == "time-order":
         pairs = ["%d,%d" % p for p in column["addresses"]]
         if answer == 0:

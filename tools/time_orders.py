@@ -90,11 +90,16 @@ def order(segments):
     return [(n, r) for _, n, r in sorted(found)]
 
 
+def alive_rows(s):
+    """a record's ninth number: the alive rows, all of them without an alive set"""
+    return len(s["cells"]) if s["alive"] is None else sum(s["alive"])
+
+
 def sections(segments):
     x = {"records": [], "ids": [], "offsets": [], "values": [], "lengths": [], "bytes": [], "alive": []}
     for s in segments:
         ids, offsets, values, words = lay(s)
-        x["records"].append([s["type"], s["kind"], len(s["cells"]), len(ids), len(offsets), len(values), 0, 0 if s["alive"] is None else 1])
+        x["records"].append([s["type"], s["kind"], len(s["cells"]), len(ids), len(offsets), len(values), 0, 0 if s["alive"] is None else 1, alive_rows(s)])
         x["ids"] += ids
         x["offsets"] += offsets
         x["values"] += values
@@ -180,14 +185,41 @@ def refused(fault):
         x = sections(segments)
         k = sum((r[2] + 63) // 64 for r in x["records"][:at] if r[7] == 1)
         x["alive"][k] |= 4
+        x["records"][at][8] += random.choice([0, 1])  # counted or not
         answer = 6
+    if fault.startswith("number"):
+        x, answer = wrong_number(fault, segments, at), 6
+    if fault == "bool, number":
+        x["records"][at][0] = 5
+        x["records"][at][8] = 0
+        answer = 5
+    if fault == "kind 3, number":
+        x["records"][at][8] += 1
     if fault == "many":
         x = sections([{"type": 255, "kind": 0, "cells": [], "alive": None}] * 257)
         answer = 1
     if fault == "rows":
-        x = {"records": [[255, 0, 2**32 - 1, 0, 0, 0, 0, 0]], "ids": [], "offsets": [], "values": [], "lengths": [], "bytes": [], "alive": []}
+        x = {"records": [[255, 0, 2**32 - 1, 0, 0, 0, 0, 0, 2**32 - 1]], "ids": [], "offsets": [], "values": [], "lengths": [], "bytes": [], "alive": []}
         answer = 7
     return x, len(order(segments)) + random.randrange(4), answer, []
+
+
+def wrong_number(fault, segments, at):
+    """a wrong number of alive rows, before 7, 11 and 12"""
+    bad = segments[at]
+    if fault == "number, alive set":
+        bad["alive"] = [True, False]
+    if fault == "number, falling":
+        bad["cells"] = [[5], [4]]
+    x = sections(segments)
+    right = x["records"][at][8]
+    x["records"][at][8] = random.choice([n for n in [right + 1, right - 1, 0, len(bad["cells"]), 2**32 - 1] if n != right])
+    if fault == "numbers that cancel":
+        x["records"][at][8] = random.randrange(right)
+        x["records"][at - 1][8] += right - x["records"][at][8]
+    if fault == "number, rows":
+        x["records"].append([255, 0, 2**32 - 1, 0, 0, 0, 0, 0, 2**32 - 1])
+    return x
 
 
 def written(kind, text, typ=7):
@@ -291,9 +323,10 @@ def in_runs(long, lost):
 
 
 def main():
-    cases = [accepted() for _ in range(382)]
+    cases = [accepted() for _ in range(325)]
     faults = ["falling", "falling across zero", "falling, withdrawn", "falling, optional", "several", "several, withdrawn", "type", "addresses", "addresses, a word each", "lengths", "unknown type", "lists", "bool", "past rows", "rows"]
-    faults += ["kind 3", "kind 3, wrong lists", "kind 3 beside ids 1 1", "kind 3 beside an unknown type", "kind 3, no column", "kind 3, unknown flag", "kind 3, lengths"]
+    faults += ["kind 3", "kind 3, wrong lists", "kind 3 beside ids 1 1", "kind 3 beside an unknown type", "kind 3, no column", "kind 3, unknown flag", "kind 3, lengths", "kind 3, number"]
+    faults += ["number", "number, alive set", "number, falling", "number, rows", "numbers that cancel", "bool, number"]
     cases += [refused(f) for f in faults for _ in range(3)] + [refused("many")]
     cases += [by_hand(segments, expected) for segments, expected in BY_HAND]
     cases += [restarted() for _ in range(20)]

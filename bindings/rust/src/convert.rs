@@ -1,5 +1,5 @@
 //! The converter: segments of kind 3, old multivalued, become segments of kind 4.
-use crate::alive::AliveSet;
+use crate::alive::{AliveSet, alive_number};
 use crate::codes::{ColumnType, kind};
 use crate::ffi;
 use crate::refusal::Refusal;
@@ -21,6 +21,7 @@ pub struct OldSegment {
     values: Vec<u64>,
     terms: Terms,
     alive: Option<AliveSet>,
+    alive_rows: u32,
 }
 
 impl OldSegment {
@@ -32,6 +33,7 @@ impl OldSegment {
             values,
             terms: Terms::default(),
             alive: None,
+            alive_rows: rows,
         }
     }
 
@@ -41,9 +43,16 @@ impl OldSegment {
         self
     }
 
-    /// The segment with an alive set, which it keeps.
+    /// The segment with an alive set, which it keeps, and its number of alive rows.
     pub fn with_alive(mut self, alive: AliveSet) -> OldSegment {
+        self.alive_rows = alive_number(self.rows.into(), Some(alive.words()));
         self.alive = Some(alive);
+        self
+    }
+
+    /// The segment with the number of alive rows that was stored with it; a wrong one is refused.
+    pub fn with_alive_rows(mut self, number: u32) -> OldSegment {
+        self.alive_rows = number;
         self
     }
 
@@ -59,6 +68,7 @@ impl OldSegment {
                 values: value_count(Some(self.typ), &self.values)?,
                 terms: count(self.terms.len())?,
                 flag: u32::from(self.alive.is_some()),
+                alive_rows: self.alive_rows,
             },
             ids: &[],
             offsets: &self.offsets,
@@ -69,7 +79,8 @@ impl OldSegment {
         };
         let Converted { ids, offsets, .. } = old.convert()?;
         let index = Index::NewMultivalued { ids, offsets };
-        let new = Segment::from_parts(Some(self.typ), index, self.rows, self.values, self.terms);
+        let rows = self.rows.into();
+        let new = Segment::from_parts(Some(self.typ), index, rows, self.values, self.terms);
         Ok(match self.alive {
             Some(alive) => new.with_alive(alive),
             None => new,

@@ -86,6 +86,40 @@ unsafe extern "C" {
         out_offsets_count: usize,
         out_record: *mut Record,
     ) -> u32;
+
+    fn jadmirus_withdraw(
+        record: *mut Record,
+        alive: *mut u64,
+        alive_count: usize,
+        row: u32,
+        out_changed: *mut [u64; 1],
+    ) -> u32;
+
+    fn jadmirus_reinstate(
+        record: *mut Record,
+        alive: *mut u64,
+        alive_count: usize,
+        row: u32,
+        out_changed: *mut [u64; 1],
+    ) -> u32;
+
+    fn jadmirus_withdraw_rows(
+        record: *mut Record,
+        alive: *mut u64,
+        alive_count: usize,
+        rows: *const u32,
+        rows_count: usize,
+        out_changed: *mut [u64; 1],
+    ) -> u32;
+
+    fn jadmirus_reinstate_rows(
+        record: *mut Record,
+        alive: *mut u64,
+        alive_count: usize,
+        rows: *const u32,
+        rows_count: usize,
+        out_changed: *mut [u64; 1],
+    ) -> u32;
 }
 
 /// The memory that a join is lent to write in.
@@ -107,7 +141,7 @@ pub(crate) struct Outputs {
 pub(crate) fn join(s: &Sections, out: &mut Outputs) -> u32 {
     // Sound: every pointer is a live slice's or array's, followed by that slice's own length; what
     // is written is borrowed as `mut`, each list another one, so nothing overlaps. An empty slice's
-    // pointer is aligned, as the library asks. Record and Address are `repr(C)` structs of eight
+    // pointer is aligned, as the library asks. Record and Address are `repr(C)` structs of nine
     // and two 32-bit numbers, so runs of them are laid out as the C declaration says. The library
     // keeps no pointer.
     unsafe {
@@ -206,6 +240,55 @@ pub(crate) fn convert(
             offsets.as_mut_ptr(),
             offsets.len(),
             record,
+        )
+    }
+}
+
+/// What a call makes of rows.
+#[derive(Clone, Copy, Debug, PartialEq, Eq)]
+pub(crate) enum Mark {
+    Withdrawn,
+    Alive,
+}
+
+/// The answer of a call for one row. 0: the record and the alive words are changed as far as they
+/// have to be, and the number of rows that changed is written.
+pub(crate) fn mark_row(
+    mark: Mark,
+    record: &mut Record,
+    alive: &mut [u64],
+    row: u32,
+    changed: &mut [u64; 1],
+) -> u32 {
+    let call = match mark {
+        Mark::Withdrawn => jadmirus_withdraw,
+        Mark::Alive => jadmirus_reinstate,
+    };
+    // Sound for the reasons given in `join`.
+    unsafe { call(record, alive.as_mut_ptr(), alive.len(), row, changed) }
+}
+
+/// The same for several rows: all of them, or none.
+pub(crate) fn mark_rows(
+    mark: Mark,
+    record: &mut Record,
+    alive: &mut [u64],
+    rows: &[u32],
+    changed: &mut [u64; 1],
+) -> u32 {
+    let call = match mark {
+        Mark::Withdrawn => jadmirus_withdraw_rows,
+        Mark::Alive => jadmirus_reinstate_rows,
+    };
+    // Sound for the reasons given in `join`.
+    unsafe {
+        call(
+            record,
+            alive.as_mut_ptr(),
+            alive.len(),
+            rows.as_ptr(),
+            rows.len(),
+            changed,
         )
     }
 }
@@ -322,6 +405,7 @@ mod tests {
             values: 3,
             terms: 0,
             flag: 0,
+            alive_rows: 3,
         },
         ids: &[],
         offsets: &[0, 2, 2, 3],
@@ -416,5 +500,142 @@ mod tests {
             answer(|cut| (cut.record.kind, cut.offsets) = (4, &[1, 2, 2, 3])),
             3
         );
+    }
+    /// A wrong number of alive rows, after 5 and before 11; and the number is kept.
+    #[test]
+    fn alive_rows_of_the_converter() {
+        let mut old = OLD;
+        for wrong in [0, 2, 4, u32::MAX] {
+            old.record.alive_rows = wrong;
+            assert_eq!(converted(&old, 0, 0).0, 6, "{wrong}");
+            old.record.typ = 5;
+            assert_eq!(converted(&old, 0, 0).0, 5, "{wrong}");
+            old.record.typ = 1;
+        }
+        (old.record.flag, old.alive) = (1, Some(&[5][..]));
+        assert_eq!(converted(&old, 0, 0).0, 6);
+        old.record.alive_rows = 2;
+        converts(&old);
+    }
+
+    /// Rows, flag, number of alive rows and alive words.
+    type Set<'a> = (u32, u32, u32, &'a [u64]);
+
+    /// A record whose type and kind a join would refuse, and whose lengths stand for nothing that
+    /// is lent.
+    fn record((rows, flag, alive_rows, _): Set<'_>) -> Record {
+        Record {
+            typ: 9,
+            kind: 3,
+            rows,
+            ids: 1,
+            offsets: 2,
+            values: 3,
+            terms: 4,
+            flag,
+            alive_rows,
+        }
+    }
+
+    /// The answer and how many rows changed (77 is what was there before), the record and the words.
+    fn outcome(
+        set: Set<'_>,
+        call: impl FnOnce(&mut Record, &mut [u64], &mut [u64; 1]) -> u32,
+    ) -> ((u32, u64), Record, Vec<u64>) {
+        let (mut record, mut words, mut changed) = (record(set), set.3.to_vec(), [77]);
+        let answer = call(&mut record, &mut words, &mut changed);
+        ((answer, changed[0]), record, words)
+    }
+
+    /// A call for a run of rows, and one for a single row alike.
+    fn marks(mark: Mark, rows: &[u32], set: Set<'_>, left: Set<'_>, expected: (u32, u64)) {
+        let left = (expected, record(left), left.3.to_vec());
+        let run = outcome(set, |r, w, c| mark_rows(mark, r, w, rows, c));
+        assert_eq!(run, left, "{mark:?} {rows:?} {set:?}");
+        if let [row] = *rows {
+            let one = outcome(set, |r, w, c| mark_row(mark, r, w, row, c));
+            assert_eq!(one, left, "{mark:?} {row} {set:?}");
+        }
+    }
+
+    fn changes(mark: Mark, rows: &[u32], set: Set<'_>, left: Set<'_>, changed: u64) {
+        marks(mark, rows, set, left, (0, changed));
+    }
+
+    /// Both calls refuse the same, and leave everything as it was.
+    fn refuses(answer: u32, rows: &[u32], set: Set<'_>) {
+        for mark in [Mark::Withdrawn, Mark::Alive] {
+            marks(mark, rows, set, set, (answer, 77));
+        }
+    }
+
+    const ALL: u64 = u64::MAX;
+
+    #[test]
+    fn a_row_withdrawn_or_reinstated() {
+        let withdraw = |row, set, left, n| changes(Mark::Withdrawn, &[row], set, left, n);
+        let reinstate = |row, set, left, n| changes(Mark::Alive, &[row], set, left, n);
+        withdraw(1, (3, 1, 3, &[7]), (3, 1, 2, &[5]), 1);
+        withdraw(1, (3, 1, 2, &[5]), (3, 1, 2, &[5]), 0);
+        reinstate(1, (3, 1, 2, &[5]), (3, 1, 3, &[7]), 1);
+        reinstate(2, (3, 1, 2, &[5]), (3, 1, 2, &[5]), 0);
+        // The last alive row, and the only row.
+        withdraw(2, (3, 1, 1, &[4]), (3, 1, 0, &[0]), 1);
+        reinstate(0, (1, 1, 0, &[0]), (1, 1, 1, &[1]), 1);
+        // The second word, and the highest bit of a word.
+        reinstate(64, (65, 1, 0, &[0, 0]), (65, 1, 1, &[0, 1]), 1);
+        withdraw(65, (66, 1, 65, &[ALL, 2]), (66, 1, 64, &[ALL, 0]), 1);
+        withdraw(63, (64, 1, 64, &[ALL]), (64, 1, 63, &[ALL >> 1]), 1);
+        reinstate(63, (64, 1, 63, &[ALL >> 1]), (64, 1, 64, &[ALL]), 1);
+    }
+
+    /// Each answer, and those that it comes before.
+    #[test]
+    fn answers_2_3_6_15_and_16() {
+        // A word too few, one too many; any without an alive set or with an unknown flag.
+        refuses(2, &[0], (65, 1, 1, &[1]));
+        refuses(2, &[0], (1, 1, 1, &[1, 0]));
+        refuses(2, &[0], (0, 1, 0, &[0]));
+        refuses(2, &[1], (3, 0, 3, &[7]));
+        refuses(2, &[1], (3, 2, 3, &[7]));
+        refuses(2, &[3], (3, 0, 2, &[7]));
+        refuses(2, &[65], (65, 1, 9, &[1]));
+        refuses(3, &[1], (3, 2, 3, &[]));
+        refuses(3, &[3], (3, u32::MAX, 2, &[]));
+        // A bit past the rows, counted or not; a wrong number, of set bits or of rows.
+        refuses(6, &[0], (3, 1, 4, &[15]));
+        refuses(6, &[0], (3, 1, 3, &[15]));
+        refuses(6, &[0], (65, 1, 1, &[0, 2]));
+        refuses(6, &[0], (3, 1, 2, &[7]));
+        refuses(6, &[1], (3, 1, 3, &[5]));
+        refuses(6, &[0], (3, 1, 1, &[0]));
+        refuses(6, &[1], (3, 0, 2, &[]));
+        refuses(6, &[3], (3, 1, 2, &[7]));
+        refuses(6, &[3], (3, 0, 2, &[]));
+        refuses(15, &[3], (3, 1, 3, &[7]));
+        refuses(15, &[0], (0, 1, 0, &[]));
+        refuses(15, &[u32::MAX], (3, 1, 3, &[7]));
+        refuses(15, &[3], (3, 0, 3, &[]));
+        refuses(15, &[0], (0, 0, 0, &[]));
+        refuses(16, &[1], (3, 0, 3, &[]));
+    }
+
+    /// All rows of a run, or none.
+    #[test]
+    fn runs_of_rows() {
+        let withdraw = |rows: &[u32], set, left, n| changes(Mark::Withdrawn, rows, set, left, n);
+        let reinstate = |rows: &[u32], set, left, n| changes(Mark::Alive, rows, set, left, n);
+        // One is withdrawn already; one is named twice; none at all.
+        withdraw(&[0, 1, 2], (3, 1, 2, &[5]), (3, 1, 0, &[0]), 2);
+        withdraw(&[1, 1], (3, 1, 3, &[7]), (3, 1, 2, &[5]), 1);
+        withdraw(&[], (3, 1, 2, &[5]), (3, 1, 2, &[5]), 0);
+        reinstate(&[65, 0, 64], (66, 1, 1, &[1, 0]), (66, 1, 3, &[1, 3]), 2);
+        reinstate(&[2, 0, 2], (3, 1, 2, &[5]), (3, 1, 2, &[5]), 0);
+        // An absent row, be it the last, comes before 16; 6 and 16 are given without rows too.
+        refuses(15, &[0, 1, 3], (3, 1, 3, &[7]));
+        refuses(15, &[3, 0], (3, 1, 0, &[0]));
+        refuses(15, &[0, 3], (3, 0, 3, &[]));
+        refuses(16, &[], (3, 0, 3, &[]));
+        refuses(6, &[], (3, 1, 3, &[5]));
     }
 }

@@ -181,8 +181,8 @@ impl Joined {
     }
 }
 
-/// A joined column serves as a segment again, with its lists and no alive set. The map is no part
-/// of the column.
+/// A joined column serves as a segment again, with its lists and no alive set: all its rows are
+/// alive. The map is no part of the column.
 impl From<Joined> for Segment {
     fn from(joined: Joined) -> Segment {
         let index = match (joined.typ, joined.class) {
@@ -194,7 +194,8 @@ impl From<Joined> for Segment {
                 offsets: joined.offsets,
             },
         };
-        Segment::from_parts(joined.typ, index, joined.rows, joined.values, joined.terms)
+        let rows = joined.rows.into();
+        Segment::from_parts(joined.typ, index, rows, joined.values, joined.terms)
     }
 }
 

@@ -3,7 +3,8 @@
 //! A column is kept in segments. [`join`] makes them one: stacked, segment after segment, or in
 //! the order of a list of addresses, from which withdrawn rows are left out. [`time_order`] gives
 //! that list for a column of times. [`convert`] makes an old stored segment one that can be joined.
-//! What can't be done is refused with a [`Refusal`], by its number.
+//! [`Segment::withdraw`] and [`Segment::reinstate`] change which rows of a segment are alive, that
+//! is, not withdrawn. What can't be done is refused with a [`Refusal`], by its number.
 //!
 //! ```
 //! use jadmirus::{Class, Order, Refusal, Segment, Value, join, time_order};
@@ -43,6 +44,14 @@
 //! assert_eq!(month.row(14).collect::<Vec<_>>(), [Value::Str("Air")]);
 //! // Moondog's only play is withdrawn, so the name is no longer kept.
 //! assert!(month.terms().iter().all(|term| term != b"Moondog"));
+//!
+//! // It was broadcast after all: reinstated in both columns, it is in the month again.
+//! let (mut artists, mut times) = (artists, times);
+//! artists[1].reinstate(1)?;
+//! times[1].reinstate(1)?;
+//! let month = join(&artists, Order::Ordered(&time_order(&times)?), None)?;
+//! assert_eq!((month.rows(), times[1].alive_rows()), (16, 3));
+//! assert_eq!(month.row(7).collect::<Vec<_>>(), [Value::Str("Moondog")]);
 //! # Ok(())
 //! # }
 //! ```
@@ -60,6 +69,7 @@ mod segment;
 pub mod sheet;
 mod terms;
 mod wire;
+mod withdraw;
 
 pub use alive::AliveSet;
 pub use codes::{Class, ColumnType};
@@ -71,6 +81,7 @@ pub use sections::{Address, Record, Sections};
 pub use segment::{Index, Segment};
 pub use terms::Terms;
 pub use wire::{WireError, WireFault};
+pub use withdraw::Marked;
 
 /// In which order the rows of a joined column stand.
 #[derive(Clone, Copy, Debug, PartialEq, Eq)]
@@ -126,7 +137,8 @@ pub fn time_order(segments: &[Segment]) -> Result<Vec<Address>, Refusal> {
 }
 
 /// Converts a stored segment of kind 3, old multivalued, to kind 4, which can be joined. Each row
-/// has the same values in the same order afterwards, and terms and alive set are kept.
+/// has the same values in the same order afterwards, and terms, alive set and number of alive rows
+/// are kept.
 ///
 /// It is refused with [`Refusal::Lengths`], [`Refusal::RowLists`], [`Refusal::Contents`] or
 /// [`Refusal::AliveSet`], the first of them that applies.

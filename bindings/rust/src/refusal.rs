@@ -1,9 +1,9 @@
 use std::error::Error;
 use std::fmt;
 
-/// Why a join, a time order or a conversion was refused: the library's answers 1 to 12 and 19. The
-/// checks run in the order in which they stand here, 19 between 3 and 4, each over all segments,
-/// and the first that fails is told.
+/// Why a call was refused: the library's answers 1 to 12, 15, 16 and 19. The checks run in the order
+/// in which they stand here, 19 between 3 and 4, each over all segments, and the first that fails
+/// is told.
 #[derive(Clone, Copy, Debug, PartialEq, Eq, Hash)]
 #[non_exhaustive]
 pub enum Refusal {
@@ -19,7 +19,7 @@ pub enum Refusal {
     RowLists,
     /// 5: values or terms don't fit the type.
     Contents,
-    /// 6: an alive set past the rows, or in a stacked join.
+    /// 6: an alive set past the rows or in a stacked join, or a wrong number of alive rows.
     AliveSet,
     /// 7: rows, values or term bytes sum above 4294967294.
     TooLarge,
@@ -33,12 +33,16 @@ pub enum Refusal {
     OutputSpace,
     /// 12: no column of times, several times in a row, or falling times.
     Times,
+    /// 15: a row that is to be withdrawn or reinstated, and isn't below the segment's rows.
+    AbsentRow,
+    /// 16: no alive set, in which a row could be withdrawn or reinstated.
+    NoAliveSet,
     /// An answer that this crate doesn't know: the library is of another version.
     Unlisted(u32),
 }
 
 /// The answers but 0 in the order of the checks, each with its number, its name and its meaning.
-const LISTED: [(Refusal, u32, &str, &str); 13] = [
+const LISTED: [(Refusal, u32, &str, &str); 15] = [
     (
         Refusal::TooManySegments,
         1,
@@ -82,7 +86,8 @@ const LISTED: [(Refusal, u32, &str, &str); 13] = [
         Refusal::AliveSet,
         6,
         "alive set",
-        "An alive set marks a row past the segment's rows, or stands in a stacked join.",
+        "An alive set marks a row past the segment's rows or stands in a stacked join, or a \
+         segment's number of alive rows is wrong.",
     ),
     (
         Refusal::TooLarge,
@@ -122,6 +127,19 @@ const LISTED: [(Refusal, u32, &str, &str); 13] = [
         "times",
         "A column is not one of times, a row has several times, or times fall within a segment.",
     ),
+    (
+        Refusal::AbsentRow,
+        15,
+        "absent row",
+        "A row to withdraw or to reinstate is not below the segment's number of rows.",
+    ),
+    (
+        Refusal::NoAliveSet,
+        16,
+        "no alive set",
+        "The segment has no alive set, so its rows can't be withdrawn or reinstated; give it one \
+         first.",
+    ),
 ];
 
 const UNLISTED: (&str, &str) = (
@@ -130,8 +148,8 @@ const UNLISTED: (&str, &str) = (
 );
 
 impl Refusal {
-    /// The answers 1 to 12 and 19, in the order of the checks.
-    pub fn all() -> [Refusal; 13] {
+    /// The answers 1 to 12, 15, 16 and 19, in the order of the checks.
+    pub fn all() -> [Refusal; 15] {
         LISTED.map(|(refusal, _, _, _)| refusal)
     }
 

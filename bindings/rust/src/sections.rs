@@ -1,5 +1,5 @@
 //! The level of the library's own lists: what a call is lent, list by list.
-use crate::alive::{is_alive, words_for};
+use crate::alive::{alive_number, is_alive, words_for};
 use crate::codes::{ColumnType, NO_TYPE, kind, mode, words_per_value};
 use crate::joined::Joined;
 use crate::refusal::Refusal;
@@ -23,6 +23,9 @@ pub struct Record {
     pub terms: u32,
     /// 1 if the segment has an alive set, else 0.
     pub flag: u32,
+    /// How many rows are alive: as many as the alive set has set bits, or all rows if the segment
+    /// has none. Every call refuses another number with [`Refusal::AliveSet`].
+    pub alive_rows: u32,
 }
 
 impl Record {
@@ -42,6 +45,11 @@ impl Record {
         } else {
             0
         }
+    }
+
+    /// The number of alive rows that is to stand in the record, if these are its alive words.
+    pub(crate) fn alive_number(&self, words: &[u64]) -> u32 {
+        alive_number(self.rows.into(), (self.flag == 1).then_some(words))
     }
 
     /// Whether the segment is one that only the converter takes.
@@ -178,15 +186,12 @@ impl Sections {
     }
 
     /// How many rows are not withdrawn, if the sections fit the records; else any number.
+    /// They are counted: the records' own numbers may be wrong.
     pub(crate) fn alive_rows(&self) -> u64 {
-        let mut words = self.alive.iter();
-        let alive_in = |r: &Record| match r.flag {
-            1 => words
-                .by_ref()
-                .take(r.alive_words())
-                .map(|w| u64::from(w.count_ones()))
-                .sum(),
-            _ => u64::from(r.rows),
+        let mut words = &*self.alive;
+        let alive_in = |r: &Record| {
+            let number = r.alive_words().min(words.len());
+            u64::from(r.alive_number(take(&mut words, number)))
         };
         self.records.iter().map(alive_in).sum()
     }
@@ -268,6 +273,11 @@ impl<'a> Cut<'a> {
         self.term_lengths
             .iter()
             .map(move |&n| take(&mut bytes, n as usize))
+    }
+
+    /// The number of alive rows that is to stand in the record.
+    pub fn alive_number(&self) -> u32 {
+        self.record.alive_number(self.alive.unwrap_or_default())
     }
 
     pub fn is_alive(&self, row: u32) -> bool {

@@ -1,4 +1,4 @@
-use crate::alive::{AliveSet, words_for};
+use crate::alive::{AliveSet, alive_number, words_for};
 use crate::codes::{ColumnType, code_of, kind, words_per_value};
 use crate::ip;
 use crate::refusal::Refusal;
@@ -56,32 +56,31 @@ pub struct Segment {
     values: Vec<u64>,
     terms: Terms,
     alive: Option<AliveSet>,
+    alive_rows: u32,
 }
 
 /// Constructors by lists.
 impl Segment {
     /// A segment that lacks the column.
     pub fn no_column(rows: u32) -> Segment {
+        let rows = rows.into();
         Segment::from_parts(None, Index::Empty, rows, Vec::new(), Terms::default())
     }
 
     /// A column without values.
     pub fn empty(typ: ColumnType, rows: u32) -> Segment {
-        Segment::new(typ, Index::Empty, rows, Vec::new())
+        Segment::new(typ, Index::Empty, rows.into(), Vec::new())
     }
 
     /// One value in each row.
     pub fn full(typ: ColumnType, values: Vec<u64>) -> Segment {
         let rows = values.len() / typ.words_per_value();
-        Segment {
-            rows: rows as u64,
-            ..Segment::new(typ, Index::Full, 0, values)
-        }
+        Segment::new(typ, Index::Full, rows as u64, values)
     }
 
     /// One value in each row of the ids.
     pub fn optional(typ: ColumnType, rows: u32, ids: Vec<u32>, values: Vec<u64>) -> Segment {
-        Segment::new(typ, Index::Optional { ids }, rows, values)
+        Segment::new(typ, Index::Optional { ids }, rows.into(), values)
     }
 
     /// Any number of values in each row; see [`Index::NewMultivalued`].
@@ -92,7 +91,8 @@ impl Segment {
         offsets: Vec<u32>,
         values: Vec<u64>,
     ) -> Segment {
-        Segment::new(typ, Index::NewMultivalued { ids, offsets }, rows, values)
+        let index = Index::NewMultivalued { ids, offsets };
+        Segment::new(typ, index, rows.into(), values)
     }
 
     /// The segment with these terms, for values that are ordinals.
@@ -101,9 +101,20 @@ impl Segment {
         self
     }
 
-    /// The segment with an alive set, for an ordered join or a time order.
+    /// The segment with an alive set, for an ordered join or a time order, and with the set's
+    /// number of alive rows.
     pub fn with_alive(mut self, alive: AliveSet) -> Segment {
+        self.alive_rows = alive_number(self.rows, Some(alive.words()));
         self.alive = Some(alive);
+        self
+    }
+
+    /// The segment with the number of alive rows that was stored with it. Every call refuses a
+    /// wrong one with [`Refusal::AliveSet`]; the constructors and [`with_alive`] count for you.
+    ///
+    /// [`with_alive`]: Segment::with_alive
+    pub fn with_alive_rows(mut self, number: u32) -> Segment {
+        self.alive_rows = number;
         self
     }
 
@@ -116,24 +127,25 @@ impl Segment {
         self.with_alive(alive)
     }
 
-    fn new(typ: ColumnType, index: Index, rows: u32, values: Vec<u64>) -> Segment {
+    fn new(typ: ColumnType, index: Index, rows: u64, values: Vec<u64>) -> Segment {
         Segment::from_parts(Some(typ), index, rows, values, Terms::default())
     }
 
     pub(crate) fn from_parts(
         typ: Option<ColumnType>,
         index: Index,
-        rows: u32,
+        rows: u64,
         values: Vec<u64>,
         terms: Terms,
     ) -> Segment {
         Segment {
             typ,
             index,
-            rows: u64::from(rows),
+            rows,
             values,
             terms,
             alive: None,
+            alive_rows: alive_number(rows, None),
         }
     }
 }
@@ -165,6 +177,29 @@ impl Segment {
 
     pub fn alive(&self) -> Option<&AliveSet> {
         self.alive.as_ref()
+    }
+
+    /// The number of alive rows, which the segment keeps: all rows if it has no alive set.
+    pub fn alive_rows(&self) -> u32 {
+        self.alive_rows
+    }
+
+    /// What a call that withdraws or reinstates rows is lent: of the record, the library looks at
+    /// these numbers alone. The segment has the call's number of alive rows then.
+    pub(crate) fn lend_alive<T>(
+        &mut self,
+        call: impl FnOnce(&mut Record, &mut [u64]) -> Result<T, Refusal>,
+    ) -> Result<T, Refusal> {
+        let mut record = Record {
+            rows: u32::try_from(self.rows).map_err(|_| Refusal::TooLarge)?,
+            flag: u32::from(self.alive.is_some()),
+            alive_rows: self.alive_rows,
+            ..Record::default()
+        };
+        let words = self.alive.as_mut().map(AliveSet::words_mut);
+        let result = call(&mut record, words.unwrap_or_default());
+        self.alive_rows = record.alive_rows;
+        result
     }
 }
 
@@ -273,10 +308,7 @@ impl Segment {
             (rows, _) if rows as u64 == count => Index::Full,
             _ => Index::Optional { ids },
         };
-        Segment {
-            rows: count,
-            ..Segment::new(typ, index, 0, values.into_flattened())
-        }
+        Segment::new(typ, index, count, values.into_flattened())
     }
 }
 
@@ -305,6 +337,7 @@ impl Sections {
             values: value_count(segment.typ, &segment.values)?,
             terms: count(segment.terms.len())?,
             flag: u32::from(segment.alive.is_some()),
+            alive_rows: segment.alive_rows,
         };
         if let Some(alive) = &segment.alive {
             if alive.words().len() != words_for(rows) {
@@ -345,10 +378,11 @@ mod tests {
     /// What 32 bits can't count is not cut.
     #[test]
     fn too_many_rows() {
-        let segment = Segment {
+        let mut segment = Segment {
             rows: 1 << 32,
             ..Segment::no_column(0)
         };
+        assert_eq!(segment.withdraw(0), Err(Refusal::TooLarge));
         assert_eq!(Sections::of(&[segment]), Err(Refusal::TooLarge));
     }
 
@@ -356,8 +390,9 @@ mod tests {
     fn rows_withdrawn_in_turn() {
         let segment = Segment::no_column(65).without_rows([1, 64, 65, 200]);
         let words = |segment: &Segment| segment.alive.as_ref().unwrap().words().to_vec();
-        assert_eq!(words(&segment), [!2, 0]);
-        assert_eq!(words(&segment.without_rows([0])), [!3, 0]);
+        assert_eq!((words(&segment), segment.alive_rows), (vec![!2, 0], 63));
+        let again = segment.without_rows([0]);
+        assert_eq!((words(&again), again.alive_rows), (vec![!3, 0], 62));
     }
 
     #[test]

@@ -77,7 +77,15 @@ impl Sections {
         write_word(out, self.records.len() as u64)?;
         for r in &self.records {
             let numbers = [
-                r.typ, r.kind, r.rows, r.ids, r.offsets, r.values, r.terms, r.flag,
+                r.typ,
+                r.kind,
+                r.rows,
+                r.ids,
+                r.offsets,
+                r.values,
+                r.terms,
+                r.flag,
+                r.alive_rows,
             ];
             numbers
                 .iter()
@@ -182,6 +190,7 @@ impl<R: Read> Words<R> {
                 values: self.number("number of values")?,
                 terms: self.number("number of terms")?,
                 flag: self.number("flag")?,
+                alive_rows: self.number("number of alive rows")?,
             });
         }
         Ok(records)
@@ -279,6 +288,15 @@ mod tests {
             text,
             "byte 48: offset 4294967296 is too wide: it must fit 32 bits"
         );
+        let mut record = [&[2, 0, 255, 1], &[0; 8][..], &[1 << 32], &[0; 7]].concat();
+        let text = fault(&bytes(&record));
+        assert_eq!(
+            text,
+            "byte 96: number of alive rows 4294967296 is too wide: it must fit 32 bits"
+        );
+        record[12] -= 1;
+        let sections = Sections::read_wire(&bytes(&record)[..]).unwrap();
+        assert_eq!(sections.records[0].alive_rows, u32::MAX);
         let values = bytes(&[2, 0, 255, 0, 0, 0, 1, u64::MAX, 0, 0, 0, 0]);
         assert_eq!(Sections::read_wire(&values[..]).unwrap().values, [u64::MAX]);
     }

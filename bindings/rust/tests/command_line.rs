@@ -1,8 +1,9 @@
 //! The command line, as a process.
+mod common;
+
+use common::program::{accepted, file, jadmirus, run, wire};
 use std::fs;
-use std::io::Write;
 use std::path::PathBuf;
-use std::process::{Command, Output, Stdio};
 
 const C1: &str = "mode stacked\n\
     segment type Str kind Optional rows 2 ids 1 values 0 terms \"b\"\n\
@@ -12,52 +13,13 @@ const C1_LISTING: &str = "answer 0\ntype 4\nclass 1\nrows 4\nids 3 1 2 3\noffset
 const C13: &str = "segment type DateTime kind Optional rows 3 ids 0 2 values 10 30\n\
     segment type DateTime kind Optional rows 2 ids 1 values 20\n";
 
-fn jadmirus(words: &[&str], input: &[u8]) -> Output {
-    let mut child = Command::new(env!("CARGO_BIN_EXE_jadmirus"))
-        .args(words)
-        .stdin(Stdio::piped())
-        .stdout(Stdio::piped())
-        .stderr(Stdio::piped())
-        .spawn()
-        .unwrap();
-    // A program that has seen enough closes its input.
-    let _ = child.stdin.take().unwrap().write_all(input);
-    child.wait_with_output().unwrap()
-}
-
-/// Standard output, standard error and the exit status.
-fn run(words: &[&str], input: &[u8]) -> (String, String, i32) {
-    let output = jadmirus(words, input);
-    let text = |bytes| String::from_utf8(bytes).unwrap();
-    (
-        text(output.stdout),
-        text(output.stderr),
-        output.status.code().unwrap(),
-    )
-}
-
-fn accepted(words: &[&str], input: &[u8]) -> String {
-    let (out, err, status) = run(words, input);
-    assert_eq!((&*err, status), ("", 0), "{words:?}");
-    out
-}
-
-/// A file name in a folder of the tests' own.
-fn file(name: &str) -> String {
-    let folder = PathBuf::from(env!("CARGO_TARGET_TMPDIR"));
-    folder.join(name).to_str().unwrap().to_string()
-}
-
-fn wire(words: &[u64]) -> Vec<u8> {
-    words.iter().flat_map(|word| word.to_le_bytes()).collect()
-}
-
 #[test]
 fn join_of_a_sheet_and_of_its_wire_form() {
     assert_eq!(accepted(&["join", "-"], C1.as_bytes()), C1_LISTING);
     let encoded = jadmirus(&["encode", "-"], C1.as_bytes()).stdout;
     let expected = [
-        &[2, 0, 255, 2, 4, 2, 2, 1, 0, 1, 1, 0, 4, 1, 2, 0, 0, 2, 2, 0][..],
+        &[2, 0, 255, 2, 4, 2, 2, 1, 0, 1, 1, 0, 2][..],
+        &[4, 1, 2, 0, 0, 2, 2, 0, 2],
         &[1, 1, 0, 3, 0, 1, 0, 3, 1, 1, 1, 3, 98, 97, 98, 0, 0],
     ];
     assert_eq!(encoded, wire(&expected.concat()));
@@ -134,7 +96,7 @@ fn wire_form_of_addresses() {
     let sheet = "segment type IpAddr kind Full values 2001:db8::1 192.0.2.7";
     let encoded = jadmirus(&["encode", "-"], sheet.as_bytes()).stdout;
     let words = [
-        &[2, 0, 255, 1, 6, 1, 2, 0, 0, 2, 0, 0, 0, 0][..],
+        &[2, 0, 255, 1, 6, 1, 2, 0, 0, 2, 0, 0, 2, 0, 0][..],
         &[4, 0x2001_0db8_0000_0000, 1, 0, 0xffff_c000_0207, 0, 0, 0, 0],
     ];
     assert_eq!(encoded, wire(&words.concat()));
@@ -144,9 +106,11 @@ fn wire_form_of_addresses() {
     assert_eq!(shown, text);
     assert_eq!(jadmirus(&["encode", "-"], shown.as_bytes()).stdout, encoded);
     // An address without its second word: the sections stand as wholes, in words.
-    let halved = wire(&[2, 0, 255, 1, 6, 1, 1, 0, 0, 1, 0, 0, 0, 0, 1, 7, 0, 0, 0, 0]);
+    let halved = wire(&[
+        2, 0, 255, 1, 6, 1, 1, 0, 0, 1, 0, 0, 1, 0, 0, 1, 7, 0, 0, 0, 0,
+    ]);
     let shown = accepted(&["show", "-"], &halved);
-    assert!(shown.contains("\nrecord 6 1 1 0 0 1 0 0\n"), "{shown}");
+    assert!(shown.contains("\nrecord 6 1 1 0 0 1 0 0 1\n"), "{shown}");
     assert!(shown.contains("\nvalues 7\n"), "{shown}");
     assert_eq!(jadmirus(&["encode", "-"], shown.as_bytes()).stdout, halved);
     let (out, _, status) = run(&["check", "-"], &halved);
@@ -189,7 +153,7 @@ fn places_of_faults() {
             "segments: 257 are there, and a call takes at most 256",
         ),
         (
-            "record 1 1 1 0 0 1 0 0",
+            "record 1 1 1 0 0 1 0 0 1",
             "segment 0, values: the segments up to this one announce 1, and 0 are there",
         ),
         (
@@ -197,7 +161,7 @@ fn places_of_faults() {
             "segment 0, type 8: no known type",
         ),
         (
-            "record 6 1 1 0 0 1 0 0 values 3",
+            "record 6 1 1 0 0 1 0 0 1 values 3",
             "segment 0, words of values (an IpAddr has two): the segments up to this one announce \
              2, and 1 is there",
         ),
@@ -240,6 +204,14 @@ fn places_of_faults() {
         (
             "segment type IpAddr kind Full values ::1 terms \"a\"",
             "segment 0, terms: a column of type IpAddr has none",
+        ),
+        (
+            "segment rows 1 segment rows 2 alive-rows 1",
+            "segment 1, alive rows 1: without an alive set all rows are alive, 2",
+        ),
+        (
+            "mode ordered segment rows 2 withdrawn 0 alive-rows 2",
+            "segment 0, alive rows 2: the alive set has 1",
         ),
         (
             "mode ordered segment rows 1 alive 2",
@@ -336,7 +308,7 @@ fn conversion_of_a_sheet_and_of_its_wire_form() {
     let encode = |sheet: &str| jadmirus(&["encode", "-"], sheet.as_bytes()).stdout;
     let converted = jadmirus(&["convert", "-"], &encode(OLD)).stdout;
     let words = [
-        2, 0, 255, 1, 1, 4, 3, 2, 3, 3, 0, 0, 2, 0, 2, 3, 0, 2, 3, 3, 7, 8, 9, 0, 0, 0, 0,
+        2, 0, 255, 1, 1, 4, 3, 2, 3, 3, 0, 0, 3, 2, 0, 2, 3, 0, 2, 3, 3, 7, 8, 9, 0, 0, 0, 0,
     ];
     assert_eq!(converted, wire(&words));
     assert_eq!(converted, encode(CONVERTED));
@@ -355,7 +327,7 @@ fn conversion_of_addresses() {
     let [old, new] = [old, new].map(|sheet| jadmirus(&["encode", "-"], sheet.as_bytes()).stdout);
     assert_eq!(jadmirus(&["convert", "-"], &old).stdout, new);
     let words = [
-        &[2, 0, 255, 1, 6, 4, 3, 2, 3, 3, 0, 1, 2, 0, 2, 3, 0, 2, 3][..],
+        &[2, 0, 255, 1, 6, 4, 3, 2, 3, 3, 0, 1, 2, 2, 0, 2, 3, 0, 2, 3][..],
         &[6, 0, 1, 0, 0xffff_c000_0207, 0x2001_0db8_0000_0000, 1],
         &[0, 0, 1, 3, 0],
     ];
@@ -398,7 +370,7 @@ fn nothing_to_convert() {
         C1,
         CONVERTED,
         "# A comment, and no line end\nsegment type U64 kind Optional rows 3 ids 1 1 values 0 0",
-        "record 1 1 1 0 0 1 0 0\r\n",
+        "record 1 1 1 0 0 1 0 0 1\r\n",
     ];
     for sheet in sheets {
         assert_eq!(accepted(&["convert", "-"], sheet.as_bytes()), sheet);
@@ -500,6 +472,11 @@ fn refused_conversions() {
             "segment type U64 kind OldMultivalued offsets 0 1 values 7 alive 2",
             "segment 2, alive word 2 (the 1st): marks row 1, not below the number of rows, 1",
         ),
+        (
+            6,
+            "segment type U64 kind OldMultivalued offsets 0 1 values 7 alive-rows 0",
+            "segment 2, alive rows 0: without an alive set all rows are alive, 1",
+        ),
     ];
     for (answer, sheet, text) in cases {
         assert_eq!(
@@ -507,7 +484,7 @@ fn refused_conversions() {
             (format!("answer {answer}\n"), text.to_string())
         );
     }
-    let unfit = "record 1 3 1 0 2 1 0 0 offsets 0 1";
+    let unfit = "record 1 3 1 0 2 1 0 0 1 offsets 0 1";
     let (out, err, status) = run(&["convert", "-"], unfit.as_bytes());
     assert_eq!((&*out, status), ("answer 2\n", 1));
     let place = "segment 0, values: the segments up to this one announce 1, and 0 are there\n";
@@ -679,12 +656,12 @@ fn a_result_by_a_link() {
 #[test]
 fn sections_as_wholes() {
     let words = [
-        2, 0, 255, 1, 4, 1, 2, 0, 0, 2, 1, 0, 0, 0, 1, 7, 1, 3, 2, 97, 98, 1, 5, 1, 0, 9,
+        2, 0, 255, 1, 4, 1, 2, 0, 0, 2, 1, 0, 2, 0, 0, 1, 7, 1, 3, 2, 97, 98, 1, 5, 1, 0, 9,
     ];
     let input = wire(&words);
     let sheet = accepted(&["show", "-"], &input);
     assert!(sheet.contains("# segment 0, values: the segments up to this one announce 2"));
-    assert!(sheet.contains("\nrecord 4 1 2 0 0 2 1 0\n"), "{sheet}");
+    assert!(sheet.contains("\nrecord 4 1 2 0 0 2 1 0 2\n"), "{sheet}");
     assert_eq!(jadmirus(&["encode", "-"], sheet.as_bytes()).stdout, input);
 }
 
@@ -792,6 +769,18 @@ fn faults_of_sheets() {
             "line 2: a segment has 'alive' or 'withdrawn'",
         ),
         (
+            "segment rows 1\nalive-rows 4294967296",
+            "line 2: alive-rows: '4294967296' is no number from 0 to 4294967295",
+        ),
+        (
+            "segment rows 1 alive-rows\n",
+            "line 1: 'alive-rows' wants a word after it",
+        ),
+        (
+            "alive-rows 1",
+            "line 1: 'alive-rows' stands before the first 'segment'",
+        ),
+        (
             "segment rows 1 flag 1",
             "line 1: flag 1 says that an alive set follows",
         ),
@@ -827,7 +816,11 @@ fn faults_of_sheets() {
         ),
         (
             "record 1 2 3",
-            "line 1: 'record' wants eight numbers after it",
+            "line 1: 'record' wants nine numbers after it",
+        ),
+        (
+            "record 1 1 1 0 0 1 0 0 1 1",
+            "line 1: record: takes 9 numbers, and '1' begins no entry",
         ),
     ];
     for (sheet, text) in cases {
@@ -861,7 +854,17 @@ fn usage() {
     ] {
         assert!(accepted(words, b"").contains("jadmirus"), "{words:?}");
     }
-    for command in ["join", "order", "check", "convert", "encode", "show"] {
+    let commands = [
+        "join",
+        "order",
+        "check",
+        "convert",
+        "withdraw",
+        "reinstate",
+        "encode",
+        "show",
+    ];
+    for command in commands {
         let help = accepted(&[command, "--help"], b"");
         assert!(help.starts_with(&format!("jadmirus {command} ")));
         assert!(help.contains("Exit status: "));

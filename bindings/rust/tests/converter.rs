@@ -1,7 +1,10 @@
 //! The converter's examples, by the safe interface and by the sections.
+mod common;
+
+use common::{alive, sections};
 use jadmirus::{
     AliveSet, ColumnType, Index, OldSegment, Order, Record, Refusal, Sections, Segment, Value,
-    convert, join, sheet,
+    convert, join,
 };
 
 fn old(offsets: &[u32], values: &[u64]) -> OldSegment {
@@ -12,11 +15,6 @@ fn old(offsets: &[u32], values: &[u64]) -> OldSegment {
 fn new(rows: u32, ids: &[u32], offsets: &[u32], values: &[u64]) -> Segment {
     let (ids, offsets) = (ids.to_vec(), offsets.to_vec());
     Segment::new_multivalued(ColumnType::U64, rows, ids, offsets, values.to_vec())
-}
-
-/// The sections of a sheet.
-fn sections(sheet: &str) -> Sections {
-    sheet::read(sheet.as_bytes()).unwrap()
 }
 
 /// The refusal of a sheet's old segments, after which the sections are what they were.
@@ -53,10 +51,12 @@ fn one_value_in_each_row() {
 /// An alive set stays, and a withdrawn row keeps its values.
 #[test]
 fn alive_sets() {
-    let word = |word| AliveSet::from_words(vec![word]);
-    let segment = convert(old(&[0, 1, 1], &[7]).with_alive(word(2)));
-    assert_eq!(segment, Ok(new(2, &[0], &[0, 1], &[7]).with_alive(word(2))));
-    let past = old(&[0, 1, 1], &[7]).with_alive(word(4));
+    let segment = convert(old(&[0, 1, 1], &[7]).with_alive(alive(2)));
+    assert_eq!(
+        segment,
+        Ok(new(2, &[0], &[0, 1], &[7]).with_alive(alive(2)))
+    );
+    let past = old(&[0, 1, 1], &[7]).with_alive(alive(4));
     assert_eq!(convert(past), Err(Refusal::AliveSet));
     let long = old(&[0, 1, 1], &[7]).with_alive(AliveSet::from_words(vec![1, 0]));
     assert_eq!(convert(long), Err(Refusal::Lengths));
@@ -119,7 +119,7 @@ fn order_of_the_checks() {
     assert_eq!(refused(&three), Refusal::UnknownCode);
     let none = "segment type none kind OldMultivalued rows 0 offsets 0";
     assert_eq!(refused(none), Refusal::UnknownCode);
-    let two = "record 9 3 1 0 2 1 0 0 offsets 0 1";
+    let two = "record 9 3 1 0 2 1 0 0 1 offsets 0 1";
     assert_eq!(refused(two), Refusal::Lengths);
 }
 
@@ -144,16 +144,15 @@ fn whole_sections() {
     assert_eq!(after.ids, [2, 0, 2, 1, 1]);
     assert_eq!(after.offsets, [0, 2, 0, 2, 3, 0, 1]);
     let numbers = |r: &Record| {
-        [
-            r.typ, r.kind, r.rows, r.ids, r.offsets, r.values, r.terms, r.flag,
-        ]
+        let lists = [r.ids, r.offsets, r.values, r.terms];
+        ([r.typ, r.kind, r.rows], lists, [r.flag, r.alive_rows])
     };
     let records = [
-        [1, 4, 3, 1, 2, 2, 0, 0],
-        [1, 4, 3, 2, 3, 3, 0, 1],
-        [1, 2, 2, 1, 0, 1, 0, 0],
-        [1, 4, 2, 1, 2, 1, 0, 0],
-        [255, 0, 1, 0, 0, 0, 0, 0],
+        ([1, 4, 3], [1, 2, 2, 0], [0, 3]),
+        ([1, 4, 3], [2, 3, 3, 0], [1, 2]),
+        ([1, 2, 2], [1, 0, 1, 0], [0, 2]),
+        ([1, 4, 2], [1, 2, 1, 0], [0, 2]),
+        ([255, 0, 1], [0, 0, 0, 0], [0, 1]),
     ];
     assert!(after.records.iter().map(numbers).eq(records));
     let all_else = Sections {
@@ -181,7 +180,7 @@ fn other_segments_are_not_checked() {
         (beside.records[2].kind, &beside.ids[..]),
         (4, &[1, 1, 0][..])
     );
-    let mut unfit = sections("record 1 1 1 0 0 1 0 0");
+    let mut unfit = sections("record 1 1 1 0 0 1 0 0 1");
     let before = unfit.clone();
     assert_eq!(unfit.convert(), Ok(()));
     assert_eq!(unfit, before);

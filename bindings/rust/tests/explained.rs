@@ -1,36 +1,14 @@
 //! Thousands of small inputs from a fixed seed, sound and damaged: the explanation is held to the
 //! library's answer, and each input must come back from its sheet and from its wire form.
+mod common;
+
+use common::chance::Chance;
 use jadmirus::explain::{self, Fault};
 use jadmirus::{
-    Address, AliveSet, ColumnType, Joined, Order, Refusal, Sections, Segment, join, sheet,
+    Address, AliveSet, ColumnType, Joined, Order, Record, Refusal, Sections, Segment, join, sheet,
     time_order,
 };
 use std::collections::BTreeSet;
-
-/// A xorshift generator.
-struct Chance(u64);
-
-impl Chance {
-    fn next(&mut self) -> u64 {
-        self.0 ^= self.0 << 13;
-        self.0 ^= self.0 >> 7;
-        self.0 ^= self.0 << 17;
-        self.0.wrapping_mul(0x2545_f491_4f6c_dd1d)
-    }
-
-    fn below(&mut self, bound: usize) -> usize {
-        (self.next() >> 32) as usize % bound
-    }
-
-    fn one_of<T: Copy>(&mut self, list: &[T]) -> T {
-        list[self.below(list.len())]
-    }
-
-    /// Once in so many times.
-    fn once_in(&mut self, times: usize) -> bool {
-        self.below(times) == 0
-    }
-}
 
 const WORDS: [u64; 7] = [
     0,
@@ -170,16 +148,33 @@ fn alive_rows(sections: &Sections) -> Vec<Address> {
     let mut words = sections.alive.iter().copied();
     let mut addresses = Vec::new();
     for (segment, record) in (0..).zip(&sections.records) {
-        let count = if record.flag == 1 {
-            record.rows.div_ceil(64) as usize
-        } else {
-            0
-        };
-        let alive = AliveSet::from_words(words.by_ref().take(count).collect());
+        let words = words.by_ref().take(alive_words(record));
+        let alive = AliveSet::from_words(words.collect());
         let rows = (0..record.rows).filter(|&row| record.flag == 0 || alive.is_alive(row));
         addresses.extend(rows.map(|row| Address { segment, row }));
     }
     addresses
+}
+
+fn alive_words(record: &Record) -> usize {
+    match record.flag {
+        1 => record.rows.div_ceil(64) as usize,
+        _ => 0,
+    }
+}
+
+/// Makes the numbers of alive rows what they are to be.
+fn recount(s: &mut Sections) {
+    let mut words = s.alive.iter();
+    for record in &mut s.records {
+        let words = words.by_ref().take(alive_words(record));
+        let set_bits = words.map(|word| word.count_ones()).sum();
+        record.alive_rows = if record.flag == 1 {
+            set_bits
+        } else {
+            record.rows
+        };
+    }
 }
 
 /// Changes, adds or removes an element.
@@ -222,8 +217,9 @@ fn damage_record(chance: &mut Chance, s: &mut Sections, number: u32) {
     let place = chance.below(s.records.len());
     let last = place + 1 == s.records.len();
     let record = &mut s.records[place];
-    match chance.below(9) {
+    match chance.below(10) {
         0 => record.typ = chance.one_of(&[0, 1, 2, 3, 4, 5, 6, 7, 8, 255]),
+        9 => record.alive_rows = number,
         1 => record.kind = chance.below(6) as u32,
         2 => record.rows = number,
         3 => record.flag = chance.below(3) as u32,
@@ -294,7 +290,7 @@ fn agreed(found: Option<Fault>, answer: Option<Refusal>, sections: &Sections) ->
 fn answers_are_explained() {
     let mut chance = Chance(0x9e37_79b9_7f4a_7c15);
     let (mut met, mut met_converting) = (BTreeSet::new(), BTreeSet::new());
-    let mut met_with_addresses = BTreeSet::new();
+    let (mut met_with_addresses, mut met_marking) = (BTreeSet::new(), BTreeSet::new());
     for _ in 0..20_000 {
         let mut sections = call(&mut chance);
         if chance.once_in(4) {
@@ -302,6 +298,10 @@ fn answers_are_explained() {
         }
         for _ in 0..chance.below(3) {
             damage(&mut chance, &mut sections);
+        }
+        // Many damages make the number of alive rows wrong, which hides what comes after 6.
+        if !chance.once_in(8) {
+            recount(&mut sections);
         }
         let joined = sections.join();
         if let Ok(joined) = &joined
@@ -320,6 +320,9 @@ fn answers_are_explained() {
         let conversion = converted.convert().err();
         assert!(conversion.is_none() || converted == sections);
         met_converting.insert(agreed(explain::convert(&sections), conversion, &sections));
+        if !sections.records.is_empty() {
+            met_marking.insert(marked(&mut chance, &sections));
+        }
         comes_back(&sections);
     }
     // 1 needs 257 segments; 8 and 11 need less space than is ever lent.
@@ -327,6 +330,42 @@ fn answers_are_explained() {
         assert_eq!(Vec::from_iter(met), [0, 2, 3, 4, 5, 6, 7, 9, 10, 12, 19]);
     }
     assert_eq!(Vec::from_iter(met_converting), [0, 2, 3, 4, 5, 6]);
+    assert_eq!(Vec::from_iter(met_marking), [0, 2, 3, 6, 15, 16]);
+}
+
+/// The answer to withdrawing or reinstating rows of a segment. Refused, nothing changes; else the
+/// rows' bits and the segment's number of alive rows do, and nothing else.
+fn marked(chance: &mut Chance, before: &Sections) -> u32 {
+    let segment = chance.below(before.records.len());
+    let record = before.records[segment];
+    // Mostly rows that are there.
+    let past = usize::from(chance.once_in(8));
+    let most = (record.rows.min(70) as usize + past).max(1);
+    let rows: Vec<u32> = (0..chance.below(4))
+        .map(|_| chance.below(most) as u32)
+        .collect();
+    let (mut after, withdrawn) = (before.clone(), chance.once_in(2));
+    let answer = match withdrawn {
+        true => after.withdraw_rows(segment, &rows),
+        false => after.reinstate_rows(segment, &rows),
+    };
+    let mut expected = before.clone();
+    if answer.is_ok() {
+        let first = before.records[..segment].iter().map(alive_words).sum();
+        let words = &mut expected.alive[first..][..alive_words(&record)];
+        for row in rows.iter().map(|&row| row as usize) {
+            match withdrawn {
+                true => words[row / 64] &= !(1 << (row % 64)),
+                false => words[row / 64] |= 1 << (row % 64),
+            }
+        }
+        let number: u32 = words.iter().map(|word| word.count_ones()).sum();
+        expected.records[segment].alive_rows = number;
+        assert_eq!(answer, Ok(number.abs_diff(record.alive_rows)));
+    }
+    assert_eq!(after, expected);
+    let found = explain::mark_rows(before, segment, &rows);
+    agreed(found, answer.err(), before)
 }
 
 /// The column of numbers that the high words are (0), or the low ones (1).

@@ -1,46 +1,27 @@
 -- The set bits of the words of an alive set, word by word. Assumes nothing.
-use Prim.Native.Nat.{ℕ, zero, suc, _+_, _*_, _/_, _%_, _^_, _-_, _≤_, _<_}
-use native.Mathlib.Nat.{add-zero, zero-add, suc-add, add-suc, div-one, pow-suc}
+use Prim.Native.Nat.{ℕ, zero, suc, _+_, _*_, _/_, _%_, _^_, _≤_, _<_}
+use native.Mathlib.Nat.{zero-add, add-suc, div-one, pow-suc}
 use native.Mathlib.Numerals.{add-one}
 use native.Mathlib.Omega.{arith}
 use mathlib.Core.Path.{_≡_, refl, sym, ap, ap₂, _∙_}
 use mathlib.Core.List.{List, _∷_}
-use mathlib.Core.Bool.{Bool, true, false, cond}
-use lib.ListN.{length, getD, take, drop, drop-of-length-le}
-use lib.Seq.{drop-cons, getD-take, length-take-le}
+use mathlib.Core.Bool.{Bool, cond}
+use lib.ListN.{length, getD, drop, drop-of-length-le}
+use lib.Seq.{drop-cons}
 use lib.Dec.{eqb}
 use lib.Pow.{shr-shr}
 use lib.Count.{ones, ones-step, ones-le}
-use Rattle.definitions.specs.Lists.{count, upFrom, upTo}
-use Rattle.definitions.specs.Row.{bitAt}
-use Rattle.alive_set.specs.Alive.{aliveCount}
+use Rattle.definitions.specs.Lists.{count, upFrom}
+use Rattle.definitions.specs.Row.{bitAt, setBits}
+use Rattle.definitions.proofs.AliveNumber.{count-same, count-split, odd-or-even, bits-count}
 
 -- ---- counts over numbers in sequence
-
--- tests that agree on the numbers count the same
-pub count-same : (p q : ℕ → Bool) (s n : ℕ) → ((r : ℕ) → r < s + n → p r ≡ q r) → count p (upFrom s n) ≡ count q (upFrom s n)
-count-same p q s zero h = refl
-count-same p q s (suc n) h =
-    ap (λ (b : Bool). cond b (suc (count p (upFrom (suc s) n))) (count p (upFrom (suc s) n))) (h s (omega arith))
-    ∙ ap (λ (c : ℕ). cond (q s) (suc c) c) (count-same p q (suc s) n (λ r l. h r (omega arith)))
 
 -- numbers that are moved up by k
 count-moved : (p : ℕ → Bool) (k s n : ℕ) → count p (upFrom (k + s) n) ≡ count (λ r. p (k + r)) (upFrom s n)
 count-moved p k s zero = refl
 count-moved p k s (suc n) =
     ap (λ (c : ℕ). cond (p (k + s)) (suc c) c) (ap (λ (m : ℕ). count p (upFrom m n)) (sym (add-suc k s)) ∙ count-moved p k (suc s) n)
-
-pub count-split : (p : ℕ → Bool) (s a b : ℕ) → count p (upFrom s (a + b)) ≡ count p (upFrom s a) + count p (upFrom (s + a) b)
-count-split p s zero b = rw (zero-add b, add-zero s) (sym (zero-add (count p (upFrom s b))))
-count-split p s (suc a) b =
-    rw (suc-add a b)
-    (go (count-split p (suc s) a b ∙ ap (λ (m : ℕ). count p (upFrom (suc s) a) + count p (upFrom m b)) (suc-add s a ∙ sym (add-suc s a))) (p s))
-  where
-    go : count p (upFrom (suc s) (a + b)) ≡ count p (upFrom (suc s) a) + count p (upFrom (s + suc a) b)
-        → (t : Bool) → cond t (suc (count p (upFrom (suc s) (a + b)))) (count p (upFrom (suc s) (a + b)))
-        ≡ cond t (suc (count p (upFrom (suc s) a))) (count p (upFrom (suc s) a)) + count p (upFrom (s + suc a) b)
-    go rest true = ap suc rest ∙ sym (suc-add (count p (upFrom (suc s) a)) (count p (upFrom (s + suc a) b)))
-    go rest false = rest
 
 -- ---- the digits of one word
 
@@ -50,11 +31,6 @@ digit n r = eqb (n / 2 ^ r % 2) 1
 -- one place up is half the number
 digit-up : (n r : ℕ) → digit n (1 + r) ≡ digit (n / 2) r
 digit-up n r = ap (λ (m : ℕ). eqb (m % 2) 1) (sym (shr-shr n 1 r))
-
-odd-or-even : (m c : ℕ) → m < 2 → cond (eqb m 1) (suc c) c ≡ m + c
-odd-or-even zero c h = sym (zero-add c)
-odd-or-even (suc zero) c h = omega arith
-odd-or-even (suc (suc m)) c h = absurd (omega arith)
 
 digits-ones : (d n : ℕ) → n < 2 ^ d → count (digit n) (upFrom 0 d) ≡ ones n
 digits-ones zero n h =
@@ -87,59 +63,21 @@ next-words w ws r =
     let m : (64 + r) % 64 ≡ r % 64 = omega arith in
     rw (q, m)
 
-count-words : (w : ℕ) (ws : List ℕ) → w < 2 ^ 64 → aliveCount (w ∷ ws) ≡ ones w + aliveCount ws
-unfolding aliveCount
-count-words w ws h =
+bits-words : (w : ℕ) (ws : List ℕ) → w < 2 ^ 64 → setBits (w ∷ ws) ≡ ones w + setBits ws
+bits-words w ws h =
     let e : 64 * suc (length ws) ≡ 64 + 64 * length ws = omega arith in
-    ap (λ (n : ℕ). count (bitAt (w ∷ ws)) (upFrom 0 n)) e
+    bits-count (w ∷ ws)
+    ∙ ap (λ (n : ℕ). count (bitAt (w ∷ ws)) (upFrom 0 n)) e
     ∙ count-split (bitAt (w ∷ ws)) 0 64 (64 * length ws)
-    ∙ ap (λ (n : ℕ). n + count (bitAt (w ∷ ws)) (upFrom 64 (64 * length ws))) (count-same (bitAt (w ∷ ws)) (digit w) 0 64 (first-word w ws) ∙ digits-ones 64 w h)
-    ∙ ap (λ (n : ℕ). ones w + n) (count-moved (bitAt (w ∷ ws)) 64 0 (64 * length ws) ∙ count-same (λ r. bitAt (w ∷ ws) (64 + r)) (bitAt ws) 0 (64 * length ws) (λ r l. next-words w ws r))
+    ∙ ap₂ (λ (n m : ℕ). n + m)
+    (count-same (bitAt (w ∷ ws)) (digit w) 0 64 (first-word w ws) ∙ digits-ones 64 w h)
+    (count-moved (bitAt (w ∷ ws)) 64 0 (64 * length ws) ∙ count-same (λ r. bitAt (w ∷ ws) (64 + r)) (bitAt ws) 0 (64 * length ws) (λ r l. next-words w ws r) ∙ sym (bits-count ws))
 
 -- ---- a counting loop
 
-pub count-step : (words : List ℕ) (i : ℕ) → i < length words → getD words i 0 < 2 ^ 64 → aliveCount (drop i words) ≡ ones (getD words i 0) + aliveCount (drop (i + 1) words)
-count-step words i h l = rw (add-one i, drop-cons words i 0 h) (count-words (getD words i 0) (drop (suc i) words) l)
+pub count-step : (words : List ℕ) (i : ℕ) → i < length words → getD words i 0 < 2 ^ 64 → setBits (drop i words) ≡ ones (getD words i 0) + setBits (drop (i + 1) words)
+count-step words i h l = rw (add-one i, drop-cons words i 0 h) (bits-words (getD words i 0) (drop (suc i) words) l)
 
-pub count-end : (words : List ℕ) (i : ℕ) → length words ≤ i → aliveCount (drop i words) ≡ 0
-unfolding aliveCount
+pub count-end : (words : List ℕ) (i : ℕ) → length words ≤ i → setBits (drop i words) ≡ 0
+unfolding setBits
 count-end words i h = rw (drop-of-length-le words h)
-
--- ---- the first rows
-
-module _ (words : List ℕ) where
-  bit-front : (q r : ℕ) → r < 64 * q → bitAt (take q words) r ≡ bitAt words r
-  unfolding bitAt
-  bit-front q r h = ap (λ (w : ℕ). eqb (w / 2 ^ (r % 64) % 2) 1) (getD-take q words (r / 64) 0 (omega arith))
-
-  -- whole words, and the rows behind them
-  pub before-start : (q rows n : ℕ) → q ≤ length words → 64 * q ≤ rows → n ≡ aliveCount (take q words) → n + count (bitAt words) (upFrom (64 * q) (rows - 64 * q)) ≡ count (bitAt words) (upTo rows)
-  unfolding aliveCount
-  before-start q rows n h l e =
-      let k : length (take q words) ≡ q = length-take-le q words h in
-      let a : n ≡ count (bitAt words) (upFrom 0 (64 * q)) =
-      e ∙ ap (λ (m : ℕ). count (bitAt (take q words)) (upFrom 0 (64 * m))) k ∙ count-same (bitAt (take q words)) (bitAt words) 0 (64 * q) (λ r i. bit-front q r (omega arith)) in
-      let b = count-split (bitAt words) 0 (64 * q) (rows - 64 * q) in
-      ap₂ (λ (x y : ℕ). x + count (bitAt words) (upFrom y (rows - 64 * q))) a (sym (zero-add (64 * q)))
-      ∙ sym b ∙ ap (λ (m : ℕ). count (bitAt words) (upFrom 0 m)) (let z : 64 * q + (rows - 64 * q) ≡ rows = omega arith in z)
-
-  pub before-more : (r rows n m : ℕ) → r < rows → m ≡ cond (bitAt words r) (suc n) n → m + count (bitAt words) (upFrom (r + 1) (rows - (r + 1))) ≡ n + count (bitAt words) (upFrom r (rows - r))
-  before-more r rows n m h e = go (bitAt words r) refl e
-    where
-      rest : ℕ
-      rest = count (bitAt words) (upFrom (r + 1) (rows - (r + 1)))
-
-      step : count (bitAt words) (upFrom r (rows - r)) ≡ cond (bitAt words r) (suc rest) rest
-      step =
-          let a : rows - r ≡ suc (rows - (r + 1)) = omega arith in
-          ap (λ (k : ℕ). count (bitAt words) (upFrom r k)) a
-          ∙ ap (λ (k : ℕ). cond (bitAt words r) (suc (count (bitAt words) (upFrom k (rows - (r + 1))))) (count (bitAt words) (upFrom k (rows - (r + 1))))) (sym (add-one r))
-
-      go : (b : Bool) → bitAt words r ≡ b → m ≡ cond (bitAt words r) (suc n) n → m + rest ≡ n + count (bitAt words) (upFrom r (rows - r))
-      go true q f = let s = step ∙ ap (λ (b : Bool). cond b (suc rest) rest) q in let g = f ∙ ap (λ (b : Bool). cond b (suc n) n) q in omega arith
-      go false q f = let s = step ∙ ap (λ (b : Bool). cond b (suc rest) rest) q in let g = f ∙ ap (λ (b : Bool). cond b (suc n) n) q in omega arith
-
-  pub before-end : (r rows n k : ℕ) → rows ≤ r → n + count (bitAt words) (upFrom r (rows - r)) ≡ k → n ≡ k
-  before-end r rows n k h e =
-      let z : count (bitAt words) (upFrom r (rows - r)) ≡ 0 = ap (λ (m : ℕ). count (bitAt words) (upFrom r m)) (let y : rows - r ≡ 0 = omega arith in y) in
-      omega arith

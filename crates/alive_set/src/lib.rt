@@ -1,11 +1,10 @@
-// The alive set of one segment: whether a row is alive, and how many are.
+// The alive set of one segment: whether a row is alive, how many are, and a row's bit set or cleared.
 ghost use mathlib.Core.Path.{_≡_};
-ghost use Prim.Native.Nat.{suc, _<_, _≤_, _*_};
-ghost use mathlib.Core.Bool.{cond};
+ghost use Prim.Native.Nat.{_<_, _≤_, _*_, _/_, _%_};
 ghost use lib.ListN.{length};
-ghost use Rattle.definitions.specs.Lists.{count, upTo};
-ghost use Rattle.definitions.specs.Row.{bitAt};
-ghost use Rattle.alive_set.specs.Alive.{aliveCount};
+ghost use Rattle.definitions.specs.Row.{bitAt, setBits};
+ghost use mathlib.Core.Bool.{true, false};
+ghost use Rattle.definitions.specs.Lists.{withBit, withoutBit};
 
 // Whether the row's bit is set; row 0 is the lowest bit of the first word.
 pub fn is_alive(words: &[u64], row: usize) -> bool
@@ -17,10 +16,10 @@ pub fn is_alive(words: &[u64], row: usize) -> bool
     (w >> b) % 2 == 1
 }
 
-// How many rows of an alive set are alive, by counting the ones of each word.
+// How many bits are set, by counting the ones of each word.
 pub fn count_alive(words: &[u64]) -> usize
     requires { ⌜ length (now words) ≤ 67108864 ⌝ }
-    ensures { λ r. ⌜ r ≡ aliveCount (now (words .entry)) ⌝ }
+    ensures { λ r. ⌜ r ≡ setBits (now (words .entry)) ⌝ }
 {
     let mut n: usize = 0;
     let mut i: usize = 0;
@@ -31,29 +30,22 @@ pub fn count_alive(words: &[u64]) -> usize
     n
 }
 
-// Counts one more for an alive row.
-fn count_on(n: usize, alive: bool) -> usize
-    requires { ⌜ n ≤ 4294967296 ⌝ }
-    ensures { λ r. ⌜ r ≡ cond alive (suc n) n ⌝ }
+// Sets the row's bit, which is not set.
+pub fn set_alive(words: &mut [u64], row: usize)
+    requires { ⌜ row < 64 * length (now words) ⌝ }
+    requires { ⌜ bitAt (now words) row ≡ false ⌝ }
+    ensures { λ _. ⌜ now (words .exit) ≡ withBit (now (words .entry)) (row / 64) (row % 64) ⌝ }
 {
-    if alive {
-        return n + 1;
-    }
-    n
+    let b = (row % 64) as u64;
+    words[row / 64] += 1u64 << b;
 }
 
-// How many of the first rows are alive: whole words by their ones, the rest row by row.
-pub fn alive_before(words: &[u64], rows: usize) -> usize
-    requires { ⌜ rows ≤ 64 * length (now words) ⌝ }
-    requires { ⌜ rows ≤ 4294967296 ⌝ }
-    ensures { λ r. ⌜ r ≡ count (bitAt (now (words .entry))) (upTo rows) ⌝ }
+// Clears the row's bit, which is set.
+pub fn clear_alive(words: &mut [u64], row: usize)
+    requires { ⌜ row < 64 * length (now words) ⌝ }
+    requires { ⌜ bitAt (now words) row ≡ true ⌝ }
+    ensures { λ _. ⌜ now (words .exit) ≡ withoutBit (now (words .entry)) (row / 64) (row % 64) ⌝ }
 {
-    let whole = rows / 64;
-    let mut n = count_alive(&words[..whole]);
-    let mut r = 64 * whole;
-    while r < rows {
-        n = count_on(n, is_alive(words, r));
-        r += 1;
-    }
-    n
+    let b = (row % 64) as u64;
+    words[row / 64] -= 1u64 << b;
 }

@@ -4,6 +4,7 @@ ghost use mathlib.Core.Path.{_≡_};
 ghost use Rattle.case_text.specs.Counts.{Counts};
 ghost use Rattle.case_text.specs.Text.{capAt, digitOf, skipFrom, numberIn, cappedIn, rowIn, Listed};
 ghost use lib.ListN.{drop};
+ghost use Rattle.definitions.specs.Segment.{recordWidth};
 ghost use Prim.Native.Nat.{_≤_};
 
 // A number, and the place behind it.
@@ -163,7 +164,7 @@ pub fn read_bytes(text: &[u8], from: usize, out: &mut [u8]) -> Part
 }
 
 fn read_record(text: &[u8], from: usize) -> RecordAt
-    ensures { λ r. ⌜ (r .record, r .at) ≡ rowIn 8 (now (text .entry)) from ⌝ }
+    ensures { λ r. ⌜ (r .record, r .at) ≡ rowIn recordWidth (now (text .entry)) from ⌝ }
 {
     let a = number(text, from);
     let b = number(text, a.at);
@@ -173,6 +174,7 @@ fn read_record(text: &[u8], from: usize) -> RecordAt
     let f = number(text, e.at);
     let g = number(text, f.at);
     let h = number(text, g.at);
+    let i = number(text, h.at);
     let r = [
         narrow(a.value),
         narrow(b.value),
@@ -182,17 +184,18 @@ fn read_record(text: &[u8], from: usize) -> RecordAt
         narrow(f.value),
         narrow(g.value),
         narrow(h.value),
+        narrow(i.value),
     ];
     RecordAt {
         record: r,
-        at: h.at,
+        at: i.at,
     }
 }
 
 // Segment records, counted whole.
 pub fn read_records(text: &[u8], from: usize, out: &mut [segment::RecordNumbers]) -> Part
     ensures { λ r. ⌜ Counts (r .count) (now (out .exit)) ⌝ }
-    ensures { λ r. ⌜ Listed (rowIn 8 (now (text .entry))) (now (text .entry)) from (now (out .entry)) (r .count) (r .at) (now (out .exit)) ⌝ }
+    ensures { λ r. ⌜ Listed (rowIn recordWidth (now (text .entry))) (now (text .entry)) from (now (out .entry)) (r .count) (r .at) (now (out .exit)) ⌝ }
 {
     let c = number(text, from);
     let n = capped(c.value, out.len());

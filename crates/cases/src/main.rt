@@ -1,5 +1,5 @@
-// Stored cases through `merge::join`, `time_order::time_order` and `convert::convert`: the answer of each with its numbers, and all that stands in the
-// lent memory afterwards. Every element is 9 before a call, so what stands beyond a list is 9, and so is everything after a refusal but the working bytes.
+// Stored cases through `merge::join`, `time_order::time_order`, `convert::convert` and the calls of `withdraw`: the answer of each with its numbers, and all that
+// stands in the lent memory afterwards. Every element is 9 before a call, so what stands beyond a list is 9, and so is everything after a refusal but the working bytes.
 // cases.txt has the cases and what is expected of them, written from documents 01 and 02; tools/cases.py makes standard input and the expected output of it,
 // and says in what order a case is stored. Each list has place for 300 elements, a name for 100 bytes.
 ghost use Prim.Native.Nat.{ℕ};
@@ -7,7 +7,7 @@ ghost use mathlib.Core.List.{List};
 ghost use lib.ListN.{replicate};
 ghost use Rattle.case_text.specs.Counts.{Counts};
 
-// Which entry is called, 1 for the time order and 2 for the converter, and the numbers that only a join takes.
+// Which entry is called: 0 join, 1 time order, 2 converter, 3 withdraw, 4 reinstate, 5 and 6 the same of a run of rows; and the numbers that only a join takes.
 struct Call {
     entry: u64,
     mode: u32,
@@ -46,19 +46,30 @@ fn put_times(a: time_order::TimeAnswer) {
     case_lines::end_line();
 }
 
+fn put_record(name: &[u8], r: segment::Record) {
+    case_lines::put_named(name, r.typ as u64);
+    case_lines::put(r.kind as u64);
+    case_lines::put(r.rows as u64);
+    case_lines::put(r.ids as u64);
+    case_lines::put(r.offsets as u64);
+    case_lines::put(r.values as u64);
+    case_lines::put(r.terms as u64);
+    case_lines::put(r.flag as u64);
+    case_lines::put(r.alive as u64);
+}
+
 fn put_converted(a: convert::ConvertAnswer) {
     match a {
         convert::ConvertAnswer::Refused(k) => case_lines::put(k as u64),
-        convert::ConvertAnswer::Converted(r) => {
-            case_lines::put_named(b" 0, record", r.typ as u64);
-            case_lines::put(r.kind as u64);
-            case_lines::put(r.rows as u64);
-            case_lines::put(r.ids as u64);
-            case_lines::put(r.offsets as u64);
-            case_lines::put(r.values as u64);
-            case_lines::put(r.terms as u64);
-            case_lines::put(r.flag as u64);
-        }
+        convert::ConvertAnswer::Converted(r) => put_record(b" 0, record", r),
+    }
+    case_lines::end_line();
+}
+
+fn put_marked(a: withdraw::MarkAnswer) {
+    match a {
+        withdraw::MarkAnswer::Refused(k) => case_lines::put(k as u64),
+        withdraw::MarkAnswer::Changed(n) => case_lines::put_named(b" 0, changed", n as u64),
     }
     case_lines::end_line();
 }
@@ -232,6 +243,58 @@ fn convert_case(
     o.at
 }
 
+fn mark_one(
+    entry: u64,
+    record: &mut segment::RecordNumbers,
+    alive: &mut [u64],
+    row: u32,
+) -> withdraw::MarkAnswer {
+    if entry == 3 {
+        return withdraw::withdraw(record, alive, row);
+    }
+    withdraw::reinstate(record, alive, row)
+}
+
+// The calls of one row are for cases that name one.
+fn mark(
+    entry: u64,
+    record: &mut segment::RecordNumbers,
+    alive: &mut [u64],
+    rows: &[u32],
+) -> withdraw::MarkAnswer {
+    if entry < 5 {
+        if 0 < rows.len() {
+            return mark_one(entry, record, alive, rows[0]);
+        }
+    }
+    if entry == 5 {
+        return withdraw::withdraw_rows(record, alive, rows);
+    }
+    withdraw::reinstate_rows(record, alive, rows)
+}
+
+// The first record alone, where there is one.
+fn mark_case(
+    text: &[u8],
+    from: usize,
+    entry: u64,
+    records: &[segment::RecordNumbers],
+    alive: &mut [u64],
+) -> usize {
+    let mut rows = [0u32; 300];
+    let p = case_text::read_numbers(text, from, &mut rows);
+    let n = p.count;
+    if 0 < records.len() {
+        let mut record = records[0];
+        let a = mark(entry, &mut record, alive, &rows[..n]);
+        put_marked(a);
+        put_record(b"  record", segment::record_of(record));
+        case_lines::end_line();
+        case_lines::put_words(b"  alive", alive);
+    }
+    p.at
+}
+
 fn run(
     text: &[u8],
     from: usize,
@@ -242,7 +305,7 @@ fn run(
     values: &[u64],
     lengths: &[u32],
     bytes: &[u8],
-    alive: &[u64],
+    alive: &mut [u64],
     addresses: &[[u32; 2]],
 ) -> usize {
     if call.entry == 1 {
@@ -257,6 +320,9 @@ fn run(
             bytes,
             alive,
         );
+    }
+    if 3 <= call.entry {
+        return mark_case(text, from, call.entry, records, alive);
     }
     if call.entry == 2 {
         return convert_case(
@@ -346,7 +412,7 @@ fn show_case(text: &[u8], from: usize) -> usize {
         &values[..vc],
         &lengths[..lc],
         &bytes[..bc],
-        &alive[..wc],
+        &mut alive[..wc],
         &addresses[..ac],
     )
 }

@@ -350,7 +350,7 @@ module _ {p : Stand} {ids offsets words : List ℕ} (k : Countable p ids offsets
   words-long : length (aliveSetAt p words) ≡ many (p .alive)
   words-long = run-length (p .alive .from) (p .alive .to) words (k .alive-lie .ends)
 
-  pub rows-there : p .rows ≤ 64 * length (aliveSetAt p words)
+  rows-there : p .rows ≤ 64 * length (aliveSetAt p words)
   rows-there = omega (arith, words-long, k .enough set)
 
   module _ (rk : Ranked (p .kind)) where

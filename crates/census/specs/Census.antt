@@ -85,3 +85,4 @@ pub record Countable (p : Stand) (ids offsets words : List ℕ) : Type 0 where
   pub few : p .count ≤ 4294967296
   pub alive-lie : Lies (p .alive) words
   pub enough : p .flag ≡ 1 → p .rows ≤ 64 * many (p .alive)
+  pub number : p .flag ≡ 1 → p .live ≡ count (bitAt (aliveSetAt p words)) (upTo (p .rows))

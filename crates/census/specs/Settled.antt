@@ -37,6 +37,7 @@ kept p m w =
       text = w;
       alive = p .alive;
       map = span m (many (p .terms));
+      live = p .live;
     }
 
 -- one that is not held is Empty and has no runs
@@ -58,6 +59,7 @@ dropped p m w =
       text = record { from = w .to; to = w .to };
       alive = p .alive;
       map = record { from = m; to = m };
+      live = p .live;
     }
 
 unfoldable pub settled : Stand → Census → ℕ → Span → Stand

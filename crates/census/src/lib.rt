@@ -88,15 +88,13 @@ fn id_counts(kind: usize, ids: &[u32], offsets: &[u32], words: &[u64]) -> Counts
     }
 }
 
-// Of a segment with an alive set. Each row of kind 1 has a value.
+// Of a segment with an alive set. How many rows are alive is what its record says, and 6 has found right. Each row of kind 1 has a value.
 fn alive_census(p: Stand, ids: &[u32], offsets: &[u32], words: &[u64]) -> Census
     requires { ⌜ Countable p (now ids) (now offsets) (now words) ⌝ }
     requires { ⌜ p .flag ≡ 1 ⌝ }
     ensures { λ c. ⌜ c ≡ aliveCensus p (now (ids .entry)) (now (offsets .entry)) (now (words .entry)) ⌝ }
 {
-    let a = p.alive.from;
-    let b = p.alive.to;
-    let n = alive_set::alive_before(&words[a..b], p.rows);
+    let n = p.live;
     if p.kind == 0 {
         return Census {
             alive: n,
@@ -111,6 +109,8 @@ fn alive_census(p: Stand, ids: &[u32], offsets: &[u32], words: &[u64]) -> Census
             values: n,
         };
     }
+    let a = p.alive.from;
+    let b = p.alive.to;
     let i = p.ids.from;
     let j = p.ids.to;
     let o = p.offsets.from;

@@ -198,6 +198,24 @@ pub fn ordered_rows(
     ensures { λ _. ⌜ now («out_values» .exit) ≡ put 0 (orderedWords to (now (stands .entry)) (now (ids .entry)) (now (offsets .entry)) (now (values .entry)) (now (map .entry)) (now (addresses .entry))) (now («out_values» .entry)) ⌝ }
     ensures { λ _. ⌜ now (work .exit) ≡ replicate (length (now (work .entry))) 0 ⌝ }
 {
+    if ids.len() == 0 {
+        write_rows(
+            class,
+            to,
+            addresses,
+            stands,
+            ids,
+            offsets,
+            values,
+            map,
+            &work[..0],
+            out_ids,
+            out_offsets,
+            out_values,
+        );
+        runs::zero(work);
+        return;
+    }
     fill_guesses(stands, ids, work);
     write_rows(
         class,

@@ -143,6 +143,7 @@ module _ (r : Record) (ids offsets values lengths bytes alive outIds outOffsets 
                 values = values-many (recordIn r) values (let x = runs .words in omega arith) i;
                 terms = (cut-length (take (r .terms) lengths) bytes ∙ length-take-le (r .terms) lengths (let x = runs .terms in omega arith)) i;
                 flag = r .flag;
+                aliveCount = r .alive;
               }
 
           pub converts : {a : Record} {newIds newOffsets : List ℕ} → a ≡ renewedRecord r n → newIds ≡ put 0 (risenIds 0 offsets) outIds → newOffsets ≡ put 0 (0 ∷ risenEnds offsets) outOffsets

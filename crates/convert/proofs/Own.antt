@@ -16,14 +16,14 @@ use Rattle.definitions.specs.Segment.{SegmentRecord, Sections, byKind, aliveWor
 use Rattle.definitions.specs.Row.{noType}
 use Rattle.definitions.specs.Types.{isKnownType}
 use Rattle.definitions.specs.Checks.{firstOf}
-use Rattle.definitions.specs.Answer.{lengthsWrong, codesKnown, offsetsFit, emptyFits, fullFits, optionalFits, oldFits, newFits, listsFit, valuesFit, bitPastRows}
+use Rattle.definitions.specs.Answer.{lengthsWrong, codesKnown, offsetsFit, emptyFits, fullFits, optionalFits, oldFits, newFits, listsFit, valuesFit, aliveSetWrong}
 use Rattle.definitions.specs.Convert.{isConvertible}
 use Rattle.definitions.proofs.Sections.{values-many}
 use Rattle.lists.proofs.Numbers.{not-ltb}
 use Rattle.lists.proofs.Lists.{empty-length}
 use Rattle.lists.proofs.Tests.{both-true, taken, other}
-use Rattle.segment_fit.specs.Fits.{fitsOffsets, fitsValues, pastRows, fitsAlive}
-use Rattle.segment_fit.proofs.Own.{assoc5, offsets-is, values-first, past-first}
+use Rattle.segment_fit.specs.Fits.{fitsOffsets, fitsValues, fitsSet, fitsAlive}
+use Rattle.segment_fit.proofs.Own.{assoc5, offsets-is, values-first, set-first}
 use Rattle.convert.specs.Risen.{oneIf, risenIds, stepsBy, falls}
 use Rattle.convert.specs.Fits.{fitsLengths, fitsKind, fitsOld, oldChecks, verdictOf}
 
@@ -139,13 +139,9 @@ module _ (r : SegmentRecord) (s : Sections) (x : Exact r s) where
   values-is : valuesFit (firstSegment r s) ≡ fitsValues r (s .values) (s .termLengths) (s .termBytes)
   values-is = values-first r s ∙ ap₂ (λ (a b : List ℕ). fitsValues r a b (s .termBytes)) (whole (x .words)) (whole (x .terms))
 
-  alive-is : bitPastRows (firstSegment r s) ≡ not (fitsAlive 1 r (s .alive))
+  alive-is : aliveSetWrong (firstSegment r s) ≡ not (fitsAlive 1 r (s .alive))
   unfolding fitsAlive
-  alive-is = past-first r s ∙ ap (pastRows (r .rows)) (whole (x .alive)) ∙ sym (not-not (pastRows (r .rows) (s .alive)))
-    where
-      not-not : (b : Bool) → not (not b) ≡ b
-      not-not true = refl
-      not-not false = refl
+  alive-is = set-first r s ∙ ap (λ (alive : List ℕ). not (fitsSet r alive)) (whole (x .alive))
 
 -- ---- the first that fails
 
@@ -190,7 +186,7 @@ module _ (r : SegmentRecord) (s : Sections) where
           five h = refused (other 2 (wrong2 ∙ h2) (other 3 (wrong3 ∙ h3) (other 4 (wrong4 ∙ h4) (taken 5 _ (wrong5 ∙ h))))) (λ q. omega arith)
 
           module _ (h5 : not d ≡ false) {e : Bool} (p6 : e ≡ fitsAlive 1 r (s .alive)) where
-            wrong6 : bitPastRows (firstSegment r s) ≡ not e
+            wrong6 : aliveSetWrong (firstSegment r s) ≡ not e
             wrong6 = alive-is r s x ∙ ap not (sym p6)
 
             pub six : not e ≡ true → record { answer = 6; ids = 0 } ≡ verdictOf r s

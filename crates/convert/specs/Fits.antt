@@ -9,7 +9,7 @@ use Rattle.definitions.specs.Segment.{SegmentRecord, Sections, aliveWords, reco
 use Rattle.definitions.specs.Row.{noType}
 use Rattle.definitions.specs.Types.{isKnownType}
 use Rattle.definitions.specs.Checks.{Check, check, firstOf}
-use Rattle.definitions.specs.Answer.{lengthsWrong, listsFit, valuesFit, bitPastRows}
+use Rattle.definitions.specs.Answer.{lengthsWrong, listsFit, valuesFit, aliveSetWrong}
 use Rattle.definitions.specs.Convert.{isConvertible}
 use Rattle.segment_fit.specs.Fits.{fitsOffsets}
 use Rattle.convert.specs.Risen.{risenIds, falls}
@@ -39,7 +39,7 @@ oldChecks r s =
     ∷ check 3 (not (isConvertible (firstSegment r s)))
     ∷ check 4 (not (listsFit (firstSegment r s)))
     ∷ check 5 (not (valuesFit (firstSegment r s)))
-    ∷ check 6 (bitPastRows (firstSegment r s))
+    ∷ check 6 (aliveSetWrong (firstSegment r s))
     ∷ []
 
 -- the first of them that fails, or 0, and with 0 how many rows have a value

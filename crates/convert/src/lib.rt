@@ -259,6 +259,7 @@ fn renewed_record(r: segment::Record, n: usize) -> segment::Record
         values: r.values,
         terms: r.terms,
         flag: r.flag,
+        alive: r.alive,
     }
 }
 

@@ -14,11 +14,11 @@ use lib.Ieee.Bits.{is-true}
 use Rattle.definitions.specs.Lists.{sum, upTo, all, any, filter, concat, elem, greatest, isEmpty, notFalling, ascendingFrom, ascending, last, termsAscending}
 use Rattle.definitions.specs.Words.{wordsPerValue, valuesIn}
 use Rattle.definitions.specs.Segment.{Segment, SegmentRecord, Sections, Address, byKind, cut, aliveWords, recordWords, firstSegment, segmentsFrom, recordOf}
-use Rattle.definitions.specs.Row.{rank, oneAt, between, ifListed, rowValues, hasValue, hasAliveSet, isAlive, aliveRows, isPresent, isDropped, isHeld, asEmpty, effective}
+use Rattle.definitions.specs.Row.{rank, oneAt, between, ifListed, rowValues, hasValue, hasAliveSet, isAlive, aliveRows, aliveNumber, isPresent, isDropped, isHeld, asEmpty, effective}
 use Rattle.definitions.specs.Types.{isKnownType, hasTerms, BoolType}
 use Rattle.definitions.specs.Class.{rowClass, kindClass, aliveClass, classOf}
 use Rattle.definitions.specs.Join.{idsFrom, totalsFrom, isUsed, keptTerms, newWord, cellOf, joinRules}
-use Rattle.definitions.specs.Answer.{lengthsWrong, codesKnown, isOld, idsFit, offsetsFit, emptyFits, fullFits, optionalFits, oldFits, newFits, listsFit, valuesFit, bitPastRows}
+use Rattle.definitions.specs.Answer.{lengthsWrong, codesKnown, isOld, idsFit, offsetsFit, emptyFits, fullFits, optionalFits, oldFits, newFits, listsFit, valuesFit, bitPastRows, aliveSetWrong}
 use Rattle.definitions.specs.Convert.{rowCells, converted, ConvertInput, oldSegment, isConvertible, convertChecks, convertAnswer}
 use Rattle.definitions.proofs.Lists.{and3, and4, up-length, up-at}
 use Rattle.definitions.proofs.Sections.{cut-length, values-many}
@@ -174,8 +174,8 @@ module _ (s : Segment) (old : s .kind ≡ 3) (fit : T (listsFit s)) where
       && (isEmpty (s .terms) || (hasTerms (s .type) && not (eqb k 0))))
       (sym old)
 
-  pub converted-alive : bitPastRows (converted s) ≡ bitPastRows s
-  unfolding bitPastRows converted
+  pub converted-alive : aliveSetWrong (converted s) ≡ aliveSetWrong s
+  unfolding aliveSetWrong bitPastRows aliveNumber converted
   converted-alive = refl
 
   -- ---- the join sees the same
@@ -253,7 +253,7 @@ pub record Taken (s : Segment) : Type 0 where
   pub nineteen : isOld (converted s) ≡ false
   pub four : T (listsFit (converted s))
   pub five : T (valuesFit (converted s))
-  pub six : bitPastRows (converted s) ≡ false
+  pub six : aliveSetWrong (converted s) ≡ false
   pub held : isHeld (converted s) ≡ isHeld s
   pub class : classOf (converted s) ≡ classOf s
 
@@ -358,6 +358,7 @@ left-segment i e =
       values = valuesIn (i .given .type) (take (many j * wordsPerValue (i .given .type)) (i .sections .values));
       terms = terms-again j;
       flag = i .given .flag;
+      aliveCount = i .given .aliveCount;
       alive = take (aliveWords (i .given)) (i .sections .alive);
     })
   where

@@ -34,6 +34,7 @@ halfOf f s =
       values = map f (s .values);
       terms = s .terms;
       flag = s .flag;
+      aliveCount = s .aliveCount;
       alive = s .alive;
     }
 

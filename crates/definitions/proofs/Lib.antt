@@ -1,5 +1,6 @@
 pub mod Lists
 pub mod Slices
+pub mod Bits
 pub mod Decode
 pub mod Words
 pub mod Sections
@@ -23,4 +24,6 @@ pub mod Pattern
 pub mod Rounded
 pub mod Keys
 pub mod TimeOrder
+pub mod AliveNumber
+pub mod Withdraw
 pub mod Reading

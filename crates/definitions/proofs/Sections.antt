@@ -53,6 +53,7 @@ first-back s ss h =
       values = values-first (s .type) (s .values) (concat (map (λ (t : Segment). valueWords (t .type) (t .values)) ss)) i;
       terms = terms-first (s .terms) (concat (map (λ (t : Segment). t .terms) ss)) i;
       flag = s .flag;
+      aliveCount = s .aliveCount;
       alive = take-at (s .alive) (concat (map (λ (t : Segment). t .alive) ss)) (aliveWords (recordOf s)) (alive-length s h) i;
     }
 

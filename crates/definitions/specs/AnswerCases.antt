@@ -10,7 +10,7 @@ use Rattle.definitions.specs.Segment.{Segment, address as at}
 use Rattle.definitions.specs.Answer.{sumsTooLarge}
 use Rattle.definitions.specs.Outcome.{Buffers, Lent, lentOf, numberOf}
 use Rattle.definitions.specs.Book.{lentTo}
-use Rattle.definitions.specs.Sheet.{plain, withAlive, none, full, one, str, dropped, a, b, five, oldFive, nine, memory, call, stacked, inOrder, lending, outcomeOf}
+use Rattle.definitions.specs.Sheet.{plain, withAlive, counted, none, full, one, str, dropped, a, b, five, oldFive, nine, memory, call, stacked, inOrder, lending, outcomeOf}
 
 -- ---- how the tables are written
 
@@ -41,10 +41,10 @@ segmentCases-hold = refl
 
 -- ---- 2: section lengths differ from the records' sums, or term bytes from the term lengths' sum
 
--- one record, Str kind 4 of 2 rows: 2 ids, 3 offsets, 3 values, 1 term, the flag as given; then the sections
+-- one record, Str kind 4 of 2 rows: 2 ids, 3 offsets, 3 values, 1 term, the flag as given, 2 alive rows; then the sections
 abbrev laid : ℕ → List ℕ → List ℕ → List ℕ → List ℕ → List ℕ → List ℕ → Lent
 laid flag ids offsets values termLengths termBytes alive =
-    lentOf 1 255 ((4 ∷ 4 ∷ 2 ∷ 2 ∷ 3 ∷ 3 ∷ 1 ∷ flag ∷ []) ∷ []) ids offsets values termLengths termBytes alive ((0 ∷ 0 ∷ []) ∷ (0 ∷ 1 ∷ []) ∷ []) (memory 12 12)
+    lentOf 1 255 ((4 ∷ 4 ∷ 2 ∷ 2 ∷ 3 ∷ 3 ∷ 1 ∷ flag ∷ 2 ∷ []) ∷ []) ids offsets values termLengths termBytes alive ((0 ∷ 0 ∷ []) ∷ (0 ∷ 1 ∷ []) ∷ []) (memory 12 12)
 
 lengthCases : List AnswerCase
 lengthCases =
@@ -95,7 +95,7 @@ codeCases =
     -- an unknown type, kind and flag, in the second segment
     ∷ gives 3 (stacked 255 (one 1 5 ∷ full 8 [] ∷ []))
     ∷ gives 3 (stacked 255 (one 1 5 ∷ plain 1 5 0 [] (0 ∷ []) [] [] ∷ []))
-    ∷ gives 3 (lentOf 0 255 ((255 ∷ 0 ∷ 1 ∷ 0 ∷ 0 ∷ 0 ∷ 0 ∷ 0 ∷ []) ∷ (255 ∷ 0 ∷ 1 ∷ 0 ∷ 0 ∷ 0 ∷ 0 ∷ 2 ∷ []) ∷ []) [] [] [] [] [] [] [] (memory 12 12))
+    ∷ gives 3 (lentOf 0 255 ((255 ∷ 0 ∷ 1 ∷ 0 ∷ 0 ∷ 0 ∷ 0 ∷ 0 ∷ 1 ∷ []) ∷ (255 ∷ 0 ∷ 1 ∷ 0 ∷ 0 ∷ 0 ∷ 0 ∷ 2 ∷ 1 ∷ []) ∷ []) [] [] [] [] [] [] [] (memory 12 12))
     -- type 255 with a kind whose lists fit, and with each of the lists
     ∷ gives 3 (alone (plain 255 1 0 [] [] [] []))
     ∷ gives 3 (alone (plain 255 2 1 [] [] [] []))
@@ -122,7 +122,7 @@ oldCases =
     ∷ gives 19 (alone (plain 1 3 1 [] [] [] []))
     -- 1, 2 and 3 come before it: 257 records of kind 3; a value that is not there; type 9 beside it; type 255; an unknown mode and required type
     ∷ gives 1 (stacked 255 (replicate 257 oldFive))
-    ∷ gives 2 (lentOf 0 255 ((1 ∷ 3 ∷ 1 ∷ 0 ∷ 2 ∷ 1 ∷ 0 ∷ 0 ∷ []) ∷ []) [] (0 ∷ 1 ∷ []) [] [] [] [] [] (memory 12 12))
+    ∷ gives 2 (lentOf 0 255 ((1 ∷ 3 ∷ 1 ∷ 0 ∷ 2 ∷ 1 ∷ 0 ∷ 0 ∷ 1 ∷ []) ∷ []) [] (0 ∷ 1 ∷ []) [] [] [] [] [] (memory 12 12))
     ∷ gives 3 (stacked 255 (oldFive ∷ one 9 5 ∷ []))
     ∷ gives 3 (alone (plain 255 3 0 [] [] [] []))
     ∷ gives 3 (lentTo (call [] 2 255 []) (oldFive ∷ []))
@@ -216,7 +216,7 @@ valueCases-hold : map (λ c. numberFor (c .lent)) valueCases ≡ map (λ c. c .n
 unfolding numberFor valueCases
 valueCases-hold = refl
 
--- ---- 6: an alive bit past the rows, or an alive set in a stacked join
+-- ---- 6: an alive bit past the rows, a wrong number of alive rows, or an alive set in a stacked join
 
 aliveCases : List AnswerCase
 aliveCases =
@@ -226,6 +226,33 @@ aliveCases =
     -- stacked: an alive set of all rows, in the second segment, and one of 0 rows, which has no words
     ∷ gives 6 (stacked 255 (one 1 5 ∷ withAlive (1 ∷ []) (one 1 5) ∷ []))
     ∷ gives 6 (stacked 255 (withAlive [] (none 0) ∷ []))
+    -- and where the number is right among the rows
+    ∷ gives 6 (inOrder 255 (counted 1 (withAlive (3 ∷ []) (one 1 5)) ∷ []) (at 0 0 ∷ []))
+    -- without an alive set the number is the rows, in both modes, of no column and of a dropped one too; before 7
+    ∷ gives 0 (stacked 255 (counted 1 (one 1 5) ∷ counted 2 (none 2) ∷ []))
+    ∷ gives 6 (alone (counted 0 (one 1 5)))
+    ∷ gives 6 (inOrder 255 (counted 0 (one 1 5) ∷ []) (at 0 0 ∷ []))
+    ∷ gives 6 (inOrder 255 (counted 0 (one 1 5) ∷ []) [])
+    ∷ gives 6 (alone (counted 2 (one 1 5)))
+    ∷ gives 6 (alone (counted 1 (none 2)))
+    ∷ gives 6 (alone (counted 1 (dropped 1 2)))
+    ∷ gives 6 (alone (counted 1 (none 0)))
+    ∷ gives 6 (alone (counted 0 (none 4294967295)))
+    -- with one it is the set bits, not the rows: one less, and one more, which is the rows; of two words
+    ∷ gives 0 (inOrder 255 (counted 1 (withAlive (2 ∷ []) nine) ∷ []) (at 0 1 ∷ []))
+    ∷ gives 6 (inOrder 255 (counted 0 (withAlive (2 ∷ []) nine) ∷ []) (at 0 1 ∷ []))
+    ∷ gives 6 (inOrder 255 (counted 2 (withAlive (2 ∷ []) nine) ∷ []) (at 0 1 ∷ []))
+    ∷ gives 0 (lending (memory 12 66) (inOrder 255 (counted 3 (withAlive (0x8000000000000001 ∷ 2 ∷ []) (none 66)) ∷ []) (at 0 65 ∷ at 0 0 ∷ at 0 63 ∷ [])))
+    ∷ gives 6 (lending (memory 12 66) (inOrder 255 (counted 2 (withAlive (0x8000000000000001 ∷ 2 ∷ []) (none 66)) ∷ []) (at 0 65 ∷ at 0 0 ∷ at 0 63 ∷ [])))
+    -- all rows withdrawn
+    ∷ gives 0 (inOrder 255 (counted 0 (withAlive (0 ∷ []) nine) ∷ []) [])
+    ∷ gives 6 (inOrder 255 (counted 2 (withAlive (0 ∷ []) nine) ∷ []) [])
+    -- each segment's own: the sum of two that are wrong is right
+    ∷ gives 6 (stacked 255 (counted 0 (one 1 5) ∷ counted 2 (one 1 5) ∷ []))
+    ∷ gives 6 (inOrder 255 (counted 0 (one 1 5) ∷ counted 2 (one 1 5) ∷ []) (at 0 0 ∷ at 1 0 ∷ []))
+    -- 5 comes before it, and 19
+    ∷ gives 19 (stacked 255 (counted 0 (one 1 5) ∷ oldFive ∷ []))
+    ∷ gives 5 (stacked 255 (counted 0 (one 5 1) ∷ one 5 2 ∷ []))
     ∷ []
 
 aliveCases-hold : map (λ c. numberFor (c .lent)) aliveCases ≡ map (λ c. c .number) aliveCases
@@ -423,9 +450,9 @@ spaceCases-hold = refl
 orderCases : List AnswerCase
 orderCases =
     -- 1 and 2: 257 records that announce a value each
-    gives 1 (lentOf 0 255 (replicate 257 (1 ∷ 1 ∷ 1 ∷ 0 ∷ 0 ∷ 1 ∷ 0 ∷ 0 ∷ [])) [] [] [] [] [] [] [] (memory 12 12))
+    gives 1 (lentOf 0 255 (replicate 257 (1 ∷ 1 ∷ 1 ∷ 0 ∷ 0 ∷ 1 ∷ 0 ∷ 0 ∷ 1 ∷ [])) [] [] [] [] [] [] [] (memory 12 12))
     -- 2 and 3: type 8 with a value that is not there
-    ∷ gives 2 (lentOf 0 255 ((8 ∷ 1 ∷ 1 ∷ 0 ∷ 0 ∷ 1 ∷ 0 ∷ 0 ∷ []) ∷ []) [] [] [] [] [] [] [] (memory 12 12))
+    ∷ gives 2 (lentOf 0 255 ((8 ∷ 1 ∷ 1 ∷ 0 ∷ 0 ∷ 1 ∷ 0 ∷ 0 ∷ 1 ∷ []) ∷ []) [] [] [] [] [] [] [] (memory 12 12))
     -- 3 and 4: the first segment has a value too few, and the second has type 8
     ∷ gives 3 (stacked 255 (plain 1 1 2 [] [] (5 ∷ []) [] ∷ one 8 5 ∷ []))
     -- 4 and 5: the first has a Bool above 1, and the second a value too few

@@ -102,7 +102,7 @@ exampleAnswer (orders ss space) = timeNumberOf (timeSheetOf ss space .answer)
 examples : List Example
 examples =
     joins (stacked 255 (replicate 257 (none 0)))
-    ∷ joins (announced ((1 ∷ 1 ∷ 1 ∷ 0 ∷ 0 ∷ 1 ∷ 0 ∷ 0 ∷ []) ∷ []))
+    ∷ joins (announced ((1 ∷ 1 ∷ 1 ∷ 0 ∷ 0 ∷ 1 ∷ 0 ∷ 0 ∷ 1 ∷ []) ∷ []))
     ∷ joins (stacked 255 (one 8 0 ∷ []))
     ∷ joins (stacked 255 (plain 1 2 2 (1 ∷ 1 ∷ []) [] (5 ∷ 6 ∷ []) [] ∷ []))
     ∷ joins (stacked 255 (str (0 ∷ 1 ∷ []) (b ∷ a ∷ []) ∷ []))

@@ -9,7 +9,7 @@ use Rattle.definitions.specs.Segment.{Segment, SegmentRecord, Sections, 
 use Rattle.definitions.specs.Row.{rowValues, isPresent}
 use Rattle.definitions.specs.Join.{idsFrom, totalsFrom}
 use Rattle.definitions.specs.Checks.{Check, check, firstOf}
-use Rattle.definitions.specs.Answer.{lengthsWrong, codesKnown, isOld, listsFit, valuesFit, bitPastRows}
+use Rattle.definitions.specs.Answer.{lengthsWrong, codesKnown, isOld, listsFit, valuesFit, aliveSetWrong}
 use Rattle.definitions.specs.Outcome.{written}
 
 -- ---- the converted segment
@@ -30,6 +30,7 @@ converted s =
       values = s .values;
       terms = s .terms;
       flag = s .flag;
+      aliveCount = s .aliveCount;
       alive = s .alive;
     }
 
@@ -62,7 +63,7 @@ convertChecks i =
     ∷ check 3 (not (isConvertible (oldSegment i)))
     ∷ check 4 (not (listsFit (oldSegment i)))
     ∷ check 5 (not (valuesFit (oldSegment i)))
-    ∷ check 6 (bitPastRows (oldSegment i))
+    ∷ check 6 (aliveSetWrong (oldSegment i))
     ∷ check 11 (convertTooShort i)
     ∷ []
 

@@ -5,23 +5,23 @@ use lib.ListN.{length, take, replicate}
 use lib.Ieee.{ofInt, toBits}
 use Rattle.definitions.specs.Words.{wordsPerValue, valueWords, valuesIn}
 use Rattle.definitions.specs.Segment.{Segment, Address, aliveWords, recordWords, firstSegment, afterFirst, segmentsOf, recordOf, sectionsOf, address as at}
-use Rattle.definitions.specs.Row.{rowValues, bitAt, isAlive, aliveRows, isDropped, isHeld, heldOf, asEmpty, effective, noType}
+use Rattle.definitions.specs.Row.{rowValues, bitAt, setBits, isAlive, aliveRows, aliveNumber, isDropped, isHeld, heldOf, asEmpty, effective, noType}
 use Rattle.definitions.specs.Types.{isKnownType, isNumerical, hasTerms, sameCategory, hasType, everyValue, onlyType, numericalType, typeOf, signedOf, integerOf, doubleOf, coerced, isCoercible}
 use Rattle.definitions.specs.Class.{kindClass, aliveClass, classOf, greatestClass}
 use Rattle.definitions.specs.Join.{Column, rowOrder, isUsed, keptTerms, termsOf, ordinalOf, mapOf, newWord, cellOf, encode, joinedType, joinedClass, joinedCells, joinedColumn, joinRules}
-use Rattle.definitions.specs.Answer.{tooManySegments, lengthsWrong, codesKnown, noColumnIsBare, segmentCodesWrong, codesWrong, someOld, idsFit, offsetsFit, emptyFits, fullFits, optionalFits, oldFits, newFits, listsFit, listsWrong, valuesFit, valuesWrong, bitPastRows, aliveWrong, sumsTooLarge, workingTooSmall, isAliveAt, aliveAddresses, listsAliveRows, addressesWrong, presentTypes, oneCategory, allCoercible, typesWrong, outputTooShort, joinChecks, answer}
+use Rattle.definitions.specs.Answer.{tooManySegments, lengthsWrong, codesKnown, noColumnIsBare, segmentCodesWrong, codesWrong, someOld, idsFit, offsetsFit, emptyFits, fullFits, optionalFits, oldFits, newFits, listsFit, listsWrong, valuesFit, valuesWrong, bitPastRows, aliveSetWrong, aliveWrong, sumsTooLarge, workingTooSmall, isAliveAt, aliveAddresses, listsAliveRows, addressesWrong, presentTypes, oneCategory, allCoercible, typesWrong, outputTooShort, joinChecks, answer}
 use Rattle.definitions.specs.Outcome.{Buffers, Answer, accepted, refused, Outcome, spaceOf, numbersOf, refusedBuffers, acceptedBuffers, Lent, inputOf, joinOutcome, readBack}
 use Rattle.definitions.specs.TimeOrder.{TimeOutcome, keyOf, isBefore, timeOrder, timesWrong, timeChecks, timeAnswer, timeOutcome}
 use Rattle.definitions.specs.Book.{Call, lentTo}
 
 -- ---- segments
 
--- without an alive set: type, kind, rows, ids, offsets, values, terms
+-- without an alive set, every row alive: type, kind, rows, ids, offsets, values, terms
 abbrev pub plain : ℕ → ℕ → ℕ → List ℕ → List ℕ → List ℕ → List (List ℕ) → Segment
 plain type kind rows ids offsets values terms =
-    record { type = type; kind = kind; rows = rows; ids = ids; offsets = offsets; values = values; terms = terms; flag = 0; alive = [] }
+    record { type = type; kind = kind; rows = rows; ids = ids; offsets = offsets; values = values; terms = terms; flag = 0; aliveCount = rows; alive = [] }
 
--- the same with an alive set of these words
+-- the same with an alive set of these words, and the number of their set bits
 abbrev pub withAlive : List ℕ → Segment → Segment
 withAlive words s =
     record {
@@ -33,7 +33,24 @@ withAlive words s =
       values = s .values;
       terms = s .terms;
       flag = 1;
+      aliveCount = setBits words;
       alive = words;
+    }
+
+-- the same with another number of alive rows
+abbrev pub counted : ℕ → Segment → Segment
+counted n s =
+    record {
+      type = s .type;
+      kind = s .kind;
+      rows = s .rows;
+      ids = s .ids;
+      offsets = s .offsets;
+      values = s .values;
+      terms = s .terms;
+      flag = s .flag;
+      aliveCount = n;
+      alive = s .alive;
     }
 
 -- no column, of so many rows
@@ -115,7 +132,7 @@ lending memory l =
 
 -- What a call gives and leaves. Every definition is opened here, once: what names this helper on its line opens them all
 unfoldable pub outcomeOf : Lent → Outcome
-unfolding ofInt toBits wordsPerValue valueWords valuesIn aliveWords recordWords firstSegment afterFirst segmentsOf recordOf sectionsOf rowValues bitAt isAlive aliveRows isDropped isHeld heldOf asEmpty effective isKnownType isNumerical hasTerms sameCategory hasType everyValue onlyType numericalType typeOf signedOf integerOf doubleOf coerced isCoercible kindClass aliveClass classOf greatestClass rowOrder isUsed keptTerms termsOf ordinalOf mapOf newWord cellOf encode joinedType joinedClass joinedCells joinedColumn joinRules tooManySegments lengthsWrong codesKnown noColumnIsBare segmentCodesWrong codesWrong someOld idsFit offsetsFit emptyFits fullFits optionalFits oldFits newFits listsFit listsWrong valuesFit valuesWrong bitPastRows aliveWrong sumsTooLarge workingTooSmall isAliveAt aliveAddresses listsAliveRows addressesWrong presentTypes oneCategory allCoercible typesWrong outputTooShort joinChecks answer spaceOf numbersOf refusedBuffers acceptedBuffers inputOf joinOutcome readBack lentTo
+unfolding ofInt toBits wordsPerValue valueWords valuesIn aliveWords recordWords firstSegment afterFirst segmentsOf recordOf sectionsOf rowValues bitAt setBits isAlive aliveRows aliveNumber isDropped isHeld heldOf asEmpty effective isKnownType isNumerical hasTerms sameCategory hasType everyValue onlyType numericalType typeOf signedOf integerOf doubleOf coerced isCoercible kindClass aliveClass classOf greatestClass rowOrder isUsed keptTerms termsOf ordinalOf mapOf newWord cellOf encode joinedType joinedClass joinedCells joinedColumn joinRules tooManySegments lengthsWrong codesKnown noColumnIsBare segmentCodesWrong codesWrong someOld idsFit offsetsFit emptyFits fullFits optionalFits oldFits newFits listsFit listsWrong valuesFit valuesWrong bitPastRows aliveSetWrong aliveWrong sumsTooLarge workingTooSmall isAliveAt aliveAddresses listsAliveRows addressesWrong presentTypes oneCategory allCoercible typesWrong outputTooShort joinChecks answer spaceOf numbersOf refusedBuffers acceptedBuffers inputOf joinOutcome readBack lentTo
 outcomeOf l = joinOutcome l
 
 -- what a listing shows: the answer, and the column and the map as they stand in the outputs

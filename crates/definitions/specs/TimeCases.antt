@@ -5,7 +5,7 @@ use mathlib.Core.List.{List, [], _∷_, map}
 use lib.ListN.{length, replicate}
 use Rattle.definitions.specs.Segment.{Segment, Address, address as at}
 use Rattle.definitions.specs.TimeOrder.{sorted, unsorted, TimeOutcome}
-use Rattle.definitions.specs.Sheet.{plain, withAlive, none, full, one, dropped, timeSheetOf}
+use Rattle.definitions.specs.Sheet.{plain, withAlive, counted, none, full, one, dropped, timeSheetOf}
 
 -- ---- how the tables are written
 
@@ -107,6 +107,13 @@ answerCases =
     ∷ unsortedBy 5 (withAlive (2 ∷ []) (one 5 2) ∷ []) 1
     -- 6: a bit past the rows; 7 after it
     ∷ unsortedBy 6 (none 4294967295 ∷ withAlive (2 ∷ []) (one 7 5) ∷ []) 1
+    -- a wrong number of alive rows: without an alive set, with one, of two that make the right sum; right among the rows, with a bit past them; 7 and 11 after it
+    ∷ unsortedBy 6 (counted 0 (one 7 5) ∷ []) 2
+    ∷ unsortedBy 6 (counted 2 (withAlive (1 ∷ []) (full 7 (5 ∷ 6 ∷ []))) ∷ []) 2
+    ∷ unsortedBy 6 (counted 0 (one 7 5) ∷ counted 2 (one 7 6) ∷ []) 2
+    ∷ unsortedBy 6 (counted 1 (withAlive (3 ∷ []) (one 7 5)) ∷ []) 2
+    ∷ unsortedBy 6 (counted 0 (none 4294967295) ∷ []) 0
+    ∷ unsortedBy 6 (counted 0 (one 7 5) ∷ []) 0
     -- 7, and 11 after it
     ∷ unsortedBy 7 (none 4294967295 ∷ []) 2
     -- 11, and 12 after it: one place too few, for times that fall

@@ -12,6 +12,8 @@ use Rattle.definitions.specs.TimeOrder as Time
 use Rattle.definitions.specs.TimeOrder.{timeNumberOf}
 use Rattle.definitions.specs.Convert as Convert
 use Rattle.definitions.specs.Convert.{convertNumberOf}
+use Rattle.definitions.specs.Withdraw as Withdraw
+use Rattle.definitions.specs.Withdraw.{markNumberOf}
 use Rattle.segment.specs.Lent.{addressesOf}
 use Rattle.segment.specs.declared.Record.{Record}
 use Rattle.records.specs.Rows.{numbersOf}
@@ -21,7 +23,7 @@ use Rattle.convert.specs.Outcome as converted
 use Rattle.time_order.specs.declared.TimeAnswer.{TimeAnswer}
 use Rattle.time_order.specs.declared.TimeAnswer.the-variants as T
 use Rattle.time_order.specs.Outcome as ordered
-use Rattle.jadmirus.specs.Told.{listOf, numbersAfter, countAfter, recordAfter}
+use Rattle.jadmirus.specs.Told.{listOf, numbersAfter, countAfter, recordAfter, changesAfter}
 
 module _ {a : Answer} {b : Buffers} {o : Outcome.Outcome} (e : outcomeOf a b ≡ o) (old : List ℕ) where
   pub told-refused : {k : ℕ} → a ≡ A.Refused k → (k ≡ numberOf (o .answer)) × ((b ≡ o .buffers) × (old ≡ numbersAfter (o .answer) old))
@@ -64,3 +66,13 @@ module _ {a : ConvertAnswer} {ids offsets : List ℕ} {o : Convert.ConvertOutcom
   told-converted q l =
       let r = sym (ap converted.answerOf q) ∙ ap (λ (x : Convert.ConvertOutcome). x .answer) e in
       (ap convertNumberOf r, (ap (λ (x : Convert.ConvertOutcome). x .ids) e, (ap (λ (x : Convert.ConvertOutcome). x .offsets) e, l ∙ ap (λ (x : Convert.ConvertAnswer). recordAfter x old) r)))
+
+-- number, record and words, and how many rows changed, of a call's outcome
+abbrev ToldMarked : Withdraw.MarkOutcome → Withdraw.AliveSet → List ℕ → ℕ → List ℕ → Type 0
+ToldMarked o left old k count = (k ≡ markNumberOf (o .answer)) × ((left ≡ o .left) × (count ≡ changesAfter (o .answer) old))
+
+pub told-marked : {a : Withdraw.MarkAnswer} {left : Withdraw.AliveSet} {o : Withdraw.MarkOutcome} → record { answer = a; left = left } ≡ o → (old : List ℕ) {k : ℕ} {count : List ℕ}
+    → k ≡ markNumberOf a → count ≡ changesAfter a old → ToldMarked o left old k count
+told-marked e old p q =
+    let r = ap (λ (x : Withdraw.MarkOutcome). x .answer) e in
+    (p ∙ ap markNumberOf r, (ap (λ (x : Withdraw.MarkOutcome). x .left) e, q ∙ ap (λ (x : Withdraw.MarkAnswer). changesAfter x old) r))

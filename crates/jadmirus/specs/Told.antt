@@ -5,6 +5,7 @@ use Rattle.definitions.specs.Outcome.{Numbers, Answer, accepted, refused}
 use Rattle.definitions.specs.Segment.{recordNumbers}
 use Rattle.definitions.specs.TimeOrder.{TimeAnswer, sorted, unsorted}
 use Rattle.definitions.specs.Convert.{ConvertAnswer, convertedTo, unconverted}
+use Rattle.definitions.specs.Withdraw.{MarkAnswer, changed, unmarked}
 use Rattle.merge_checked.specs.declared.Numbers as Declared
 
 -- type, class, rows, the number of ids, offsets, values, terms, term bytes and ordinals of the map, and the term bytes copied
@@ -28,3 +29,8 @@ countAfter (unsorted k) old = old
 abbrev pub recordAfter : ConvertAnswer → List ℕ → List ℕ
 recordAfter (convertedTo r) old = recordNumbers r
 recordAfter (unconverted k) old = old
+
+-- how many rows changed; a refusal leaves it as it was
+abbrev pub changesAfter : MarkAnswer → List ℕ → List ℕ
+changesAfter (changed n) old = n ∷ []
+changesAfter (unmarked k) old = old

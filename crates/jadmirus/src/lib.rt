@@ -1,16 +1,19 @@
-// The joiner, the time order and the converter for callers in C or Rust: a run of numbers is handed over as a pointer and its length.
+// The joiner, the time order, the converter and the two calls on the alive set for callers in C or Rust: a run of numbers is handed over as a pointer and its length.
 ghost use mathlib.Core.Path.{_≡_};
+ghost use mathlib.Core.List.{[], _∷_};
 ghost use lib.ListN.{length};
 ghost use Rattle.definitions.specs.Outcome.{numberOf, joinOutcome, lentOf};
 ghost use Rattle.definitions.specs.Segment.{recordFrom};
 ghost use Rattle.definitions.specs.TimeOrder.{timeNumberOf, timeOutcome};
 ghost use Rattle.definitions.specs.Convert.{convertNumberOf, convertOutcome};
+ghost use Rattle.definitions.specs.Withdraw.{withdrawing, reinstating, markNumberOf, markOutcome};
 ghost use Rattle.merge.specs.Whole.{buffersOf};
 ghost use Rattle.segment.specs.Lent.{addressesOf};
 ghost use Rattle.time_checks.specs.Lent.{lentTimes};
 ghost use Rattle.time_order.specs.Outcome.{outputOf};
 ghost use Rattle.convert.specs.Outcome.{lentConvert};
-ghost use Rattle.jadmirus.specs.Told.{listOf, numbersAfter, countAfter, recordAfter};
+ghost use Rattle.withdraw.specs.Lent.{lentSet, answerOf};
+ghost use Rattle.jadmirus.specs.Told.{listOf, numbersAfter, countAfter, recordAfter, changesAfter};
 
 // The ten numbers of an acceptance in their order.
 fn numbers_of(n: merge::Numbers) -> [u64; 10]
@@ -159,4 +162,82 @@ pub extern "C" fn jadmirus_convert(
             0
         }
     }
+}
+
+// The answer's number; how many rows changed is written to `out_changed`, which a refusal leaves as it was.
+fn tell(a: withdraw::MarkAnswer, out_changed: &mut [u64; 1]) -> u32
+    ensures { λ r. ⌜ r ≡ markNumberOf (answerOf a) ⌝ }
+    ensures { λ _. ⌜ now («out_changed» .exit) ≡ changesAfter (answerOf a) (now («out_changed» .entry)) ⌝ }
+{
+    match a {
+        withdraw::MarkAnswer::Refused(k) => k,
+        withdraw::MarkAnswer::Changed(n) => {
+            *out_changed = [n as u64];
+            0
+        }
+    }
+}
+
+// Returns the answer's number. How many rows changed is written to `out_changed`, which a refusal leaves as it was, and the record and the alive words too.
+#[no_mangle]
+pub extern "C" fn jadmirus_withdraw(
+    record: &mut segment::RecordNumbers,
+    alive: &mut [u64],
+    row: u32,
+    out_changed: &mut [u64; 1],
+) -> u32
+    ensures { λ r. ⌜ r ≡ markNumberOf (markOutcome (withdrawing (row ∷ [])) (lentSet (now («record» .entry)) (now (alive .entry))) .answer) ⌝ }
+    ensures { λ _. ⌜ lentSet (now («record» .exit)) (now (alive .exit)) ≡ markOutcome (withdrawing (row ∷ [])) (lentSet (now («record» .entry)) (now (alive .entry))) .left ⌝ }
+    ensures { λ _. ⌜ now («out_changed» .exit) ≡ changesAfter (markOutcome (withdrawing (row ∷ [])) (lentSet (now («record» .entry)) (now (alive .entry))) .answer) (now («out_changed» .entry)) ⌝ }
+{
+    let a = withdraw::withdraw(record, alive, row);
+    tell(a, out_changed)
+}
+
+// As `jadmirus_withdraw`, the other way.
+#[no_mangle]
+pub extern "C" fn jadmirus_reinstate(
+    record: &mut segment::RecordNumbers,
+    alive: &mut [u64],
+    row: u32,
+    out_changed: &mut [u64; 1],
+) -> u32
+    ensures { λ r. ⌜ r ≡ markNumberOf (markOutcome (reinstating (row ∷ [])) (lentSet (now («record» .entry)) (now (alive .entry))) .answer) ⌝ }
+    ensures { λ _. ⌜ lentSet (now («record» .exit)) (now (alive .exit)) ≡ markOutcome (reinstating (row ∷ [])) (lentSet (now («record» .entry)) (now (alive .entry))) .left ⌝ }
+    ensures { λ _. ⌜ now («out_changed» .exit) ≡ changesAfter (markOutcome (reinstating (row ∷ [])) (lentSet (now («record» .entry)) (now (alive .entry))) .answer) (now («out_changed» .entry)) ⌝ }
+{
+    let a = withdraw::reinstate(record, alive, row);
+    tell(a, out_changed)
+}
+
+// As `jadmirus_withdraw`, of a run of rows: all of them or none.
+#[no_mangle]
+pub extern "C" fn jadmirus_withdraw_rows(
+    record: &mut segment::RecordNumbers,
+    alive: &mut [u64],
+    rows: &[u32],
+    out_changed: &mut [u64; 1],
+) -> u32
+    ensures { λ r. ⌜ r ≡ markNumberOf (markOutcome (withdrawing (now (rows .entry))) (lentSet (now («record» .entry)) (now (alive .entry))) .answer) ⌝ }
+    ensures { λ _. ⌜ lentSet (now («record» .exit)) (now (alive .exit)) ≡ markOutcome (withdrawing (now (rows .entry))) (lentSet (now («record» .entry)) (now (alive .entry))) .left ⌝ }
+    ensures { λ _. ⌜ now («out_changed» .exit) ≡ changesAfter (markOutcome (withdrawing (now (rows .entry))) (lentSet (now («record» .entry)) (now (alive .entry))) .answer) (now («out_changed» .entry)) ⌝ }
+{
+    let a = withdraw::withdraw_rows(record, alive, rows);
+    tell(a, out_changed)
+}
+
+// As `jadmirus_reinstate`, of a run of rows: all of them or none.
+#[no_mangle]
+pub extern "C" fn jadmirus_reinstate_rows(
+    record: &mut segment::RecordNumbers,
+    alive: &mut [u64],
+    rows: &[u32],
+    out_changed: &mut [u64; 1],
+) -> u32
+    ensures { λ r. ⌜ r ≡ markNumberOf (markOutcome (reinstating (now (rows .entry))) (lentSet (now («record» .entry)) (now (alive .entry))) .answer) ⌝ }
+    ensures { λ _. ⌜ lentSet (now («record» .exit)) (now (alive .exit)) ≡ markOutcome (reinstating (now (rows .entry))) (lentSet (now («record» .entry)) (now (alive .entry))) .left ⌝ }
+    ensures { λ _. ⌜ now («out_changed» .exit) ≡ changesAfter (markOutcome (reinstating (now (rows .entry))) (lentSet (now («record» .entry)) (now (alive .entry))) .answer) (now («out_changed» .entry)) ⌝ }
+{
+    let a = withdraw::reinstate_rows(record, alive, rows);
+    tell(a, out_changed)
 }

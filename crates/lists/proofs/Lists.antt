@@ -63,7 +63,3 @@ count-most p s (suc n) = go (p s) (count-most p (suc s) n)
     go : (b : Bool) → count p (upFrom (suc s) n) ≤ n → cond b (suc (count p (upFrom (suc s) n))) (count p (upFrom (suc s) n)) ≤ suc n
     go true h = omega arith
     go false h = omega arith
-
-pub count-every : (p : ℕ → Bool) (s n : ℕ) → ((r : ℕ) → p r ≡ true) → count p (upFrom s n) ≡ n
-count-every p s zero h = refl
-count-every p s (suc n) h = rw (h s) (ap suc (count-every p (suc s) n h))

@@ -9,11 +9,11 @@ use lib.ListN.{replicate}
 use lib.Dec.{eqb}
 use Rattle.definitions.specs.Words.{wordsPerValue, valueWords, valuesIn}
 use Rattle.definitions.specs.Segment.{Segment, Address, aliveWords, recordWords, firstSegment, afterFirst, segmentsOf, recordOf, sectionsOf, address as at}
-use Rattle.definitions.specs.Row.{rowValues, bitAt, isAlive, aliveRows, isDropped, isHeld, heldOf, asEmpty, effective}
+use Rattle.definitions.specs.Row.{rowValues, bitAt, setBits, isAlive, aliveRows, aliveNumber, isDropped, isHeld, heldOf, asEmpty, effective}
 use Rattle.definitions.specs.Types.{isKnownType, isNumerical, hasTerms, sameCategory, hasType, everyValue, onlyType, numericalType, typeOf, coerced, isCoercible}
 use Rattle.definitions.specs.Class.{kindClass, aliveClass, classOf, greatestClass}
 use Rattle.definitions.specs.Join.{rowOrder, isUsed, keptTerms, termsOf, ordinalOf, mapOf, newWord, cellOf, encode, joinedType, joinedClass, joinedCells, joinedColumn, joinRules, kindOf, asSegment}
-use Rattle.definitions.specs.Answer.{tooManySegments, lengthsWrong, codesKnown, noColumnIsBare, segmentCodesWrong, codesWrong, someOld, idsFit, offsetsFit, emptyFits, fullFits, optionalFits, oldFits, newFits, listsFit, listsWrong, valuesFit, valuesWrong, bitPastRows, aliveWrong, sumsTooLarge, workingTooSmall, isAliveAt, aliveAddresses, listsAliveRows, addressesWrong, presentTypes, oneCategory, allCoercible, typesWrong, outputTooShort, joinChecks, answer}
+use Rattle.definitions.specs.Answer.{tooManySegments, lengthsWrong, codesKnown, noColumnIsBare, segmentCodesWrong, codesWrong, someOld, idsFit, offsetsFit, emptyFits, fullFits, optionalFits, oldFits, newFits, listsFit, listsWrong, valuesFit, valuesWrong, bitPastRows, aliveSetWrong, aliveWrong, sumsTooLarge, workingTooSmall, isAliveAt, aliveAddresses, listsAliveRows, addressesWrong, presentTypes, oneCategory, allCoercible, typesWrong, outputTooShort, joinChecks, answer}
 use Rattle.definitions.specs.Outcome.{Buffers, spaceOf, numbersOf, refusedBuffers, acceptedBuffers, inputOf, joinOutcome, readBack}
 use Rattle.definitions.specs.Book.{Call, first, Entry, lentTo, callLent, callOutcome, callAnswer, afterCall, firstEntry, oneJoin, joinedEntry, standingOf, bookAnswer, bookAfterCall, isSegment, requiredTypes, isUniform, IsSequenceOf, ResultStands, CallsOneJoin}
 use Rattle.merge_checked.specs.declared.Numbers.{Numbers}
@@ -24,10 +24,10 @@ use Rattle.merge.proofs.InTurn.{runs-in-turn-agree}
 
 -- ---- the first segments: Str columns of two rows
 
--- kind, ids, values, terms, flag and alive words
-abbrev week : ℕ → List ℕ → List ℕ → List (List ℕ) → ℕ → List ℕ → Segment
-week kind ids values terms flag alive =
-    record { type = 4; kind = kind; rows = 2; ids = ids; offsets = []; values = values; terms = terms; flag = flag; alive = alive }
+-- kind, ids, values, terms, flag, alive rows and alive words
+abbrev week : ℕ → List ℕ → List ℕ → List (List ℕ) → ℕ → ℕ → List ℕ → Segment
+week kind ids values terms flag count alive =
+    record { type = 4; kind = kind; rows = 2; ids = ids; offsets = []; values = values; terms = terms; flag = flag; aliveCount = count; alive = alive }
 
 abbrev a : List ℕ
 a = 97 ∷ []
@@ -37,7 +37,7 @@ b = 98 ∷ []
 
 -- C1's two segments and C12's
 abbrev weeks : List Segment
-weeks = week 2 (1 ∷ []) (0 ∷ []) (b ∷ []) 0 [] ∷ week 1 [] (1 ∷ 0 ∷ []) (a ∷ b ∷ []) 0 [] ∷ week 1 [] (0 ∷ 1 ∷ []) (a ∷ b ∷ []) 1 (2 ∷ []) ∷ []
+weeks = week 2 (1 ∷ []) (0 ∷ []) (b ∷ []) 0 2 [] ∷ week 1 [] (1 ∷ 0 ∷ []) (a ∷ b ∷ []) 0 2 [] ∷ week 1 [] (0 ∷ 1 ∷ []) (a ∷ b ∷ []) 1 1 (2 ∷ []) ∷ []
 
 -- ---- the runs
 
@@ -65,7 +65,7 @@ abbrev refusedRun : Run
 refusedRun =
     record {
       call = call (2 ∷ 0 ∷ []) 0 [];
-      records = (4 ∷ 1 ∷ 2 ∷ 0 ∷ 0 ∷ 2 ∷ 2 ∷ 1 ∷ []) ∷ (4 ∷ 2 ∷ 2 ∷ 1 ∷ 0 ∷ 1 ∷ 1 ∷ 0 ∷ []) ∷ [];
+      records = (4 ∷ 1 ∷ 2 ∷ 0 ∷ 0 ∷ 2 ∷ 2 ∷ 1 ∷ 1 ∷ []) ∷ (4 ∷ 2 ∷ 2 ∷ 1 ∷ 0 ∷ 1 ∷ 1 ∷ 0 ∷ 2 ∷ []) ∷ [];
       ids = 1 ∷ [];
       offsets = [];
       values = 0 ∷ 1 ∷ 0 ∷ [];
@@ -82,7 +82,7 @@ abbrev aliveRun : Run
 aliveRun =
     record {
       call = call (2 ∷ []) 1 (at 0 1 ∷ []);
-      records = (4 ∷ 1 ∷ 2 ∷ 0 ∷ 0 ∷ 2 ∷ 2 ∷ 1 ∷ []) ∷ [];
+      records = (4 ∷ 1 ∷ 2 ∷ 0 ∷ 0 ∷ 2 ∷ 2 ∷ 1 ∷ 1 ∷ []) ∷ [];
       ids = [];
       offsets = [];
       values = 0 ∷ 1 ∷ [];
@@ -99,7 +99,7 @@ abbrev stackedRun : Run
 stackedRun =
     record {
       call = call (1 ∷ 0 ∷ []) 0 [];
-      records = (4 ∷ 1 ∷ 2 ∷ 0 ∷ 0 ∷ 2 ∷ 2 ∷ 0 ∷ []) ∷ (4 ∷ 2 ∷ 2 ∷ 1 ∷ 0 ∷ 1 ∷ 1 ∷ 0 ∷ []) ∷ [];
+      records = (4 ∷ 1 ∷ 2 ∷ 0 ∷ 0 ∷ 2 ∷ 2 ∷ 0 ∷ 2 ∷ []) ∷ (4 ∷ 2 ∷ 2 ∷ 1 ∷ 0 ∷ 1 ∷ 1 ∷ 0 ∷ 2 ∷ []) ∷ [];
       ids = 1 ∷ [];
       offsets = [];
       values = 1 ∷ 0 ∷ 0 ∷ [];
@@ -116,7 +116,7 @@ abbrev orderedRun : Run
 orderedRun =
     record {
       call = call (1 ∷ 0 ∷ []) 1 (at 0 3 ∷ at 1 0 ∷ at 0 0 ∷ at 0 1 ∷ at 0 2 ∷ []);
-      records = (4 ∷ 2 ∷ 4 ∷ 3 ∷ 0 ∷ 3 ∷ 2 ∷ 0 ∷ []) ∷ (4 ∷ 1 ∷ 1 ∷ 0 ∷ 0 ∷ 1 ∷ 1 ∷ 0 ∷ []) ∷ [];
+      records = (4 ∷ 2 ∷ 4 ∷ 3 ∷ 0 ∷ 3 ∷ 2 ∷ 0 ∷ 4 ∷ []) ∷ (4 ∷ 1 ∷ 1 ∷ 0 ∷ 0 ∷ 1 ∷ 1 ∷ 0 ∷ 1 ∷ []) ∷ [];
       ids = 0 ∷ 1 ∷ 3 ∷ [];
       offsets = [];
       values = 1 ∷ 0 ∷ 1 ∷ 0 ∷ [];
@@ -139,7 +139,7 @@ abbrev oneRun : Run
 oneRun =
     record {
       call = call (0 ∷ 1 ∷ 2 ∷ []) 1 (at 0 1 ∷ at 2 1 ∷ at 1 0 ∷ at 1 1 ∷ at 0 0 ∷ []);
-      records = (4 ∷ 2 ∷ 2 ∷ 1 ∷ 0 ∷ 1 ∷ 1 ∷ 0 ∷ []) ∷ (4 ∷ 1 ∷ 2 ∷ 0 ∷ 0 ∷ 2 ∷ 2 ∷ 0 ∷ []) ∷ (4 ∷ 1 ∷ 2 ∷ 0 ∷ 0 ∷ 2 ∷ 2 ∷ 1 ∷ []) ∷ [];
+      records = (4 ∷ 2 ∷ 2 ∷ 1 ∷ 0 ∷ 1 ∷ 1 ∷ 0 ∷ 2 ∷ []) ∷ (4 ∷ 1 ∷ 2 ∷ 0 ∷ 0 ∷ 2 ∷ 2 ∷ 0 ∷ 2 ∷ []) ∷ (4 ∷ 1 ∷ 2 ∷ 0 ∷ 0 ∷ 2 ∷ 2 ∷ 1 ∷ 1 ∷ []) ∷ [];
       ids = 1 ∷ [];
       offsets = [];
       values = 0 ∷ 1 ∷ 0 ∷ 0 ∷ 1 ∷ [];
@@ -155,7 +155,7 @@ oneRun =
 
 -- what was lent is what the calls hand over, and each answer and all that was left are the definition's; every definition is opened here, once
 ran : RanFrom runs (map first weeks)
-unfolding kindOf asSegment lentTo callLent callOutcome callAnswer afterCall firstEntry oneJoin joinedEntry standingOf bookAnswer bookAfterCall isSegment requiredTypes isUniform wordsPerValue valueWords valuesIn aliveWords recordWords firstSegment afterFirst segmentsOf recordOf sectionsOf rowValues bitAt isAlive aliveRows isDropped isHeld heldOf asEmpty effective isKnownType isNumerical hasTerms sameCategory hasType everyValue onlyType numericalType typeOf coerced isCoercible kindClass aliveClass classOf greatestClass rowOrder isUsed keptTerms termsOf ordinalOf mapOf newWord cellOf encode joinedType joinedClass joinedCells joinedColumn joinRules tooManySegments lengthsWrong codesKnown noColumnIsBare segmentCodesWrong codesWrong someOld idsFit offsetsFit emptyFits fullFits optionalFits oldFits newFits listsFit listsWrong valuesFit valuesWrong bitPastRows aliveWrong sumsTooLarge workingTooSmall isAliveAt aliveAddresses listsAliveRows addressesWrong presentTypes oneCategory allCoercible typesWrong outputTooShort joinChecks answer spaceOf numbersOf refusedBuffers acceptedBuffers inputOf joinOutcome readBack
+unfolding kindOf asSegment lentTo callLent callOutcome callAnswer afterCall firstEntry oneJoin joinedEntry standingOf bookAnswer bookAfterCall isSegment requiredTypes isUniform wordsPerValue valueWords valuesIn aliveWords recordWords firstSegment afterFirst segmentsOf recordOf sectionsOf rowValues bitAt setBits isAlive aliveRows aliveNumber isDropped isHeld heldOf asEmpty effective isKnownType isNumerical hasTerms sameCategory hasType everyValue onlyType numericalType typeOf coerced isCoercible kindClass aliveClass classOf greatestClass rowOrder isUsed keptTerms termsOf ordinalOf mapOf newWord cellOf encode joinedType joinedClass joinedCells joinedColumn joinRules tooManySegments lengthsWrong codesKnown noColumnIsBare segmentCodesWrong codesWrong someOld idsFit offsetsFit emptyFits fullFits optionalFits oldFits newFits listsFit listsWrong valuesFit valuesWrong bitPastRows aliveSetWrong aliveWrong sumsTooLarge workingTooSmall isAliveAt aliveAddresses listsAliveRows addressesWrong presentTypes oneCategory allCoercible typesWrong outputTooShort joinChecks answer spaceOf numbersOf refusedBuffers acceptedBuffers inputOf joinOutcome readBack
 ran = (record { laid = refl; kept = refl }, (record { laid = refl; kept = refl }, (record { laid = refl; kept = refl }, (record { laid = refl; kept = refl }, tt))))
 
 one-ran : Ran oneRun (map first weeks)

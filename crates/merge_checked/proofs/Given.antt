@@ -12,7 +12,7 @@ use Rattle.definitions.specs.Segment.{Segment, Input, segmentsOf}
 use Rattle.definitions.specs.Row.{hasAliveSet}
 use Rattle.definitions.specs.Join.{absent}
 use Rattle.definitions.specs.Checks.{Passed}
-use Rattle.definitions.specs.Answer.{bitPastRows, aliveWrong, listsAliveRows, addressesWrong, checksToSeven, orderChecks}
+use Rattle.definitions.specs.Answer.{aliveSetWrong, aliveWrong, listsAliveRows, addressesWrong, checksToSeven, orderChecks}
 use Rattle.definitions.proofs.Accept.{plain-passed}
 use Rattle.definitions.proofs.Checks.{passes, passed-append}
 use Rattle.segment.specs.Records.{segmentsIn}
@@ -51,7 +51,7 @@ module _ {mode required : ℕ} {records : List (List ℕ)} {ids offsets values l
   unfolding segmentsOf aliveWrong
   alone e k h =
       any-false hasAliveSet ss
-      (rw (eq-eqb mode 0 e) at (or-right (any bitPastRows ss) (eqb mode 0 && any hasAliveSet ss) (passes nine 6)))
+      (rw (eq-eqb mode 0 e) at (or-right (any aliveSetWrong ss) (eqb mode 0 && any hasAliveSet ss) (passes nine 6)))
       (mem-at ss k absent h)
 
   -- an ordered one lists each alive row once

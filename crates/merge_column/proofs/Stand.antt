@@ -10,13 +10,15 @@ use lib.Dec.{T, ltb, ltb→lt}
 use lib.Ieee.Fits.{and-l, and-r}
 use lib.Seq.{take-add}
 use lib.Ieee.Bits.{is-true}
-use Rattle.definitions.specs.Lists.{sum, all, elem, concat, isBelow, compareBytes, termsAscending, termsAscendingFrom}
+use Rattle.definitions.specs.Lists.{sum, count, upTo, all, elem, concat, isBelow, compareBytes, termsAscending, termsAscendingFrom}
 use Rattle.definitions.specs.Segment.{Segment, SegmentRecord, Sections, cut, firstSegment}
+use Rattle.definitions.specs.Row.{bitAt}
 use Rattle.definitions.specs.Types.{isKnownType}
 use Rattle.definitions.specs.Join.{absent}
-use Rattle.definitions.specs.Answer.{indexFits, valuesFit, bytesIn, codesKnown, noColumnIsBare, segmentCodesWrong}
+use Rattle.definitions.specs.Answer.{indexFits, valuesFit, aliveSetWrong, bytesIn, codesKnown, noColumnIsBare, segmentCodesWrong}
 use Rattle.definitions.proofs.Accept.{not-false}
-use Rattle.definitions.proofs.Lists.{and3, elem-mem, all-mem}
+use Rattle.definitions.proofs.Lists.{and3, any-false, mem-at, elem-mem, all-mem}
+use Rattle.definitions.proofs.AliveNumber.{alive-bits}
 use Rattle.lists.proofs.Lists.{all-at}
 use Rattle.lists.proofs.Cuts.{cut-bytes}
 use Rattle.lists.proofs.Parts.{run-length}
@@ -25,13 +27,13 @@ use Rattle.lists.proofs.Sums.{sum-at, sum-append, sum-take-le}
 use Rattle.segment.specs.Records.{recordsOf, sectionsIn, segmentsIn, recordAt, startAt}
 use Rattle.segment.specs.Lent.{Checked}
 use Rattle.segment.proofs.At.{sectionsAt, segments-many, segment-is, start-total, start-mono, start-fits}
-use Rattle.segment.proofs.Lent.{few-records, index-fits, values-fit, codes-right, sums-low}
+use Rattle.segment.proofs.Lent.{few-records, index-fits, values-fit, codes-right, alive-right, sums-low}
 use Rattle.sections_fit.specs.Walks.{Exact}
 use Rattle.sections_fit.proofs.Seven.{ready}
 use Rattle.stands.specs.declared.Span.{Span}
 use Rattle.stands.specs.declared.Stand.{Stand}
 use Rattle.stands.specs.Stand.{part, many, span, Lies, standOf, numbersOf, standAt, standIn, standsIn}
-use Rattle.stands.specs.Look.{Stands}
+use Rattle.stands.specs.Look.{aliveSetAt, Stands}
 use Rattle.stands.proofs.Bridge.{sound-stands}
 use Rattle.stands.proofs.Fill.{table-length, table-at}
 use Rattle.stands.proofs.There.{Held, stands-there}
@@ -177,6 +179,15 @@ module _ {records : List (List ℕ)} {ids offsets values lengths bytes words : L
         let d = few-terms (getD ss k absent .terms) (ascends (getD ss k absent) (all-at valuesFit ss k absent (values-fit c) h)) in
         omega (arith, long)
 
+  -- check 6: how many rows are alive, of a segment with an alive set
+  live-bits : (k : ℕ) → k < length ss → {p : Stand} → Stands p ids offsets values words (getD ss k absent) → getD ss k absent .flag ≡ 1 → p .live ≡ count (bitAt (aliveSetAt p words)) (upTo (p .rows))
+  live-bits k h {p} st f =
+      let s = getD ss k absent in
+      let n = run-length (p .alive .from) (p .alive .to) words (st .alive-lie .ends) in
+      let l = ap length (st .alive-are) in
+      let b = alive-bits s (λ e. omega (arith, st .enough e, n, l)) (any-false aliveSetWrong ss (alive-right c) (mem-at ss k absent h)) f in
+      st .live ∙ b ∙ ap₂ (λ (words : List ℕ) (n : ℕ). count (bitAt words) (upTo n)) (sym (st .alive-are)) (sym (st .rows))
+
   raw : Raw (standsIn records) ids offsets values lengths bytes words ss
   raw =
       record {
@@ -215,6 +226,7 @@ module _ {records : List (List ℕ)} {ids offsets values lengths bytes words : L
                     few = omega (arith, st .count, values-low k h);
                     alive-lie = st .alive-lie;
                     enough = λ e. let a = st .enough (sym (st .flag) ∙ e) in omega (arith, st .rows);
+                    number = λ e. live-bits k h st (sym (st .flag) ∙ e);
                   };
               terms-lie = terms-lie k h;
               terms-few = terms-low k h;

@@ -1,4 +1,6 @@
-pub mod Laws
-pub mod Marks
+pub mod Bytes
+pub mod Turns
+pub mod Left
+pub mod Laid
 pub mod Stood
 pub mod Own

@@ -1,29 +1,83 @@
 // The row order that addresses give, with the checks 8 and 9 (columnar/merge/merge_mapping.rs: `StackMergeOrder::stack` and `offset`, `ShuffleMergeOrder`).
 ghost use mathlib.Core.Path.{_≡_};
-ghost use Prim.Native.Nat.{_<_, _≤_, _*_};
+ghost use mathlib.Core.Bool.{true, _&&_, cond};
+ghost use Prim.Native.Nat.{_<_, _≤_, _+_, _*_, _^_};
 ghost use lib.ListN.{length, replicate};
-ghost use Rattle.definitions.specs.Lists.{count, upTo};
+ghost use lib.Dec.{ltb};
+ghost use Rattle.definitions.specs.Lists.{allBelow};
 ghost use Rattle.definitions.specs.Segment.{address};
+ghost use Rattle.definitions.specs.Answer.{listsAliveRows};
 ghost use Rattle.segment.specs.Records.{recordsOf};
 ghost use Rattle.segment.specs.Lent.{addressesOf};
-ghost use Rattle.stands.specs.Stand.{standsIn};
-ghost use Rattle.merge_mapping.specs.Mapping.{aliveBit, aliveAt, AllWorded, allNew, marked, Markable, Countable, allAlive, eachOnce, Unmarked, addressesRight, BeforeNine, roomEnough};
+ghost use Rattle.runs.specs.Put.{put};
+ghost use Rattle.merge_mapping.specs.Mapping.{aliveByte, aliveBytes, laidOut, AllWorded, Room, isLeft, without, takes, leftBy, segmentsBy, Blank, addressesRight, BeforeNine, roomEnough};
 
-// Whether a row of a segment is alive; without an alive set every row is.
-fn row_alive(flag: usize, alive: &[u64], row: usize) -> bool
-    requires { ⌜ (flag ≡ 1 → row < 64 * length (now alive)) ⌝ }
-    ensures { λ x. ⌜ x ≡ aliveBit flag (now (alive .entry)) row ⌝ }
+// ---- a bit for each alive row, eight rows to a working byte
+
+// Byte i of a segment's alive bits: eight bits of the alive set, or ones for the rows there are.
+fn alive_byte(flag: usize, words: &[u64], rows: usize, i: usize) -> u8
+    requires { ⌜ (flag ≡ 1 → rows ≤ 64 * length (now words)) ⌝ }
+    requires { ⌜ 8 * i < rows ⌝ }
+    requires { ⌜ rows ≤ 9223372036854775807 ⌝ }
+    ensures { λ x. ⌜ x ≡ aliveByte flag (now (words .entry)) rows i ⌝ }
 {
-    if flag != 1 {
-        return true;
+    if flag == 1 {
+        let up = (8 * (i % 8)) as u64;
+        return ((words[i / 8] >> up) % 256) as u8;
     }
-    alive_set::is_alive(alive, row)
+    let end = 8 * i + 8;
+    if end <= rows {
+        return 255;
+    }
+    let ones: usize = 255;
+    (ones >> (end - rows)) as u8
 }
 
-// Whether the address is of an alive row.
-fn alive_in(stands: &[stands::StandNumbers], alive: &[u64], seg: usize, row: usize) -> bool
+// Lays out a segment's alive bits from index at on.
+fn fill_bits(flag: usize, words: &[u64], rows: usize, bits: &mut [u8], at: usize)
+    requires { ⌜ (flag ≡ 1 → rows ≤ 64 * length (now words)) ⌝ }
+    requires { ⌜ at + rows ≤ length (now bits) ⌝ }
+    ensures { λ _. ⌜ now (bits .exit) ≡ put at (aliveBytes flag (now (words .entry)) rows) (now (bits .entry)) ⌝ }
+{
+    let n = (rows + 7) / 8;
+    let mut i: usize = 0;
+    while i < n {
+        bits[at + i] = alive_byte(flag, words, rows, i);
+        i += 1;
+    }
+}
+
+// Lays out all segments' alive bits.
+fn fill_all(stands: &[stands::StandNumbers], alive: &[u64], bits: &mut [u8])
     requires { ⌜ AllWorded (now stands) (now alive) ⌝ }
-    ensures { λ x. ⌜ x ≡ aliveAt (now (stands .entry)) (now (alive .entry)) (address seg row) ⌝ }
+    requires { ⌜ Room (now stands) (now bits) ⌝ }
+    ensures { λ _. ⌜ now (bits .exit) ≡ laidOut (now (stands .entry)) (now (alive .entry)) (now (bits .entry)) (length (now (stands .entry))) ⌝ }
+{
+    let mut s: usize = 0;
+    while s < stands.len() {
+        let p = stands::stand_at(stands, s);
+        let from = p.alive.from;
+        let to = p.alive.to;
+        fill_bits(p.flag, &alive[from..to], p.rows, bits, p.work);
+        s += 1;
+    }
+}
+
+// ---- an address takes its row's bit
+
+// What bit b adds to a byte.
+fn weight(b: usize) -> usize
+    requires { ⌜ b < 8 ⌝ }
+    ensures { λ r. ⌜ r ≡ 2 ^ b ⌝ }
+{
+    1 << b
+}
+
+// Clears the row's bit; false where the segments have no such row, or where its bit is not set: a withdrawn row, or one that came before.
+fn take_bit(stands: &[stands::StandNumbers], seg: usize, row: usize, bits: &mut [u8]) -> bool
+    requires { ⌜ Room (now stands) (now bits) ⌝ }
+    ensures { λ x. ⌜ x ≡ isLeft (now (stands .entry)) (now (bits .entry)) (address seg row) ⌝ }
+    ensures { λ x. ⌜ now (bits .exit) ≡ cond x (without (now (stands .entry)) (now (bits .entry)) (address seg row)) (now (bits .entry)) ⌝ }
 {
     if stands.len() <= seg {
         return false;
@@ -32,91 +86,82 @@ fn alive_in(stands: &[stands::StandNumbers], alive: &[u64], seg: usize, row: usi
     if p.rows <= row {
         return false;
     }
-    let from = p.alive.from;
-    let to = p.alive.to;
-    row_alive(p.flag, &alive[from..to], row)
+    let at = p.work + row / 8;
+    let b = row % 8;
+    let x = runs::byte(bits[at]);
+    if (x >> b) % 2 != 1 {
+        return false;
+    }
+    bits[at] = (x - weight(b)) as u8;
+    true
 }
 
-// Marks each address's row, up to the first address that is absent, withdrawn or repeated: false there.
-fn mark_all(
-    stands: &[stands::StandNumbers],
-    alive: &[u64],
-    addresses: &[[u32; 2]],
-    work: &mut [u8],
-) -> bool
-    requires { ⌜ Markable (now stands) (now alive) (now work) ⌝ }
-    ensures { λ x. ⌜ x ≡ allNew (now (stands .entry)) (now (alive .entry)) (now (work .entry)) (addressesOf (now (addresses .entry))) ⌝ }
-    ensures { λ _. ⌜ now (work .exit) ≡ marked (now (stands .entry)) (now (alive .entry)) (now (work .entry)) (addressesOf (now (addresses .entry))) ⌝ }
+// Takes the bit of each address, up to the first that has none: false there.
+fn take_all(stands: &[stands::StandNumbers], addresses: &[[u32; 2]], bits: &mut [u8]) -> bool
+    requires { ⌜ Room (now stands) (now bits) ⌝ }
+    ensures { λ x. ⌜ x ≡ takes (now (stands .entry)) (now (bits .entry)) (addressesOf (now (addresses .entry))) ⌝ }
+    ensures { λ _. ⌜ now (bits .exit) ≡ leftBy (now (stands .entry)) (now (bits .entry)) (addressesOf (now (addresses .entry))) ⌝ }
 {
     let mut j: usize = 0;
     while j < addresses.len() {
         let a = addresses[j];
         let seg = segment::wide(a[0]);
         let row = segment::wide(a[1]);
-        if !alive_in(stands, alive, seg, row) {
+        if !take_bit(stands, seg, row, bits) {
             return false;
         }
-        let p = stands::stand_at(stands, seg);
-        let at = p.work + row;
-        if work[at] != 0 {
-            return false;
-        }
-        work[at] = 1;
         j += 1;
     }
     true
 }
 
-// How many rows of a segment are alive.
-fn rows_alive(flag: usize, alive: &[u64], rows: usize) -> usize
-    requires { ⌜ (flag ≡ 1 → rows ≤ 64 * length (now alive)) ⌝ }
-    requires { ⌜ rows ≤ 4294967294 ⌝ }
-    ensures { λ x. ⌜ x ≡ count (aliveBit flag (now (alive .entry))) (upTo rows) ⌝ }
+// Whether there was none so far, and none is in b.
+fn still_none(none: bool, b: u8) -> bool
+    ensures { λ x. ⌜ x ≡ ltb b 1 && none ⌝ }
 {
-    if flag != 1 {
-        return rows;
+    if b != 0 {
+        return false;
     }
-    alive_set::alive_before(alive, rows)
+    none
 }
 
-// How many rows of all segments are alive.
-fn all_alive(stands: &[stands::StandNumbers], alive: &[u64]) -> usize
-    requires { ⌜ Countable (now stands) (now alive) ⌝ }
-    ensures { λ x. ⌜ x ≡ allAlive (now (stands .entry)) (now (alive .entry)) ⌝ }
+// Whether no bit is left. To the end in any case, so that many bytes are looked at together.
+fn none_left(bits: &[u8]) -> bool
+    ensures { λ x. ⌜ x ≡ allBelow 1 (now (bits .entry)) ⌝ }
 {
-    let mut n: usize = 0;
-    let mut s: usize = 0;
-    while s < stands.len() {
-        let p = stands::stand_at(stands, s);
-        let from = p.alive.from;
-        let to = p.alive.to;
-        n += rows_alive(p.flag, &alive[from..to], p.rows);
-        s += 1;
+    let mut none = true;
+    let mut i: usize = 0;
+    while i < bits.len() {
+        none = still_none(none, bits[i]);
+        i += 1;
     }
-    n
+    none
 }
 
-// Whether each alive row is listed once and nothing else is: alive rows, each new, are all of them if they are as many. marks is zero at first, and holds the marks made on return.
+// ---- 9
+
+// Whether each alive row is listed once and nothing else is. bits is zero at first, and again where the answer is yes.
 fn each_once(
     records: &[segment::RecordNumbers],
     alive: &[u64],
     addresses: &[[u32; 2]],
-    marks: &mut [u8],
+    bits: &mut [u8],
 ) -> bool
-    requires { ⌜ Unmarked (recordsOf (now records)) (now alive) (now marks) ⌝ }
-    ensures { λ x. ⌜ x ≡ eachOnce (recordsOf (now (records .entry))) (now (alive .entry)) (addressesOf (now (addresses .entry))) ⌝ }
-    ensures { λ _. ⌜ now (marks .exit) ≡ marked (standsIn (now (records .entry))) (now (alive .entry)) (now (marks .entry)) (addressesOf (now (addresses .entry))) ⌝ }
+    requires { ⌜ Blank (recordsOf (now records)) (now alive) (now bits) ⌝ }
+    ensures { λ x. ⌜ x ≡ listsAliveRows (segmentsBy (recordsOf (now (records .entry))) (now (alive .entry))) (addressesOf (now (addresses .entry))) ⌝ }
+    ensures { λ x. ⌜ (x ≡ true → now (bits .exit) ≡ replicate (length (now (bits .entry))) 0) ⌝ }
 {
     let n = records.len();
     let mut stands = [[0usize; stands::NUMBERS]; 256];
     stands::fill_stands(records, &mut stands);
-    if !mark_all(&stands[..n], alive, addresses, marks) {
+    fill_all(&stands[..n], alive, bits);
+    if !take_all(&stands[..n], addresses, bits) {
         return false;
     }
-    all_alive(&stands[..n], alive) == addresses.len()
+    none_left(bits)
 }
 
-// Check 9. work is zero at first and again on return; only the bytes of the rows are marked and cleared.
+// Check 9. work is zero at first and again on return; only the bytes of the rows are written.
 pub fn addresses_fit(
     mode: u32,
     records: &[segment::RecordNumbers],
@@ -132,9 +177,11 @@ pub fn addresses_fit(
     if mode == 0 {
         return addresses.len() == 0;
     }
-    let fit = each_once(records, alive, addresses, &mut work[..rows]);
+    if each_once(records, alive, addresses, &mut work[..rows]) {
+        return true;
+    }
     runs::zero(&mut work[..rows]);
-    fit
+    false
 }
 
 // Check 8: an ordered join has a working byte for each row and each term.

@@ -49,7 +49,7 @@ fn join_rows(
     )
 }
 
-// The join of one column's segments, each by its record: `merge::join`, whose rows of eight numbers are made of the structs.
+// The join of one column's segments, each by its record: `merge::join`, whose rows of numbers are made of the structs.
 pub fn join_records(
     mode: u32,
     required: u32,

@@ -57,7 +57,7 @@ becomes u q = not (q .held) || isCoercible (q .type) u (q .values)
 
 -- a part as a segment of which only type and values are read
 abbrev pub asColumn : Part → Segment
-asColumn p = record { type = p .type; kind = 0; rows = 0; ids = []; offsets = []; values = p .values; terms = []; flag = 0; alive = [] }
+asColumn p = record { type = p .type; kind = 0; rows = 0; ids = []; offsets = []; values = p .values; terms = []; flag = 0; aliveCount = 0; alive = [] }
 
 unfoldable pub heldColumns : List Part → List Segment
 heldColumns ps = map asColumn (filter (λ (p : Part). p .held) ps)

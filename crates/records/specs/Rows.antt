@@ -10,7 +10,7 @@ use Rattle.segment.specs.declared.Record.{Record}
 
 -- what stands past the end
 abbrev pub none : Record
-none = record { typ = 0; kind = 0; rows = 0; ids = 0; offsets = 0; values = 0; terms = 0; flag = 0 }
+none = record { typ = 0; kind = 0; rows = 0; ids = 0; offsets = 0; values = 0; terms = 0; flag = 0; alive = 0 }
 
 -- the numbers in their order
 abbrev pub numbersOf : Record → List ℕ

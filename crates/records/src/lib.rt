@@ -36,6 +36,7 @@ pub fn numbers_of(r: segment::Record) -> segment::RecordNumbers
         r.values,
         r.terms,
         r.flag,
+        r.alive,
     ]
 }
 

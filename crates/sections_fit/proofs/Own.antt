@@ -12,9 +12,9 @@ use Rattle.definitions.specs.Lists.{sum, all, any}
 use Rattle.definitions.specs.Segment.{SegmentRecord, Sections, Input, segmentsOf, aliveWords, recordWords, firstSegment, afterFirst, segmentsFrom}
 use Rattle.definitions.specs.Row.{hasAliveSet}
 use Rattle.definitions.specs.Types.{isKnownType}
-use Rattle.definitions.specs.Answer.{total, codesWrong, aliveWrong, lengthsWrong, codesKnown, noColumnIsBare, segmentCodesWrong, isOld, someOld, listsFit, listsWrong, valuesFit, valuesWrong, bitPastRows, sumOver, bytesIn, termsIn, sumsTooLarge, greatestSum}
-use Rattle.segment_fit.specs.Fits.{pastRows, fitsAlive}
-use Rattle.segment_fit.proofs.Own.{assoc5, codes-first, lists-first, values-first, past-first, flag-first}
+use Rattle.definitions.specs.Answer.{total, codesWrong, aliveWrong, lengthsWrong, codesKnown, noColumnIsBare, segmentCodesWrong, isOld, someOld, listsFit, listsWrong, valuesFit, valuesWrong, aliveSetWrong, sumOver, bytesIn, termsIn, sumsTooLarge, greatestSum}
+use Rattle.segment_fit.specs.Fits.{fitsSet, fitsAlive}
+use Rattle.segment_fit.proofs.Own.{assoc5, codes-first, lists-first, values-first, set-first, flag-first}
 use Rattle.sections_fit.specs.Walks.{lengthsRight, Exact, codesFrom, knownCodes, noneOld, listsFrom, valuesFrom, aliveFitsFrom, sumsRight}
 use Rattle.definitions.proofs.Lists.{or-left, or-right}
 use Rattle.lists.proofs.Tests.{both-true}
@@ -112,27 +112,27 @@ values-all (r ∷ rs) s = ap₂ (λ (a b : Bool). a && b) (values-first r s) (va
 
 -- ---- 6
 
--- p, f: of the first segment; q, g: of the others
-alive-step : (m p q f g : Bool) → (p || q) || (m && (f || g)) ≡ not ((not (m && f) && not p) && not (q || (m && g)))
-alive-step false true q f g = refl
-alive-step true true q true g = refl
-alive-step true true q false g = refl
-alive-step false false true f g = refl
-alive-step true false true true g = refl
-alive-step true false true false g = refl
-alive-step false false false f g = refl
-alive-step true false false true g = refl
-alive-step true false false false true = refl
-alive-step true false false false false = refl
+-- p, f: of the first segment, whose set fits, and which has one; q, g: of the others, one of which doesn't fit, or has one
+alive-step : (m p q f g : Bool) → (not p || q) || (m && (f || g)) ≡ not ((not (m && f) && p) && not (q || (m && g)))
+alive-step false false q f g = refl
+alive-step true false q true g = refl
+alive-step true false q false g = refl
+alive-step false true true f g = refl
+alive-step true true true true g = refl
+alive-step true true true false g = refl
+alive-step false true false f g = refl
+alive-step true true false true g = refl
+alive-step true true false false true = refl
+alive-step true true false false false = refl
 
-alive-all : (mode : ℕ) (rs : List SegmentRecord) (s : Sections) → any bitPastRows (segmentsFrom rs s) || (eqb mode 0 && any hasAliveSet (segmentsFrom rs s)) ≡ not (aliveFitsFrom mode rs (s .alive))
+alive-all : (mode : ℕ) (rs : List SegmentRecord) (s : Sections) → any aliveSetWrong (segmentsFrom rs s) || (eqb mode 0 && any hasAliveSet (segmentsFrom rs s)) ≡ not (aliveFitsFrom mode rs (s .alive))
 unfolding aliveFitsFrom fitsAlive afterFirst
 alive-all mode [] s = and-false (eqb mode 0)
 alive-all mode (r ∷ rs) s =
-    let q = any bitPastRows (segmentsFrom rs (afterFirst r s)) in
+    let q = any aliveSetWrong (segmentsFrom rs (afterFirst r s)) in
     let g = any hasAliveSet (segmentsFrom rs (afterFirst r s)) in
     let e : not (q || (eqb mode 0 && g)) ≡ aliveFitsFrom mode rs (drop (aliveWords r) (s .alive)) = ap not (alive-all mode rs (afterFirst r s)) ∙ Bool·not-not (aliveFitsFrom mode rs (drop (aliveWords r) (s .alive))) in
-    rw (past-first r s, flag-first r s) (alive-step (eqb mode 0) (pastRows (r .rows) (take (aliveWords r) (s .alive))) q (eqb (r .flag) 1) g ∙ ap (λ (b : Bool). not ((not (eqb mode 0 && eqb (r .flag) 1) && not (pastRows (r .rows) (take (aliveWords r) (s .alive)))) && b)) e)
+    rw (set-first r s, flag-first r s) (alive-step (eqb mode 0) (fitsSet r (take (aliveWords r) (s .alive))) q (eqb (r .flag) 1) g ∙ ap (λ (b : Bool). not ((not (eqb mode 0 && eqb (r .flag) 1) && fitsSet r (take (aliveWords r) (s .alive))) && b)) e)
 
 -- ---- 7
 

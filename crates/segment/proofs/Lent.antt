@@ -7,9 +7,9 @@ use mathlib.Core.List.{List}
 use lib.Dec.{T}
 use lib.ListN.{length}
 use borrow.Author.Tests.{ltb-false}
-use Rattle.definitions.specs.Lists.{all}
+use Rattle.definitions.specs.Lists.{all, any}
 use Rattle.definitions.specs.Segment.{Segment}
-use Rattle.definitions.specs.Answer.{greatestSum, sumOver, bytesIn, tooManySegments, segmentCodesWrong, indexFits, valuesFit}
+use Rattle.definitions.specs.Answer.{greatestSum, sumOver, bytesIn, tooManySegments, segmentCodesWrong, indexFits, valuesFit, aliveSetWrong}
 use Rattle.definitions.proofs.Accept as Accept
 use Rattle.definitions.proofs.Checks.{passes}
 use Rattle.segment.specs.Records.{recordsOf, sectionsIn, segmentsIn}
@@ -32,6 +32,9 @@ module _ {records : List (List ℕ)} {ids offsets values lengths bytes alive : L
 
   pub values-fit : T (all valuesFit ss)
   values-fit = Accept.values-fit (recordsOf records) (sectionsIn ids offsets values lengths bytes alive) (c .passed)
+
+  pub alive-right : any aliveSetWrong ss ≡ false
+  alive-right = passes (c .passed) 6
 
   pub sums-low : (sumOver (λ (s : Segment). s .rows) ss ≤ greatestSum) × (sumOver (λ (s : Segment). length (s .values)) ss ≤ greatestSum) × (sumOver bytesIn ss ≤ greatestSum)
   sums-low = Accept.sums-low ss (passes (c .passed) 7)

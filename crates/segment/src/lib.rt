@@ -6,6 +6,7 @@ ghost use lib.ListN.{length, getD};
 ghost use Rattle.definitions.specs.Segment.{aliveWords, recordWords};
 ghost use Rattle.segment.specs.Records.{structOf, recordIn};
 
+// The last number is that of the alive rows: the set bits, or the rows where the flag is 0.
 pub struct Record {
     pub typ: u32,
     pub kind: u32,
@@ -15,10 +16,11 @@ pub struct Record {
     pub values: u32,
     pub terms: u32,
     pub flag: u32,
+    pub alive: u32,
 }
 
 // How many numbers a record has.
-pub const WIDTH: usize = 8;
+pub const WIDTH: usize = 9;
 
 // A record's numbers, as they are lent.
 pub type RecordNumbers = [u32; WIDTH];
@@ -36,6 +38,7 @@ pub fn record_of(r: RecordNumbers) -> Record
         values: r[5],
         terms: r[6],
         flag: r[7],
+        alive: r[8],
     }
 }
 

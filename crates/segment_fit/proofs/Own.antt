@@ -2,18 +2,19 @@
 use mathlib.Core.Path.{_≡_, refl, sym, ap, ap₂, _∙_}
 use mathlib.Core.Bool.{Bool, true, false, not, _&&_, _||_, cond, and-true, and-assoc}
 use mathlib.Core.List.{List, [], _∷_}
-use Prim.Native.Nat.{ℕ, suc, _+_, _≤_}
+use Prim.Native.Nat.{ℕ, suc, _+_, _*_, _≤_}
 use native.Mathlib.Numerals.{add-one}
 use lib.Dec.{eqb, ltb, leb, eqb·suc-zero}
 use lib.ListN.{length, take, getD}
 use lib.Seq.{length-take-le}
 use borrow.Author.Tests.{eqb-true}
-use Rattle.definitions.specs.Lists.{all, isEmpty, last, ascending, termsAscending, allBelow}
+use Rattle.definitions.specs.Lists.{upTo, all, any, isEmpty, last, ascending, termsAscending, allBelow}
 use Rattle.definitions.specs.Words.{valuesIn}
 use Rattle.definitions.specs.Segment.{SegmentRecord, Sections, cut, aliveWords, recordWords, firstSegment}
-use Rattle.definitions.specs.Row.{hasAliveSet, noType}
+use Rattle.definitions.specs.Row.{bitAt, setBits, hasAliveSet, aliveNumber, noType}
 use Rattle.definitions.specs.Types.{isKnownType, hasTerms, BoolType}
-use Rattle.definitions.specs.Answer.{codesKnown, noColumnIsBare, idsFit, offsetsFit, emptyFits, fullFits, optionalFits, oldFits, newFits, listsFit, valuesFit, bitPastRows}
+use Rattle.definitions.specs.Answer.{codesKnown, noColumnIsBare, idsFit, offsetsFit, emptyFits, fullFits, optionalFits, oldFits, newFits, listsFit, valuesFit, bitPastRows, aliveSetWrong}
+use Rattle.definitions.specs.Withdraw.{segmentOf}
 use Rattle.lists.proofs.Numbers.{leb-suc}
 use Rattle.lists.proofs.Lists.{empty-length, all-ext}
 use Rattle.definitions.proofs.Words.{unseen}
@@ -21,7 +22,7 @@ use Rattle.definitions.proofs.Sections.{cut-length, values-many}
 use Rattle.segment.specs.Kind.{byIndex}
 use Rattle.segment.proofs.Kind.{by-index}
 use Rattle.term_reader.specs.Read.{termsRise}
-use Rattle.segment_fit.specs.Fits.{rises, lastOf, bareCounts, fitsCodes, fitsIds, fitsOffsets, fitsEmpty, fitsFull, fitsOptional, fitsNew, fitsLists, fitsWords, fitsTerms, fitsValues, pastRows}
+use Rattle.segment_fit.specs.Fits.{rises, lastOf, bareCounts, fitsCodes, fitsIds, fitsOffsets, fitsEmpty, fitsFull, fitsOptional, fitsNew, fitsLists, fitsWords, fitsTerms, fitsValues, pastRows, fitsNumber, fitsSet}
 
 -- ---- lists
 
@@ -149,9 +150,19 @@ values-first r s =
 
 -- ---- 6
 
-pub past-first : (r : SegmentRecord) (s : Sections) → bitPastRows (firstSegment r s) ≡ pastRows (r .rows) (take (aliveWords r) (s .alive))
-unfolding firstSegment bitPastRows pastRows
-past-first r s = refl
+-- of a record and its alive words alone
+pub set-is : (r : SegmentRecord) (alive : List ℕ) → aliveSetWrong (segmentOf (record { given = r; words = alive })) ≡ not (fitsSet r alive)
+unfolding aliveSetWrong bitPastRows aliveNumber fitsSet fitsNumber pastRows
+set-is r alive = neither (any (λ x. leb (r .rows) x && bitAt alive x) (upTo (64 * length alive))) (eqb (r .aliveCount) (cond (eqb (r .flag) 1) (setBits alive) (r .rows)))
+  where
+    neither : (a b : Bool) → a || not b ≡ not (not a && b)
+    neither true b = refl
+    neither false b = refl
+
+-- of the first segment
+pub set-first : (r : SegmentRecord) (s : Sections) → aliveSetWrong (firstSegment r s) ≡ not (fitsSet r (take (aliveWords r) (s .alive)))
+unfolding firstSegment aliveSetWrong bitPastRows aliveNumber
+set-first r s = set-is r (take (aliveWords r) (s .alive))
 
 pub flag-first : (r : SegmentRecord) (s : Sections) → hasAliveSet (firstSegment r s) ≡ eqb (r .flag) 1
 unfolding firstSegment

@@ -7,7 +7,7 @@ use lib.ListN.{length, getD}
 use lib.Dec.{eqb, ltb, leb}
 use Rattle.definitions.specs.Lists.{any, allBelow, ascending, ascendingFrom, last, upTo}
 use Rattle.definitions.specs.Segment.{SegmentRecord}
-use Rattle.definitions.specs.Row.{bitAt, noType}
+use Rattle.definitions.specs.Row.{bitAt, setBits, noType}
 use Rattle.definitions.specs.Types.{isKnownType, hasTerms, BoolType}
 use Rattle.segment.specs.Kind.{byIndex}
 use Rattle.term_reader.specs.Read.{termsRise}
@@ -74,6 +74,12 @@ fitsValues r values lengths bytes = fitsWords (r .type) (length lengths) values 
 unfoldable pub pastRows : ℕ → List ℕ → Bool
 pastRows rows alive = any (λ r. leb rows r && bitAt alive r) (upTo (64 * length alive))
 
+unfoldable pub fitsNumber : SegmentRecord → List ℕ → Bool
+fitsNumber r alive = eqb (r .aliveCount) (cond (eqb (r .flag) 1) (setBits alive) (r .rows))
+
+unfoldable pub fitsSet : SegmentRecord → List ℕ → Bool
+fitsSet r alive = not (pastRows (r .rows) alive) && fitsNumber r alive
+
 -- stacked: an alive set is itself wrong
 unfoldable pub fitsAlive : ℕ → SegmentRecord → List ℕ → Bool
-fitsAlive mode r alive = not (eqb mode 0 && eqb (r .flag) 1) && not (pastRows (r .rows) alive)
+fitsAlive mode r alive = not (eqb mode 0 && eqb (r .flag) 1) && fitsSet r alive

@@ -7,7 +7,7 @@ ghost use lib.ListN.{length};
 ghost use lib.Dec.{eqb};
 ghost use Rattle.definitions.specs.Lists.{sum};
 ghost use Rattle.segment.specs.Records.{recordIn};
-ghost use Rattle.segment_fit.specs.Fits.{rises, lastOf, fitsCodes, bareCounts, fitsIds, fitsOffsets, fitsEmpty, fitsFull, fitsOptional, fitsNew, fitsLists, fitsWords, fitsTerms, fitsValues, pastRows, fitsAlive};
+ghost use Rattle.segment_fit.specs.Fits.{rises, lastOf, fitsCodes, bareCounts, fitsIds, fitsOffsets, fitsEmpty, fitsFull, fitsOptional, fitsNew, fitsLists, fitsWords, fitsTerms, fitsValues, pastRows, fitsNumber, fitsSet, fitsAlive};
 
 // ---- scans
 
@@ -245,7 +245,29 @@ fn has_stacked_set(mode: u32, flag: u32) -> bool
     flag == 1
 }
 
-// Check 6 of one segment: an alive set in a stacked join is wrong, and so is a bit past the rows.
+// Whether the number of alive rows is that of the set bits, or the rows where no alive set is.
+fn number_fits(r: segment::Record, alive: &[u64]) -> bool
+    requires { ⌜ length (now alive) ≤ 67108864 ⌝ }
+    ensures { λ x. ⌜ x ≡ fitsNumber (recordIn r) (now (alive .entry)) ⌝ }
+{
+    if r.flag != 1 {
+        return r.alive == r.rows;
+    }
+    segment::wide(r.alive) == alive_set::count_alive(alive)
+}
+
+// Whether the alive words and the number go with the record.
+pub fn set_fits(r: segment::Record, alive: &[u64]) -> bool
+    requires { ⌜ length (now alive) ≤ 67108864 ⌝ }
+    ensures { λ x. ⌜ x ≡ fitsSet (recordIn r) (now (alive .entry)) ⌝ }
+{
+    if past_rows(r.rows, alive) {
+        return false;
+    }
+    number_fits(r, alive)
+}
+
+// Check 6 of one segment: an alive set in a stacked join is wrong, and so is a bit past the rows or a wrong number of alive rows.
 pub fn alive_fits(mode: u32, r: segment::Record, alive: &[u64]) -> bool
     requires { ⌜ length (now alive) ≤ 67108864 ⌝ }
     ensures { λ x. ⌜ x ≡ fitsAlive mode (recordIn r) (now (alive .entry)) ⌝ }
@@ -253,5 +275,5 @@ pub fn alive_fits(mode: u32, r: segment::Record, alive: &[u64]) -> bool
     if has_stacked_set(mode, r.flag) {
         return false;
     }
-    !past_rows(r.rows, alive)
+    set_fits(r, alive)
 }

@@ -70,6 +70,7 @@ next-is {records} {s} e =
       text = record { from = 0; to = 0 };
       alive = record { from = e .alive i; to = e .alive i + aliveWords (recordAt records s) };
       map = record { from = 0; to = 0 };
+      live = recordAt records s .aliveCount;
     }
 
 ends-suc : (records : List (List ℕ)) (s : ℕ) → Ends records (suc s) (standIn records s)

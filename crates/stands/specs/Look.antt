@@ -75,6 +75,7 @@ pub record Stands (p : Stand) (ids offsets values words : List ℕ) (s : Segment
   pub kind : p .kind ≡ s .kind
   pub rows : p .rows ≡ s .rows
   pub flag : p .flag ≡ s .flag
+  pub live : p .live ≡ s .aliveCount
   pub ids-are : idsAt p ids ≡ s .ids
   pub offsets-are : offsetsAt p offsets ≡ s .offsets
   pub values-are : valuesIn (s .type) (valuesAt p values) ≡ s .values

@@ -55,6 +55,7 @@ standOf r =
       text = record { from = getD r 16 0; to = getD r 17 0 };
       alive = record { from = getD r 18 0; to = getD r 19 0 };
       map = record { from = getD r 20 0; to = getD r 21 0 };
+      live = getD r 22 0;
     }
 
 abbrev pub numbersOf : Stand → List ℕ
@@ -81,6 +82,7 @@ numbersOf p =
     ∷ p .alive .to
     ∷ p .map .from
     ∷ p .map .to
+    ∷ p .live
     ∷ []
 
 abbrev pub standAt : List (List ℕ) → ℕ → Stand
@@ -111,6 +113,7 @@ standIn records k =
       text = span 0 0;
       alive = span (startAt aliveWords records k) (aliveWords (recordAt records k));
       map = span 0 0;
+      live = recordAt records k .aliveCount;
     }
 
 abbrev pub standsIn : List (List ℕ) → List (List ℕ)
@@ -139,6 +142,7 @@ nextStand p r =
       text = span 0 0;
       alive = span (p .alive .to) (aliveWords r);
       map = span 0 0;
+      live = r .aliveCount;
     }
 
 -- no run ends after n

@@ -16,7 +16,7 @@ pub struct Span {
 }
 
 // Where a segment stands: the codes and rows of its record, whether it is held, its first byte where there is a working byte for each row, how many values it has
-// and how many words each of them has, and its runs, that of values in words.
+// and how many words each of them has, its runs, that of values in words, and how many of its rows are alive.
 pub struct Stand {
     pub typ: usize,
     pub kind: usize,
@@ -33,10 +33,11 @@ pub struct Stand {
     pub text: Span,
     pub alive: Span,
     pub map: Span,
+    pub live: usize,
 }
 
 // How many numbers a stand has.
-pub const NUMBERS: usize = 22;
+pub const NUMBERS: usize = 23;
 
 // A stand's numbers, as a table has them.
 pub type StandNumbers = [usize; NUMBERS];
@@ -89,6 +90,7 @@ pub fn stand_of(r: StandNumbers) -> Stand
         text: text,
         alive: alive,
         map: map,
+        live: r[22],
     }
 }
 
@@ -127,6 +129,7 @@ pub fn numbers_of(p: Stand) -> StandNumbers
         p.alive.to,
         p.map.from,
         p.map.to,
+        p.live,
     ]
 }
 
@@ -178,6 +181,7 @@ fn next(p: Stand, r: segment::Record) -> Stand
         text: none,
         alive: alive,
         map: none,
+        live: segment::wide(r.alive),
     }
 }
 

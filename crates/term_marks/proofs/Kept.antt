@@ -109,7 +109,7 @@ words-single s fit pos =
 -- ---- the segment that stands there
 
 module _ {p : Stand} {ids offsets values words : List ℕ} {s : Segment} (st : Stands p ids offsets values words s) (plain : eqb (s .type) IpAddr ≡ false) where
-  column-is : record { type = s .type; kind = p .kind; rows = p .rows; ids = idsAt p ids; offsets = offsetsAt p offsets; values = valuesAt p values; terms = s .terms; flag = p .flag; alive = aliveSetAt p words } ≡ s
+  column-is : record { type = s .type; kind = p .kind; rows = p .rows; ids = idsAt p ids; offsets = offsetsAt p offsets; values = valuesAt p values; terms = s .terms; flag = p .flag; aliveCount = p .live; alive = aliveSetAt p words } ≡ s
   column-is =
       λ i.
       record {
@@ -121,6 +121,7 @@ module _ {p : Stand} {ids offsets values words : List ℕ} {s : Segment} (st : S
         values = (sym (values-plain (s .type) plain (valuesAt p values)) ∙ st .values-are) i;
         terms = s .terms;
         flag = st .flag i;
+        aliveCount = st .live i;
         alive = st .alive-are i;
       }
 

@@ -29,6 +29,7 @@ columnAt p ids offsets values alive =
       values = valuesAt p values;
       terms = [];
       flag = p .flag;
+      aliveCount = p .live;
       alive = aliveSetAt p alive;
     }
 

@@ -2,23 +2,20 @@
 use mathlib.Core.Path.{_≡_, refl}
 use mathlib.Core.Bool.{Bool, true, false, _&&_, _||_}
 use mathlib.Core.List.{List, [], _∷_, map}
-use Prim.Native.Nat.{ℕ, _+_, _-_, _*_, _≤_, _<_, zero-le}
+use Prim.Native.Nat.{ℕ, _+_, _-_, _≤_, _<_, zero-le}
 use native.Mathlib.Numerals.{add-one}
 use lib.Dec.{eqb, leb}
 use lib.ListN.{length, drop, take, getD, drop-of-length-le}
 use lib.Seq.{drop-cons}
 use borrow.Author.Tests.{eq-eqb, ne-eqb, le-leb, lt-leb}
 use Rattle.definitions.specs.Lists.{notFallingFrom}
-use Rattle.definitions.specs.Segment.{SegmentRecord, aliveWords, recordWords}
-use Rattle.definitions.specs.Row.{bitAt}
+use Rattle.definitions.specs.Segment.{SegmentRecord, recordWords}
 use Rattle.definitions.specs.TimeOrder.{timeOf}
 use Rattle.segment.specs.declared.Record.{Record}
 use Rattle.segment.specs.Records.{structOf, recordIn, recordsOf}
 use Rattle.segment.proofs.Walk.{records-end, records-step}
-use Rattle.alive_set.specs.Alive.{aliveCount}
-use Rattle.time_checks.specs.Times.{singlesFrom, singles, timesRise, fitsTimes, timesFrom, aliveIn, aliveCountFrom}
+use Rattle.time_checks.specs.Times.{singlesFrom, singles, timesRise, fitsTimes, timesFrom}
 use Rattle.lists.proofs.Parts.{part-is, rest-is}
-use Rattle.lists.proofs.Lists.{count-most}
 use Rattle.definitions.proofs.Lists.{or-holds}
 
 -- ---- times
@@ -68,30 +65,12 @@ pub singles-end : (m : ℕ) (offsets : List ℕ) (i : ℕ) → length offsets �
 unfolding singlesFrom
 singles-end m offsets i h = rw (drop-of-length-le offsets h)
 
--- ---- alive rows
-
-pub alive-most : (words : List ℕ) → aliveCount words ≤ 64 * length words
-unfolding aliveCount
-alive-most words = count-most (bitAt words) 0 (64 * length words)
-
-pub alive-set : (r : SegmentRecord) (alive : List ℕ) → r .flag ≡ 1 → aliveIn r alive ≡ aliveCount alive
-unfolding aliveIn
-alive-set r alive e = rw (eq-eqb (r .flag) 1 e)
-
-pub alive-all : (r : SegmentRecord) (alive : List ℕ) → (r .flag ≡ 1 → ⊥) → aliveIn r alive ≡ r .rows
-unfolding aliveIn
-alive-all r alive d = rw (ne-eqb (r .flag) 1 d)
-
 -- ---- the walks
 
 module _ (records : List (List ℕ)) (s : ℕ) (h : length records ≤ s) where
   pub times-end : (offsets values : List ℕ) → true ≡ timesFrom (recordsOf (drop s records)) offsets values
   unfolding timesFrom
   times-end offsets values = rw (records-end records s h)
-
-  pub alive-end : (alive : List ℕ) → aliveCountFrom (recordsOf (drop s records)) alive ≡ 0
-  unfolding aliveCountFrom
-  alive-end alive = rw (records-end records s h)
 
 module _ (records : List (List ℕ)) (s : ℕ) (h : s < length records) {r : Record} (e : r ≡ structOf (getD records s [])) where
   pub times-step : (offsets values : List ℕ) (o o′ v v′ : ℕ) → o′ ≡ o + r .offsets → v′ ≡ v + recordWords (recordIn r)
@@ -100,12 +79,6 @@ module _ (records : List (List ℕ)) (s : ℕ) (h : s < length records) {r : Rec
   unfolding timesFrom
   times-step offsets values o o′ v v′ p q =
       rw (part-is (r .offsets) o o′ offsets p, part-is (recordWords (recordIn r)) v v′ values q, rest-is (r .offsets) o o′ offsets p, rest-is (recordWords (recordIn r)) v v′ values q, records-step records s h e)
-
-  pub alive-step : (alive : List ℕ) (a a′ n : ℕ) → n ≡ aliveWords (recordIn r) → a′ ≡ a + n
-      → aliveCountFrom (recordsOf (drop s records)) (drop a alive)
-      ≡ aliveIn (recordIn r) (take (a′ - a) (drop a alive)) + aliveCountFrom (recordsOf (drop (s + 1) records)) (drop a′ alive)
-  unfolding aliveCountFrom
-  alive-step alive a a′ n k p = rw (part-is n a a′ alive p, rest-is n a a′ alive p, k, records-step records s h e)
 
 -- ---- one segment
 

@@ -1,36 +1,30 @@
 -- The answers of the time order as the code finds them are the definitions' own. Assumes nothing.
-use Prim.Native.Nat.{ℕ, zero, suc, _+_, _-_, _*_, _/_, _≤_, _<_}
-use native.Mathlib.Nat.{add-zero, zero-add}
+use Prim.Native.Nat.{ℕ, _≤_, _<_}
 use native.Mathlib.Omega.{arith}
 use mathlib.Core.Path.{_≡_, refl, sym, ap, ap₂, _∙_}
 use mathlib.Core.List.{List, [], _∷_, map}
-use mathlib.Core.Bool.{Bool, true, false, cond, not, _&&_, _||_, or-false}
-use lib.ListN.{length, take, drop, length-drop}
-use lib.Seq.{length-take-le}
-use lib.Dec.{T, eqb, ltb, leb}
+use mathlib.Core.Bool.{Bool, true, false, not, _&&_, _||_, or-false}
+use lib.ListN.{length, take, drop}
+use lib.Dec.{T, eqb, ltb}
 use lib.Ieee.Fits.{and-l, and-r}
-use borrow.Author.Tests.{le-leb, lt-ltb, le-ltb}
-use Rattle.definitions.specs.Lists.{all, any, count, upFrom, upTo, sum, notFalling}
+use borrow.Author.Tests.{lt-ltb, le-ltb}
+use Rattle.definitions.specs.Lists.{all, any, upTo, notFalling}
 use Rattle.definitions.specs.Words.{valuesIn}
-use Rattle.definitions.specs.Segment.{Segment, SegmentRecord, Sections, Input, wordsFor, aliveWords, recordWords, firstSegment, afterFirst, segmentsFrom, segmentsOf}
-use Rattle.definitions.specs.Row.{bitAt, isAlive, aliveRows, rowValues, isPresent, noType}
+use Rattle.definitions.specs.Segment.{Segment, SegmentRecord, Sections, Input, recordWords, firstSegment, afterFirst, segmentsFrom, segmentsOf}
+use Rattle.definitions.specs.Row.{rowValues, isPresent, noType}
 use Rattle.definitions.specs.Types.{isKnownType, DateTime}
 use Rattle.definitions.specs.Checks.{Check, firstOf, Passed}
-use Rattle.definitions.specs.Answer.{total, segmentCodesWrong, codesWrong, aliveWrong, indexFits, bitPastRows, aliveAddresses, segmentChecks, plainChecks, checksToSeven}
+use Rattle.definitions.specs.Answer.{total, segmentCodesWrong, codesWrong, aliveWrong, indexFits, aliveSetWrong, aliveAddresses, segmentChecks, plainChecks, checksToSeven}
 use Rattle.definitions.specs.TimeOrder.{TimeInput, timeOf, timesWrong, timeOwnChecks, timeChecks, timeAnswer}
 use Rattle.definitions.proofs.Words.{unseen}
 use Rattle.definitions.proofs.Accept.{index-fits}
 use Rattle.definitions.proofs.Checks.{first-stays, first-passed, all-passed, passes}
-use Rattle.definitions.proofs.TimeOrder.{filter-count, alive-total}
 use Rattle.segment.specs.Lent.{workingOnly}
 use Rattle.sections_fit.proofs.Seven.{Ready, ready}
-use Rattle.alive_set.specs.Alive.{aliveCount}
-use Rattle.alive_set.proofs.Ones.{count-same, count-split}
-use Rattle.time_checks.specs.Times.{singles, timesRise, fitsTimes, timesFrom, aliveIn, aliveCountFrom}
+use Rattle.definitions.proofs.AliveNumber.{total-number}
+use Rattle.time_checks.specs.Times.{singles, timesRise, fitsTimes, timesFrom, aliveOf}
 use Rattle.time_checks.proofs.Several.{several}
-use Rattle.definitions.proofs.Lists.{mem-upTo, any-false}
-use Rattle.lists.proofs.Tests.{taken, other, neither}
-use Rattle.lists.proofs.Lists.{count-every}
+use Rattle.lists.proofs.Tests.{taken, other}
 
 -- ---- up to 7
 
@@ -43,7 +37,7 @@ pub plain-seven : (i : TimeInput) → checksToSeven (asOrdered i) ≡ plainCheck
 unfolding codesWrong aliveWrong segmentsOf isKnownType
 plain-seven i =
     let ss = segmentsFrom (i .records) (i .sections) in
-    ap (λ (b : Bool). segmentChecks (segmentCodesWrong ss) b (i .records) (i .sections)) (or-false (any bitPastRows ss))
+    ap (λ (b : Bool). segmentChecks (segmentCodesWrong ss) b (i .records) (i .sections)) (or-false (any aliveSetWrong ss))
 
 -- ---- 12
 
@@ -82,49 +76,6 @@ times-all (r ∷ rs) s h =
     ∙ not-and ((eqb (r .type) noType || eqb (r .type) DateTime) && (singles (take (r .offsets) (s .offsets)) && timesRise (valuesIn (r .type) (take (recordWords r) (s .values))))) (timesFrom rs (drop (r .offsets) (s .offsets)) (drop (recordWords r) (s .values)))
     ∙ ap (λ (b : Bool). not (b && timesFrom rs (drop (r .offsets) (s .offsets)) (drop (recordWords r) (s .values)))) (words-times (r .type) (singles (take (r .offsets) (s .offsets))) (take (recordWords r) (s .values)))
 
--- ---- 11
-
-count-none : (p : ℕ → Bool) (s n : ℕ) → ((r : ℕ) → s ≤ r → r < s + n → p r ≡ false) → count p (upFrom s n) ≡ 0
-count-none p s zero h = refl
-count-none p s (suc n) h = rw (h s (omega arith) (omega arith)) (count-none p (suc s) n (λ r l k. h r (omega arith) (omega arith)))
-
-module _ (s : Segment) (words : length (s .alive) ≡ cond (eqb (s .flag) 1) (wordsFor (s .rows)) 0) (inside : bitPastRows s ≡ false) where
-  bit-past : (r : ℕ) → s .rows ≤ r → r < 64 * length (s .alive) → bitAt (s .alive) r ≡ false
-  unfolding bitPastRows
-  bit-past r l h =
-      rw (le-leb (s .rows) r l) at (any-false (λ r. leb (s .rows) r && bitAt (s .alive) r) (upTo (64 * length (s .alive))) inside (mem-upTo (64 * length (s .alive)) r h))
-
-  pub alive-is : length (aliveRows s) ≡ cond (eqb (s .flag) 1) (aliveCount (s .alive)) (s .rows)
-  unfolding aliveRows isAlive aliveCount
-  alive-is = filter-count (isAlive s) (upTo (s .rows)) ∙ go (eqb (s .flag) 1) refl
-    where
-      go : (b : Bool) → eqb (s .flag) 1 ≡ b → count (isAlive s) (upTo (s .rows)) ≡ cond b (count (bitAt (s .alive)) (upTo (64 * length (s .alive)))) (s .rows)
-      go true e =
-          let w : length (s .alive) ≡ (s .rows + 63) / 64 = words ∙ ap (λ (b : Bool). cond b (wordsFor (s .rows)) 0) e in
-          let n = 64 * length (s .alive) - s .rows in
-          let m : 64 * length (s .alive) ≡ s .rows + n = omega arith in
-          let z : count (bitAt (s .alive)) (upFrom (s .rows) n) ≡ 0 = count-none (bitAt (s .alive)) (s .rows) n (λ r l k. bit-past r l (omega arith)) in
-          count-same (isAlive s) (bitAt (s .alive)) 0 (s .rows) (λ r l. ap (λ (b : Bool). cond b (bitAt (s .alive) r) true) e)
-          ∙ sym (ap (λ (k : ℕ). count (bitAt (s .alive)) (upFrom 0 k)) m
-          ∙ count-split (bitAt (s .alive)) 0 (s .rows) n
-          ∙ ap (λ (k : ℕ). count (bitAt (s .alive)) (upFrom 0 (s .rows)) + k) (ap (λ (k : ℕ). count (bitAt (s .alive)) (upFrom k n)) (zero-add (s .rows)) ∙ z)
-          ∙ add-zero (count (bitAt (s .alive)) (upFrom 0 (s .rows))))
-      go false e = count-every (isAlive s) 0 (s .rows) (λ r. ap (λ (b : Bool). cond b (bitAt (s .alive) r) true) e)
-
-alive-sum : (rs : List SegmentRecord) (s : Sections) → total aliveWords rs ≤ length (s .alive) → any bitPastRows (segmentsFrom rs s) ≡ false
-    → sum (map (λ x. length (aliveRows x)) (segmentsFrom rs s)) ≡ aliveCountFrom rs (s .alive)
-unfolding aliveCountFrom aliveIn firstSegment afterFirst aliveWords
-alive-sum [] s h e = refl
-alive-sum (r ∷ rs) s h e =
-    let t = neither (bitPastRows (firstSegment r s)) (any bitPastRows (segmentsFrom rs (afterFirst r s))) e in
-    ap₂ (λ (a b : ℕ). a + b)
-    (alive-is (firstSegment r s) (length-take-le (aliveWords r) (s .alive) (omega arith)) (t .0))
-    (alive-sum rs (afterFirst r s) (rw (length-drop (aliveWords r) (s .alive)) (omega arith)) (t .1))
-
-pub alive-number : (rs : List SegmentRecord) (s : Sections) → total aliveWords rs ≤ length (s .alive) → any bitPastRows (segmentsFrom rs s) ≡ false
-    → aliveCountFrom rs (s .alive) ≡ length (aliveAddresses (segmentsFrom rs s))
-alive-number rs s h e = sym (alive-total (segmentsFrom rs s) ∙ alive-sum rs s h e)
-
 -- ---- the answers, one after another
 
 module _ (i : TimeInput) where
@@ -146,13 +97,13 @@ module _ (i : TimeInput) where
     unfolding timeAnswer timeChecks
     later = first-passed plain (firstOf (timeOwnChecks i)) passed
 
-    number-is : aliveCountFrom (i .records) (i .sections .alive) ≡ length (aliveAddresses (segmentsFrom (i .records) (i .sections)))
-    number-is = alive-number (i .records) (i .sections) (omega (arith, first-ready .exact .alive)) (passes passed 6)
+    number-is : total aliveOf (i .records) ≡ length (aliveAddresses (segmentsFrom (i .records) (i .sections)))
+    number-is = total-number (i .records) (i .sections) (omega (arith, first-ready .exact .alive)) (passes passed 6)
 
     times-is : timesWrong (segmentsFrom (i .records) (i .sections)) ≡ not (timesFrom (i .records) (i .sections .offsets) (i .sections .values))
     times-is = times-all (i .records) (i .sections) (index-fits (i .records) (i .sections) passed)
 
-    module _ {n : ℕ} (m : n ≡ aliveCountFrom (i .records) (i .sections .alive)) where
+    module _ {n : ℕ} (m : n ≡ total aliveOf (i .records)) where
       alive-is-n : length (aliveAddresses (segmentsFrom (i .records) (i .sections))) ≡ n
       alive-is-n = sym (m ∙ number-is)
 

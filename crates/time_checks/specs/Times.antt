@@ -1,16 +1,15 @@
--- Check 12 and the number of alive rows, over just the numbers and lists that each reads. proofs/Own.antt says that they are the definitions' own. Assumes nothing.
+-- Check 12, over just the numbers and lists that it reads, and the number of alive rows. proofs/Own.antt says that they are the definitions' own. Assumes nothing.
 use Prim.Native.Nat.{ℕ, _+_, _≤_}
 use mathlib.Core.List.{List, [], _∷_, map}
-use mathlib.Core.Bool.{Bool, true, _&&_, _||_, cond}
+use mathlib.Core.Bool.{Bool, true, _&&_, _||_}
 use lib.ListN.{length, take, drop}
 use lib.Dec.{eqb, leb}
 use Rattle.definitions.specs.Lists.{notFalling}
-use Rattle.definitions.specs.Segment.{SegmentRecord, aliveWords, recordWords}
+use Rattle.definitions.specs.Segment.{SegmentRecord, recordWords}
 use Rattle.definitions.specs.Row.{noType}
 use Rattle.definitions.specs.Types.{DateTime}
 use Rattle.definitions.specs.TimeOrder.{timeOf}
 use Rattle.definitions.specs.Answer.{total}
-use Rattle.alive_set.specs.Alive.{aliveCount}
 
 -- ---- 12
 
@@ -43,10 +42,6 @@ pub record HoldsTimes (rs : List SegmentRecord) (os vs : List ℕ) : Type 0 wher
 
 -- ---- 11
 
-unfoldable pub aliveIn : SegmentRecord → List ℕ → ℕ
-aliveIn r alive = cond (eqb (r .flag) 1) (aliveCount alive) (r .rows)
-
-unfoldable pub aliveCountFrom : List SegmentRecord → List ℕ → ℕ
-unfolding aliveIn
-aliveCountFrom [] alive = 0
-aliveCountFrom (r ∷ rs) alive = aliveIn r (take (aliveWords r) alive) + aliveCountFrom rs (drop (aliveWords r) alive)
+-- the number of alive rows that a record holds
+abbrev pub aliveOf : SegmentRecord → ℕ
+aliveOf r = r .aliveCount

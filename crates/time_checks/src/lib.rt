@@ -3,11 +3,10 @@
 ghost use mathlib.Core.Path.{_≡_};
 ghost use Prim.Native.Nat.{_<_, _≤_};
 ghost use lib.ListN.{length};
-ghost use Rattle.definitions.specs.Segment.{aliveWords};
 ghost use Rattle.definitions.specs.Answer.{total};
 ghost use Rattle.definitions.specs.TimeOrder.{timeOf, timeAnswer};
 ghost use Rattle.segment.specs.Records.{recordIn, recordsOf};
-ghost use Rattle.time_checks.specs.Times.{singles, timesRise, fitsTimes, timesFrom, HoldsTimes, aliveIn, aliveCountFrom};
+ghost use Rattle.time_checks.specs.Times.{singles, timesRise, fitsTimes, timesFrom, HoldsTimes, aliveOf};
 ghost use Rattle.time_checks.specs.Lent.{lentTimes};
 
 // ---- 12
@@ -90,32 +89,16 @@ fn all_times_fit(records: &[segment::RecordNumbers], offsets: &[u32], values: &[
 
 // ---- 11
 
-// How many rows of a segment are alive: all without an alive set.
-fn alive_in(r: segment::Record, alive: &[u64]) -> usize
-    requires { ⌜ length (now alive) ≤ 67108864 ⌝ }
-    ensures { λ n. ⌜ n ≡ aliveIn (recordIn r) (now (alive .entry)) ⌝ }
-    ensures { λ n. ⌜ n ≤ 4294967296 ⌝ }
-{
-    let rows = r.rows;
-    if r.flag == 1 {
-        return alive_set::count_alive(alive);
-    }
-    segment::wide(rows)
-}
-
-fn all_alive(records: &[segment::RecordNumbers], alive: &[u64]) -> usize
+// How many rows are alive: what the records say together. 6 has found each of them right.
+fn all_alive(records: &[segment::RecordNumbers]) -> usize
     requires { ⌜ length (now records) ≤ 256 ⌝ }
-    requires { ⌜ total aliveWords (recordsOf (now records)) ≤ length (now alive) ⌝ }
-    ensures { λ n. ⌜ n ≡ aliveCountFrom (recordsOf (now (records .entry))) (now (alive .entry)) ⌝ }
+    ensures { λ n. ⌜ n ≡ total aliveOf (recordsOf (now (records .entry))) ⌝ }
 {
     let mut n: usize = 0;
     let mut s: usize = 0;
-    let mut a: usize = 0;
     while s < records.len() {
         let r = segment::record_at(records, s);
-        let end = a + segment::alive_words(r);
-        n += alive_in(r, &alive[a..end]);
-        a = end;
+        n += segment::wide(r.alive);
         s += 1;
     }
     n
@@ -150,7 +133,7 @@ pub fn answer(
     if first != 0 {
         return first;
     }
-    if space < all_alive(records, alive) {
+    if space < all_alive(records) {
         return 11;
     }
     if !all_times_fit(records, offsets, values) {

@@ -79,6 +79,7 @@ segmentIn p ids values alive =
       values = valuesAt p values;
       terms = [];
       flag = p .flag;
+      aliveCount = p .live;
       alive = aliveSetAt p alive;
     }
 

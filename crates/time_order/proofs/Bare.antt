@@ -24,7 +24,7 @@ use Rattle.time_order.proofs.Single.{time-sound, start-same, end-same}
 
 -- the segment without its type, offsets and terms
 abbrev pub bare : Segment → Segment
-bare s = record { type = 0; kind = timeKind (s .kind); rows = s .rows; ids = s .ids; offsets = []; values = s .values; terms = []; flag = s .flag; alive = s .alive }
+bare s = record { type = 0; kind = timeKind (s .kind); rows = s .rows; ids = s .ids; offsets = []; values = s .values; terms = []; flag = s .flag; aliveCount = s .aliveCount; alive = s .alive }
 
 -- what the checks say: the lists fit, and no row has several times
 pub record Single (s : Segment) : Type 0 where

@@ -127,6 +127,7 @@ module _ (records : List (List ℕ)) (ids offsets values lengths bytes alive : L
             values = (sym (values-plain (getD ss k absent .type) (times .0) (valuesAt p values)) ∙ st .values-are) i;
             terms = [];
             flag = st .flag i;
+            aliveCount = st .live i;
             alive = st .alive-are i;
           }
 

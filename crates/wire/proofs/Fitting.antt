@@ -7,6 +7,7 @@ use native.Mathlib.Omega.{arith}
 use borrow.Author.Tests.{eqb-true, leb-true, not-false}
 use lib.Dec.{eqb, leb}
 use lib.ListN.{length, getD, take}
+use Rattle.definitions.specs.Segment.{recordWidth}
 use Rattle.definitions.specs.Wire.{wordSections, sectionAt, endsFrom, widthsFit, wordsFit, wordsOf, wholeWords, bytesFit, recordGroups, addressGroups, lentFrom, programBuffers}
 use Rattle.definitions.specs.Lists.{allBelow}
 use Rattle.definitions.specs.Outcome.{lentOf}
@@ -86,7 +87,7 @@ module _ {words bounds : List ℕ} (f : Fitted words bounds) where
 
   pub few-records : (n : ℕ) → n ≡ length (recordGroups (wordSections words)) → n ≤ 1024
   unfolding recordGroups
-  few-records n e = omega (arith, grouped-length 8 (length (sectionAt (wordSections words) 1) / 8) (sectionAt (wordSections words) 1), few 1 _ (omega arith) refl)
+  few-records n e = omega (arith, grouped-length recordWidth (length (sectionAt (wordSections words) 1) / recordWidth) (sectionAt (wordSections words) 1), few 1 _ (omega arith) refl)
 
   pub few-addresses : (n : ℕ) → n ≡ length (addressGroups (wordSections words)) → n ≤ 4096
   unfolding addressGroups

@@ -10,6 +10,7 @@ use borrow.Author.Tests.{lt-ltb, le-ltb, ltb-true, ltb-false, le-leb, lt-leb, le
 use lib.Dec.{ltb, leb, eqb}
 use lib.ListN.{length, drop, take, getD, set, length-append, length-take, length-drop, drop-of-length-le, List·getD-append}
 use lib.Seq.{drop-cons, drop-drop}
+use Rattle.definitions.specs.Segment.{recordWidth}
 use Rattle.definitions.specs.Wire.{elementWords, sectionsBy, wordSections, endsFrom, sectionAt, grouped, recordGroups, addressGroups}
 use Rattle.lists.proofs.Parts.{part-length}
 use Rattle.wire.proofs.Words.{below-all}
@@ -259,10 +260,10 @@ number-short k i words bounds n h = omega (arith, part-short _ _ _ _ (part-of wo
 pub number-ok : (bound k i : ℕ) (s words bounds : List ℕ) → Narrow words bounds k bound → s ≡ sectionAt (wordSections words) k → i < length (sectionAt (wordSections words) k) → getD s i 0 < bound
 number-ok bound k i s words bounds n e h = rw e (below-all bound (sectionAt (wordSections words) k) (n .below) i h)
 
-pub records-done : (ss : List (List ℕ)) (s : List ℕ) (old out : List (List ℕ)) → s ≡ sectionAt ss 1 → out ≡ put 0 (grouped 8 (length s / 8) s) old → (length s / 8 ≡ length (recordGroups ss)) × (out ≡ put 0 (recordGroups ss) old)
+pub records-done : (ss : List (List ℕ)) (s : List ℕ) (old out : List (List ℕ)) → s ≡ sectionAt ss 1 → out ≡ put 0 (grouped recordWidth (length s / recordWidth) s) old → (length s / recordWidth ≡ length (recordGroups ss)) × (out ≡ put 0 (recordGroups ss) old)
 unfolding recordGroups
 records-done ss s old out e o =
-    (sym (grouped-length 8 (length (sectionAt ss 1) / 8) (sectionAt ss 1) ∙ ap (λ (l : List ℕ). length l / 8) (sym e)), o ∙ ap (λ (l : List ℕ). put 0 (grouped 8 (length l / 8) l) old) e)
+    (sym (grouped-length recordWidth (length (sectionAt ss 1) / recordWidth) (sectionAt ss 1) ∙ ap (λ (l : List ℕ). length l / recordWidth) (sym e)), o ∙ ap (λ (l : List ℕ). put 0 (grouped recordWidth (length l / recordWidth) l) old) e)
 
 pub addresses-done : (ss : List (List ℕ)) (s : List ℕ) (old out : List (List ℕ)) → s ≡ sectionAt ss 8 → out ≡ put 0 (grouped 2 (length s / 2) s) old → (length s / 2 ≡ length (addressGroups ss)) × (out ≡ put 0 (addressGroups ss) old)
 unfolding addressGroups

@@ -31,10 +31,15 @@
 //! The converter, for which the crate has no counterpart either, is measured by itself, in the same rounds:
 //! the whole call, with all checks, into lists already touched that have place for an id and an offset
 //! of every row; and beside it a plain copy of the stored offsets.
+//!
+//! Withdraw and reinstate (withdraw.rs) are measured by themselves too, in the same rounds: whole calls of one
+//! row that change it, calls that are refused with 15, and whole calls of a run of rows; and beside them, in
+//! plain Rust, a count of the set bits and the same changes.
 mod by_sort;
 mod inputs;
 mod plot;
 mod report;
+mod withdraw;
 
 use std::time::Duration;
 

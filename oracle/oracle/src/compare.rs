@@ -1,10 +1,12 @@
 //! The comparison: seeded inputs and damaged copies, each given to the joiner, whose answer and
 //! memory are held to the crate's merge (accepted) and to the table (refused); stored segments of kind 3
 //! given to the converter, which is held to its model, and then to the joiner, which is held to the
-//! crate's merge of the segments before their conversion; and segments of times given to the time
-//! order, which is held to its model, and then to the joiner in the order found.
+//! crate's merge of the segments before their conversion; segments of times given to the time order, which
+//! is held to its model, and then to the joiner in the order found; and records with their alive sets given
+//! to withdraw and reinstate in turn, which are held to their model, and then to the joiner.
 mod listeners;
 mod orders;
+mod turns;
 
 use std::io::{Read, Write};
 use std::path::{Path, PathBuf};
@@ -22,8 +24,10 @@ use crate::run;
 use crate::slips::{How, Standin, slips};
 use crate::table::{self, CHECKS, Call, Lent, PROGRAM, PROGRAM_BYTES};
 use crate::wire::{IP, Input, Listing, Outcome, Sections, Seg, to_words, values_of, width};
+use crate::withdraw::{self, AliveSet, Mark};
 use listeners::Listeners;
 use orders::Orders;
+use turns::Turns;
 
 pub enum Ours {
     Library,
@@ -36,15 +40,18 @@ pub struct Options {
     pub from: u64,
     pub count: u64,
     pub jobs: u64,
+    /// Withdraw and reinstate alone.
+    pub withdraw: bool,
 }
 
 const MOST_DIFFERENCES: u64 = 5;
 
-/// One call: what is handed over and how much is lent.
+/// One call, or several in turn: what is handed over and how much is lent.
 pub enum Task {
     Join { sections: Sections, lent: Lent, source: Source },
     Convert { sections: Sections, space: Space },
     Order { sections: Sections, space: usize },
+    Turn { set: AliveSet, marks: Vec<Mark> },
 }
 
 /// Where the segments and the row order of a join come from.
@@ -55,6 +62,8 @@ pub enum Source {
     Converted(Input),
     /// The row order is the segments' time order, which a join must take.
     Ordered,
+    /// The alive sets are as withdraw and reinstate left them, which a join must take.
+    Marked,
 }
 
 /// What must come of it.
@@ -62,6 +71,7 @@ pub enum Must {
     Join(Outcome),
     Convert(convert::Outcome),
     Order(order::Outcome),
+    Turn(Vec<withdraw::Outcome>),
 }
 
 /// Which function is called.
@@ -70,6 +80,7 @@ pub enum Part {
     Join,
     Convert,
     Order,
+    Mark,
 }
 
 impl Task {
@@ -81,6 +92,7 @@ impl Task {
             Task::Join { .. } => Part::Join,
             Task::Convert { .. } => Part::Convert,
             Task::Order { .. } => Part::Order,
+            Task::Turn { .. } => Part::Mark,
         }
     }
     fn must(&self) -> Result<Must, String> {
@@ -94,6 +106,7 @@ impl Task {
             Task::Order { sections, space } => {
                 Must::Order(order::outcome(&order::Call::new(sections, *space)))
             }
+            Task::Turn { set, marks } => Must::Turn(withdraw::outcomes(set, marks)),
         })
     }
     fn show(&self) -> String {
@@ -111,6 +124,7 @@ impl Task {
             Task::Order { sections, space } => {
                 format!("time order: {}\n  space for {space} addresses", show(sections))
             }
+            Task::Turn { set, marks } => short(format!("withdraw and reinstate: {set:?}\n  {marks:?}")),
         }
     }
 }
@@ -123,6 +137,11 @@ impl Source {
             Source::Ordered => match expected(call, None)? {
                 Outcome::Refused(n) => Err(format!("the table refuses the time order's addresses with {n}")),
                 accepted => Ok(accepted),
+            },
+            // A column that can't be had is none of the alive sets' fault.
+            Source::Marked => match expected(call, None)? {
+                Outcome::Refused(n) if n != 10 => Err(format!("the table refuses what calls left with {n}")),
+                outcome => Ok(outcome),
             },
         }
     }
@@ -159,14 +178,17 @@ pub fn expected(call: &Call, stored: Option<&Input>) -> Result<Outcome, String> 
     Ok(Outcome::Accepted(listing))
 }
 
-/// The calls of a case: joins, of any type and of addresses, what is made of stored segments, and time
-/// orders.
-pub fn tasks(seed: u64, case: u64) -> Vec<Task> {
-    let mut rng = Rng::of_case(seed, case);
-    let mut list = joins(&mut rng, Types::Any);
-    list.extend(joins(&mut rng, Types::Listeners));
-    list.extend(stored_tasks(&mut rng));
-    list.extend(orders::tasks(&mut Rng::of_orders(seed, case)));
+/// The calls of a case: joins, of any type and of addresses, what is made of stored segments, time orders,
+/// and withdraw and reinstate, or these alone.
+fn tasks(o: &Options, case: u64) -> Vec<Task> {
+    let mut list = turns::tasks(&mut Rng::of_turns(o.seed, case));
+    if !o.withdraw {
+        let mut rng = Rng::of_case(o.seed, case);
+        list.extend(joins(&mut rng, Types::Any));
+        list.extend(joins(&mut rng, Types::Listeners));
+        list.extend(stored_tasks(&mut rng));
+        list.extend(orders::tasks(&mut Rng::of_orders(o.seed, case)));
+    }
     list
 }
 
@@ -260,7 +282,7 @@ pub fn program_inputs(seed: u64, case: u64) -> Vec<Vec<u8>> {
     // Near the limit of 65,536 bytes: one segment of as many values as make so many words.
     if rng.one_in(200) {
         let (ty, words) = (rng.pick(&[1, IP]), rng.between(8_190, 8_194) as usize);
-        let words: Vec<u64> = (19..words).map(|_| rng.next()).collect();
+        let words: Vec<u64> = (20..words).map(|_| rng.next()).collect();
         let values = values_of(ty, &words[words.len() % width(ty)..]);
         let s = Seg { ty, kind: 1, rows: values.len() as u32, values, ..Seg::default() };
         let full = Input { mode: 0, required: 255, segs: vec![s], addresses: vec![] };
@@ -324,6 +346,7 @@ struct Stats {
     converted_stacked: u64,
     repeats: u64,
     orders: Orders,
+    turns: Turns,
     differences: u64,
 }
 
@@ -344,6 +367,10 @@ impl Stats {
             (Task::Join { source: Source::Ordered, .. }, Must::Join(outcome)) => {
                 self.orders.count_join(outcome)
             }
+            (Task::Join { source: Source::Marked, .. }, Must::Join(outcome)) => {
+                self.turns.count_join(outcome)
+            }
+            (Task::Turn { set, marks }, Must::Turn(outcomes)) => self.turns.count(set, marks, outcomes),
             (Task::Order { sections, space }, Must::Order(outcome)) => {
                 self.orders.count(sections, *space, outcome)
             }
@@ -381,7 +408,7 @@ impl Stats {
     fn count_conversion(&mut self, sections: &Sections, space: Space, outcome: &convert::Outcome) {
         self.conversions.0[outcome.number() as usize] += 1;
         let convert::Outcome::Accepted(c) = outcome else { return };
-        let [ty, _, rows, .., flag] = sections.records[0];
+        let [ty, _, rows, .., flag, _] = sections.records[0];
         self.old_types[ty as usize] += 1;
         self.old_alive += flag as u64;
         self.empty_rows[0] += (c.ids.len() < rows as usize) as u64;
@@ -418,6 +445,7 @@ impl Stats {
         self.converted_stacked += other.converted_stacked;
         self.repeats += other.repeats;
         self.orders.add(&other.orders);
+        self.turns.add(&other.turns);
         self.differences += other.differences;
     }
 
@@ -431,14 +459,17 @@ impl Stats {
         if self.differences >= MOST_DIFFERENCES {
             println!("stopped, there are many differences");
         }
+        let joins = if o.withdraw { String::new() } else { self.joins.print(numbers()) + ", " };
         println!(
-            "seed {}, cases {} to {}, ours: {name}: {}, differences {}",
+            "seed {}, cases {} to {}, ours: {name}: {joins}differences {}",
             o.seed,
             o.from,
             o.from + o.count - 1,
-            self.joins.print(numbers()),
             self.differences
         );
+        if o.withdraw {
+            return self.turns.print();
+        }
         let t = &self.types;
         println!(
             "accepted: stacked {}, ordered {}, with alive sets {}, with a required type {}, coerced {}, \
@@ -468,7 +499,7 @@ impl Stats {
             self.most_values
         );
         self.listeners.print();
-        // The joining program does not convert, and has no time order.
+        // The joining program has the join alone.
         if matches!(ours, Ours::Program(_)) {
             return;
         }
@@ -502,6 +533,7 @@ impl Stats {
             self.repeats
         );
         self.orders.print();
+        self.turns.print();
     }
 }
 
@@ -510,13 +542,17 @@ fn show(sections: &Sections) -> String {
         false if sections.records.iter().all(|r| r[7] <= 1) => to_words(&sections.cut()),
         _ => format!("{sections:?}"),
     };
+    short(text)
+}
+
+fn short(text: String) -> String {
     match text.len() {
         0..4_000 => text,
         n => format!("{n} characters long"),
     }
 }
 
-/// What is wrong with one call of the joiner, its converter or its time order, if anything.
+/// What is wrong with a task's call or calls, if anything.
 fn fault(joiner: &mut dyn Joiner, task: &Task, must: &Must, salt: u64) -> Option<String> {
     let (before, answer, expected, fault) = match (task, must) {
         (Task::Join { sections, lent, .. }, Must::Join(outcome)) => {
@@ -536,6 +572,9 @@ fn fault(joiner: &mut dyn Joiner, task: &Task, must: &Must, salt: u64) -> Option
             let input = sections.clone();
             let answer = joiner.order(&input, &mut lists);
             (input == *sections, answer, outcome.number(), lists.fault(outcome))
+        }
+        (Task::Turn { set, marks }, Must::Turn(outcomes)) => {
+            return turns::fault(joiner, set, marks, outcomes, salt);
         }
         _ => unreachable!(),
     };
@@ -638,7 +677,7 @@ pub fn compare(o: &Options, ours: &Ours) -> bool {
                 }
                 continue;
             }
-            for (i, task) in tasks(o.seed, case).iter().enumerate() {
+            for (i, task) in tasks(o, case).iter().enumerate() {
                 let wrong = match task.must() {
                     Err(fault) => Some(fault),
                     Ok(must) => {
@@ -668,9 +707,10 @@ pub fn compare(o: &Options, ours: &Ours) -> bool {
 
 /// Gives each slip the same calls until it is found, and tells whether all are.
 pub fn find_slips(o: &Options) -> bool {
-    let mut left: Vec<_> = slips().map(|slip| (slip, Standin::wrong(slip))).collect();
+    let asked = || slips().filter(|slip| !o.withdraw || slip.part() == Part::Mark);
+    let mut left: Vec<_> = asked().map(|slip| (slip, Standin::wrong(slip))).collect();
     for case in o.from..o.from + o.count {
-        for task in tasks(o.seed, case) {
+        for task in tasks(o, case) {
             let must = task.must().unwrap_or_else(|fault| panic!("case {case}: {fault}"));
             left.retain_mut(|(slip, joiner)| {
                 let fault = match (slip.how, &must) {
@@ -689,7 +729,7 @@ pub fn find_slips(o: &Options) -> bool {
         }
     }
     left.iter().for_each(|(slip, _)| println!("NOT FOUND: {}", slip.name));
-    let all = slips().count();
+    let all = asked().count();
     println!("seed {}, cases from {}: {} of {all} slips found", o.seed, o.from, all - left.len());
     left.is_empty()
 }
@@ -730,13 +770,22 @@ pub fn listing(sections: &Sections) -> Result<String, String> {
 mod tests {
     use super::*;
 
+    fn cases(seed: u64, count: u64) -> Options {
+        Options { seed, from: 0, count, jobs: 1, withdraw: false }
+    }
+
     #[test]
     fn model_agrees_with_the_crate() {
-        assert!(compare(&Options { seed: 11, from: 0, count: 3_000, jobs: 1 }, &Ours::Model));
+        assert!(compare(&cases(11, 3_000), &Ours::Model));
     }
 
     #[test]
     fn slips_are_found() {
-        assert!(find_slips(&Options { seed: 1, from: 0, count: 20_000, jobs: 1 }));
+        assert!(find_slips(&cases(1, 20_000)));
+    }
+
+    #[test]
+    fn slips_of_withdraw_and_reinstate_are_found() {
+        assert!(find_slips(&Options { withdraw: true, ..cases(2, 20_000) }));
     }
 }

@@ -2,7 +2,7 @@
 //! writes: from the document's words alone, as naively as they read.
 use crate::model;
 use crate::table;
-use crate::wire::{Input, Sections, Seg};
+use crate::wire::{Input, Record, Sections, Seg};
 
 /// How many elements of the two new lists are lent.
 #[derive(Clone, Copy, Debug, Default, PartialEq, Eq)]
@@ -28,7 +28,7 @@ impl Call<'_> {
 /// What an accepted call writes: "new ids and offsets", and the record.
 #[derive(Clone, Debug, PartialEq, Eq)]
 pub struct Converted {
-    pub record: [u32; 8],
+    pub record: Record,
     pub ids: Vec<u32>,
     pub offsets: Vec<u32>,
 }
@@ -78,7 +78,7 @@ pub fn lengths(call: &Call) -> bool {
 
 /// 3: unknown type or flag, no column, any kind but 3
 pub fn unknown(call: &Call) -> bool {
-    let [ty, kind, _rows, _ids, _offsets, _values, _terms, flag] = call.sections.records[0];
+    let [ty, kind, _rows, _ids, _offsets, _values, _terms, flag, _count] = call.sections.records[0];
     !table::known_type(ty) || ty == 255 || kind != 3 || flag > 1
 }
 
@@ -92,9 +92,20 @@ pub fn contents(call: &Call) -> bool {
     table::contents_of(&call.segment())
 }
 
-/// 6: an alive bit past the rows; an alive set is no fault where no join is stacked
+/// 6: an alive bit past the rows, or a wrong number of alive rows; an alive set is no fault where no join
+/// is stacked
 pub fn alive_set(call: &Call) -> bool {
+    alive_bits(call) || count(call)
+}
+
+/// 6 without the number.
+pub fn alive_bits(call: &Call) -> bool {
     table::past_the_rows(&call.segment())
+}
+
+/// A wrong number of alive rows.
+pub fn count(call: &Call) -> bool {
+    table::wrong_count(call.sections.records[0][8], &call.segment())
 }
 
 /// 11: an output shorter than its list
@@ -124,11 +135,11 @@ fn new_lists(old: &Seg) -> (Vec<u32>, Vec<u32>) {
 }
 
 /// "Changes only the kind and their lengths in the record."
-fn converted(record: [u32; 8], old: &Seg) -> Converted {
+fn converted(record: Record, old: &Seg) -> Converted {
     let (ids, offsets) = new_lists(old);
-    let [ty, _kind, rows, _ids, _offsets, values, terms, flag] = record;
+    let [ty, _kind, rows, _ids, _offsets, values, terms, flag, count] = record;
     Converted {
-        record: [ty, 4, rows, ids.len() as u32, offsets.len() as u32, values, terms, flag],
+        record: [ty, 4, rows, ids.len() as u32, offsets.len() as u32, values, terms, flag, count],
         ids,
         offsets,
     }

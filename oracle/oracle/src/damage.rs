@@ -1,11 +1,12 @@
 //! Damaged copies of good inputs. Which number they are answered with, if any, is the table's, for the
-//! converter convert.rs's and for the time order order.rs's.
+//! converter convert.rs's, for the time order order.rs's, for withdraw and reinstate withdraw.rs's.
 use crate::convert::{self, Space};
 use crate::model;
 use crate::order;
 use crate::rng::Rng;
 use crate::table::{self, Lent};
-use crate::wire::{IP, Input, Sections, Seg, width};
+use crate::wire::{IP, Input, RECORD, Sections, Seg, width};
+use crate::withdraw::AliveSet;
 
 const ODD: &[u32] = &[5, IP, 8, 9, 100, 254, 256, 257, 511, 65_535, 1 << 31, u32::MAX - 1, u32::MAX];
 const TYPES: &[u32] = &[0, 1, 2, 3, 4, 5, IP, IP, 7, 255];
@@ -14,6 +15,9 @@ const TYPES: &[u32] = &[0, 1, 2, 3, 4, 5, IP, IP, 7, 255];
 fn segments(rng: &mut Rng, input: &mut Input) {
     if rng.one_in(6) || input.segs.is_empty() {
         return addresses(rng, input);
+    }
+    if rng.one_in(20) {
+        return cancelling_counts(rng, &mut input.segs);
     }
     let i = rng.index(input.segs.len());
     segment(rng, &mut input.segs[i], input.mode == 1);
@@ -48,7 +52,7 @@ fn segment(rng: &mut Rng, s: &mut Seg, ordered: bool) {
     fn at<T>(rng: &mut Rng, list: &[T]) -> Option<usize> {
         if list.is_empty() { None } else { Some(rng.index(list.len())) }
     }
-    match rng.below(24) {
+    match rng.below(26) {
         0 => s.ty = rng.pick(TYPES),
         1 => s.kind = rng.below(5) as u32,
         2 => s.rows = s.rows.wrapping_add(step),
@@ -95,12 +99,15 @@ fn segment(rng: &mut Rng, s: &mut Seg, ordered: bool) {
             }
         }
         21 | 22 => {
+            let before = s.right_count();
             if let Some(word) = s.alive.as_mut().and_then(|words| words.last_mut()) {
                 *word |= 1 << rng.pick(&[63, s.rows % 64, s.rows.wrapping_sub(1) % 64, 0]);
+                uncounted(rng, s, before);
             } else if !ordered {
                 s.alive = Some(vec![0; (s.rows.div_ceil(64) as usize).min(100)]);
             }
         }
+        23 | 24 => count(rng, s),
         _ => {
             s.kind = 2;
             s.ids.clear();
@@ -108,6 +115,40 @@ fn segment(rng: &mut Rng, s: &mut Seg, ordered: bool) {
             s.values.clear();
         }
     }
+}
+
+/// Half of the time the number of alive rows stays as it was before a bit was set.
+fn uncounted(rng: &mut Rng, s: &mut Seg, before: u32) {
+    if rng.one_in(2) {
+        s.set_count(before);
+    }
+}
+
+/// Another number of alive rows: one more or less, 0, all rows, that of the withdrawn ones, or with a bit
+/// turned.
+fn count(rng: &mut Rng, s: &mut Seg) {
+    let right = s.right_count();
+    s.set_count(match rng.below(8) {
+        0 | 1 => right.wrapping_add(1),
+        2 | 3 => right.wrapping_sub(1),
+        4 => 0,
+        5 => s.rows,
+        6 => s.rows.wrapping_sub(right),
+        _ => right ^ 1 << rng.below(32),
+    });
+}
+
+/// Numbers of alive rows of two segments that are wrong and have the right sum.
+fn cancelling_counts(rng: &mut Rng, segs: &mut [Seg]) {
+    if segs.len() < 2 {
+        return;
+    }
+    let i = rng.index(segs.len());
+    let j = (i + 1 + rng.index(segs.len() - 1)) % segs.len();
+    let [more, less] = [i, j].map(|i| segs[i].right_count());
+    let step = rng.pick(&[1, 1, 2, less, less.wrapping_sub(more)]);
+    segs[i].set_count(more.wrapping_add(step));
+    segs[j].set_count(less.wrapping_sub(step));
 }
 
 /// Turns a segment to kind 3, with the lists that make it right, or leaves them as they are.
@@ -145,7 +186,7 @@ fn sections(rng: &mut Rng, s: &mut Sections) {
 fn many_segments(rng: &mut Rng, s: &mut Sections) {
     let many = rng.pick(&[255, 256, 256, 257, 257, 300]);
     while s.records.len() < many {
-        s.records.push([255, 0, 0, 0, 0, 0, 0, 0]);
+        s.records.push([255, 0, 0, 0, 0, 0, 0, 0, 0]);
     }
 }
 
@@ -154,12 +195,12 @@ fn records_and_runs(rng: &mut Rng, s: &mut Sections) {
     match rng.between(2, 20) {
         2..5 if n > 0 => s.records[rng.index(n)][rng.pick(&[0, 0, 1, 7])] = rng.pick(ODD),
         5..8 if n > 0 => {
-            let number = &mut s.records[rng.index(n)][rng.index(5) + 3];
+            let number = &mut s.records[rng.index(n)][rng.index(6) + 3];
             *number = number.wrapping_add(rng.pick(&[1, u32::MAX, 1 << 31]));
         }
         // Errors of two records that cancel, those of values in words.
         8 | 9 if n > 1 => {
-            let (i, j, k) = (rng.index(n), rng.index(n), rng.index(4) + 3);
+            let (i, j, k) = (rng.index(n), rng.index(n), rng.pick(&[3, 4, 5, 6, 8]));
             let in_words = k == 5 && !rng.one_in(4);
             let [more, less] =
                 [j, i].map(|other| if in_words { width(s.records[other][0]) as u32 } else { 1 });
@@ -294,6 +335,7 @@ fn past_the_rows(rng: &mut Rng, s: &mut Seg) {
         set[words - 1] = !(u64::MAX << past) | 1 << bit;
     }
     s.alive = Some(set);
+    uncounted(rng, s, s.rows);
 }
 
 /// A copy of segments for the time order, with one to three damages, in too little space among them.
@@ -305,10 +347,11 @@ pub fn order(rng: &mut Rng, good: &[Seg]) -> (Sections, usize) {
         old_kind(rng, &mut input);
     }
     for _ in 0..rng.pick(&[1, 1, 1, 2, 2, 3]) {
-        match rng.below(16) {
+        match rng.below(17) {
             0..3 => in_sections += 1,
             3 => many_rows(rng, &mut input.segs),
             4..6 => space = if rng.one_in(4) { 0 } else { space.saturating_sub(1) },
+            16 => cancelling_counts(rng, &mut input.segs),
             how => one_segment(rng, how, &mut input.segs),
         }
     }
@@ -384,21 +427,70 @@ fn several_times(rng: &mut Rng, s: &mut Seg) {
     }
 }
 
+/// A copy of a record and its alive words for withdraw and reinstate, with one or two damages.
+pub fn alive(rng: &mut Rng, good: &AliveSet) -> AliveSet {
+    let mut set = good.clone();
+    for _ in 0..rng.pick(&[1, 1, 2]) {
+        alive_once(rng, &mut set);
+    }
+    set
+}
+
+fn alive_once(rng: &mut Rng, set: &mut AliveSet) {
+    let AliveSet { record, words } = set;
+    let past = record[2] % 64;
+    match rng.below(16) {
+        0 => words.push(rng.pick(&[0, 1, u64::MAX])),
+        1 => drop(words.pop()),
+        2 => words.clear(),
+        // Words without an alive set, or the other way round.
+        3 => record[7] = 0,
+        4 => (record[7], record[8]) = (1, 0),
+        5 => record[7] = rng.pick(&[2, 3, 256, 257, 1 << 31, u32::MAX]),
+        6 => {
+            record[7] = rng.pick(&[2, u32::MAX]);
+            words.clear();
+        }
+        // A bit past the rows, counted or not.
+        7..10 if past > 0 && !words.is_empty() => {
+            *words.last_mut().unwrap() |= 1 << rng.between(past as u64, 63);
+            record[8] = record[8].wrapping_add(rng.below(2) as u32);
+        }
+        10 => record[2] = record[2].wrapping_add(rng.pick(&[1, 64, u32::MAX])),
+        11 => record[2] = rng.pick(&[0, u32::MAX - 64, u32::MAX - 63, u32::MAX - 62, u32::MAX]),
+        12 => record[8] = rng.pick(&[0, record[2], record[2].wrapping_sub(record[8]), u32::MAX]),
+        13 => record[8] ^= 1 << rng.below(32),
+        _ => record[8] = record[8].wrapping_add(rng.pick(&[1, u32::MAX])),
+    }
+}
+
+/// Where the first record stands in a wire form, in words.
+const FIRST_RECORD: usize = 4;
+
 /// Damages of the wire form itself.
 pub fn wire(rng: &mut Rng, bytes: &mut Vec<u8>) {
     let words = bytes.len() / 8;
-    match rng.below(8) {
+    match rng.below(9) {
         0 => bytes.truncate(rng.index(bytes.len() + 1)),
         1 => bytes.truncate(8 * rng.index(words + 1)),
         2 => bytes.extend(vec![0; rng.index(17)]),
         3 if words > 0 => bytes[..8].copy_from_slice(&rng.pick(&[0u64, 1, 3, 1 << 32]).to_le_bytes()),
-        // One word, counts among them, made wide, or as wide as 8, 16 or 64 times it wraps.
+        // One word, counts among them, made wide, or as wide as 8, 9, 16 or 72 times it wraps.
         4..7 if words > 0 => {
             let at = 8 * rng.index(words);
-            let wide = rng.pick(&[256u64, 1 << 32, 1 << 58, 1 << 60, 1 << 61, 1 << 63, u64::MAX]);
+            const WRAPPING: &[u64] = &[1 << 58, 1 << 60, 1 << 61, 1 << 63, 0x8E38E38E38E38E39, u64::MAX];
+            let wide = if rng.one_in(4) { rng.pick(&[256, 1 << 32]) } else { rng.pick(WRAPPING) };
             let word = u64::from_le_bytes(bytes[at..at + 8].try_into().unwrap());
             let word = if rng.one_in(2) { word.wrapping_add(wide) } else { wide };
             bytes[at..at + 8].copy_from_slice(&word.to_le_bytes());
+        }
+        // A number of alive rows of 33 bits or more, the low ones as they were, if it is where it should be.
+        7 if words >= FIRST_RECORD + RECORD => {
+            let records = bytes[8 * (FIRST_RECORD - 1)] as usize;
+            let word = FIRST_RECORD + RECORD * rng.index(records.max(1)) + RECORD - 1;
+            if let Some(byte) = bytes.get_mut(8 * word + rng.between(4, 7) as usize) {
+                *byte |= 1 << rng.below(8);
+            }
         }
         _ if words > 0 => {
             let at = 8 * rng.index(words);

@@ -1,6 +1,7 @@
 //! Random inputs that document 01 accepts, or (a few) refuses with 10; and the same with segments of
 //! kind 3 among the others, which go through the converter first.
 pub mod times;
+pub mod turns;
 
 use crate::model;
 use crate::rng::Rng;
@@ -201,7 +202,7 @@ fn counts(rng: &mut Rng, kind: u32, rows: u32, shape: Shape) -> Vec<(u32, u32)> 
 }
 
 /// An alive set for rows with these numbers of values.
-fn alive_set(rng: &mut Rng, rows: u32, counts: &[(u32, u32)]) -> Vec<u64> {
+pub fn alive_set(rng: &mut Rng, rows: u32, counts: &[(u32, u32)]) -> Vec<u64> {
     let how = rng.below(14);
     let special = if rows > 0 { rng.below(rows as u64) as u32 } else { 0 };
     let run = 1 + rng.below(70) as u32;
@@ -282,7 +283,8 @@ fn segment(rng: &mut Rng, ty: u32, common: &Common) -> Seg {
     s
 }
 
-fn addresses(rng: &mut Rng, segs: &[Seg]) -> Vec<[u32; 2]> {
+/// All alive rows, in one of several orders.
+pub fn addresses(rng: &mut Rng, segs: &[Seg]) -> Vec<[u32; 2]> {
     let mut list: Vec<[u32; 2]> = Vec::new();
     for (i, s) in segs.iter().enumerate() {
         list.extend((0..s.rows).filter(|&r| s.is_alive(r)).map(|r| [i as u32, r]));

@@ -1,13 +1,14 @@
 //! The joiner's static library, called as C would call it: each run as a pointer and a number of
 //! elements, in the order of document 01's sections.
-use crate::ours::{Addresses, Element, Joiner, Lists, NewLists, Run};
-use crate::wire::Sections;
+use crate::ours::{Addresses, Element, Joiner, Lists, Marked, NewLists, Run};
+use crate::wire::{Record, Sections};
+use crate::withdraw::{Mark, Rows};
 
 unsafe extern "C" {
     fn jadmirus_join(
         mode: u32,
         required: u32,
-        records: *const [u32; 8],
+        records: *const Record,
         records_len: usize,
         ids: *const u32,
         ids_len: usize,
@@ -42,7 +43,7 @@ unsafe extern "C" {
     ) -> u32;
 
     fn jadmirus_time_order(
-        records: *const [u32; 8],
+        records: *const Record,
         records_len: usize,
         ids: *const u32,
         ids_len: usize,
@@ -63,8 +64,7 @@ unsafe extern "C" {
     ) -> u32;
 
     fn jadmirus_convert(
-        // eight
-        record: *const u32,
+        record: *const Record,
         ids: *const u32,
         ids_len: usize,
         offsets: *const u32,
@@ -81,8 +81,42 @@ unsafe extern "C" {
         out_ids_len: usize,
         out_offsets: *mut u32,
         out_offsets_len: usize,
-        // eight
+        // nine
         out_record: *mut u32,
+    ) -> u32;
+
+    fn jadmirus_withdraw(
+        record: *mut Record,
+        alive: *mut u64,
+        alive_len: usize,
+        row: u32,
+        out_changed: *mut [u64; 1],
+    ) -> u32;
+
+    fn jadmirus_reinstate(
+        record: *mut Record,
+        alive: *mut u64,
+        alive_len: usize,
+        row: u32,
+        out_changed: *mut [u64; 1],
+    ) -> u32;
+
+    fn jadmirus_withdraw_rows(
+        record: *mut Record,
+        alive: *mut u64,
+        alive_len: usize,
+        rows: *const u32,
+        rows_len: usize,
+        out_changed: *mut [u64; 1],
+    ) -> u32;
+
+    fn jadmirus_reinstate_rows(
+        record: *mut Record,
+        alive: *mut u64,
+        alive_len: usize,
+        rows: *const u32,
+        rows_len: usize,
+        out_changed: *mut [u64; 1],
     ) -> u32;
 }
 
@@ -150,7 +184,7 @@ impl Joiner for Library {
         // The same holds here.
         unsafe {
             jadmirus_convert(
-                s.records[0].as_ptr(),
+                &s.records[0],
                 s.ids.as_ptr(),
                 s.ids.len(),
                 s.offsets.as_ptr(),
@@ -196,6 +230,25 @@ impl Joiner for Library {
                 addresses.1,
                 count.0,
             )
+        }
+    }
+
+    fn mark(&mut self, mark: &Mark, lent: &mut Marked) -> u32 {
+        let record: *mut Record = lent.record.lent().as_mut_ptr().cast();
+        let (words, n) = run(&mut lent.words);
+        let changed: *mut [u64; 1] = lent.changed.lent().as_mut_ptr().cast();
+        // And here: the record has nine numbers, and one number tells how many rows changed.
+        unsafe {
+            match (mark.alive, &mark.rows) {
+                (false, Rows::One(row)) => jadmirus_withdraw(record, words, n, *row, changed),
+                (true, Rows::One(row)) => jadmirus_reinstate(record, words, n, *row, changed),
+                (false, Rows::Run(rows)) => {
+                    jadmirus_withdraw_rows(record, words, n, rows.as_ptr(), rows.len(), changed)
+                }
+                (true, Rows::Run(rows)) => {
+                    jadmirus_reinstate_rows(record, words, n, rows.as_ptr(), rows.len(), changed)
+                }
+            }
         }
     }
 }

@@ -15,6 +15,7 @@ mod sample;
 mod slips;
 mod table;
 mod wire;
+mod withdraw;
 
 use std::io::{Read, Write};
 use std::path::PathBuf;
@@ -25,15 +26,16 @@ use run::Raw;
 use wire::Sections;
 
 const USAGE: &str = "\
-oracle compare SEED COUNT [--library | --program PATH | --model | --slips] [--from CASE] [--jobs N]
+oracle compare SEED COUNT [--library | --program PATH | --model | --slips] [--withdraw] [--from CASE] [--jobs N]
                              the joiner against the crate and the table (see oracle/compare)
 oracle crate                 one input on stdin; the listing, made by the crate's merge
 oracle model                 the same by the documents' rules alone, as the joining program does
 oracle sample SEED COUNT IN OUT
                              the stored sample of inputs and listings (see oracle/sample)
 oracle raw                   what the crate itself writes: every category's column, or its error
-oracle wire MODE REQUIRED [TYPE/KIND/ROWS[/ids=..][/off=..][/val=..][/terms=..][/alive=..]].. [addr=S:R,..]
-                             an input in wire form on stdout; an address is val=HIGH:LOW
+oracle wire MODE REQUIRED [TYPE/KIND/ROWS[/ids=..][/off=..][/val=..][/terms=..][/alive=..][/count=N]].. [addr=S:R,..]
+                             an input in wire form on stdout; an address is val=HIGH:LOW, count is a wrong
+                             number of alive rows
 oracle bench SEGMENTS ROWS [WORD]
                              times of the crate's merge and of the joiner, a table (see bench/run)
 oracle growth SEGMENTS ROWS [WORD]
@@ -97,7 +99,8 @@ fn compare_command(words: &[&str]) -> Result<bool, String> {
     fn number(text: Option<&&str>) -> Result<u64, String> {
         text.and_then(|t| t.parse().ok()).ok_or_else(|| USAGE.into())
     }
-    let mut o = Options { seed: number(words.first())?, from: 0, count: number(words.get(1))?, jobs: 1 };
+    let (seed, count) = (number(words.first())?, number(words.get(1))?);
+    let mut o = Options { seed, from: 0, count, jobs: 1, withdraw: false };
     if o.count == 0 {
         return Err("no cases".into());
     }
@@ -109,6 +112,7 @@ fn compare_command(words: &[&str]) -> Result<bool, String> {
             "--program" => ours = Ours::Program(PathBuf::from(rest.next().ok_or(USAGE)?)),
             "--model" => ours = Ours::Model,
             "--slips" => slips = true,
+            "--withdraw" => o.withdraw = true,
             "--from" => o.from = number(rest.next())?,
             "--jobs" => o.jobs = number(rest.next())?.clamp(1, 64),
             _ => return Err(USAGE.into()),
@@ -116,6 +120,9 @@ fn compare_command(words: &[&str]) -> Result<bool, String> {
     }
     if slips {
         return Ok(compare::find_slips(&o));
+    }
+    if o.withdraw && matches!(ours, Ours::Program(_)) {
+        return Err("the joining program has no withdraw and no reinstate".into());
     }
     if matches!(ours, Ours::Library) && !compare::has_library() {
         return Err("built without the library: set JADMIRUS_LIB to its path when building".into());

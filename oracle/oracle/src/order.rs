@@ -70,8 +70,14 @@ pub fn unknown(call: &Call) -> bool {
     call.join.sections.records.iter().any(table::unknown_record)
 }
 
-/// 6: an alive bit past the rows; an alive set is no fault where no join is stacked
+/// 6: an alive bit past the rows, or a wrong number of alive rows; an alive set is no fault where no join
+/// is stacked
 pub fn alive_sets(call: &Call) -> bool {
+    alive_bits(call) || table::counts(&call.join)
+}
+
+/// 6 without the numbers.
+pub fn alive_bits(call: &Call) -> bool {
     call.join.any_segment(table::past_the_rows)
 }
 
@@ -212,6 +218,19 @@ mod tests {
         answer(6, "7/1/1/val=7/alive=2");
         answer(6, "255/0/4294967295 255/0/1/alive=2");
         answer(0, "7/1/1/val=7/alive=1");
+        // a wrong number of alive rows, of any segment by itself
+        for text in [
+            "7/1/1/val=7/count=0",
+            "7/1/1/val=7/alive=1/count=0",
+            "7/1/2/val=7,7/alive=1/count=2",
+            "7/1/1/val=7/count=0 7/1/1/val=8/count=2",
+            "7/1/1/val=7 255/0/1/count=0",
+            "255/0/4294967295/count=0",
+            "7/1/2/val=5,4/count=1",
+        ] {
+            answer(6, text);
+        }
+        answer(5, "7/1/1/val=7/terms=a/count=0");
         // 7, before 11
         answer(7, "255/0/4294967295");
         answer(7, "255/0/4294967294 255/0/1");

@@ -1,11 +1,12 @@
-//! The joiner's side of the comparison: one call with lent outputs, of the join, of the converter or of
-//! the time order.
+//! The joiner's side of the comparison: one call with lent outputs, of the join, of the converter, of the
+//! time order, or of withdraw and reinstate.
 //! Back ends: the static library (library.rs), and stand-ins made of the model, right and wrong
 //! (slips.rs). The joining program is compared by its listings instead (compare.rs).
 use crate::convert::{self, Converted, Space};
 use crate::order;
 use crate::table::Lent;
-use crate::wire::{Listing, Outcome, Sections};
+use crate::wire::{Listing, Outcome, RECORD, Sections};
+use crate::withdraw::{self, AliveSet, Mark};
 
 pub trait Element: Copy + PartialEq + std::fmt::Debug {
     fn from_word(word: u64) -> Self;
@@ -45,6 +46,12 @@ impl<T: Element> Run<T> {
         for i in 0..length + 2 * GUARD {
             run.all.push(run.pattern(i));
         }
+        run
+    }
+    /// With these elements in it.
+    pub fn with(elements: &[T], salt: u64) -> Run<T> {
+        let mut run = Run::new(elements.len(), salt);
+        run.lent().copy_from_slice(elements);
         run
     }
     fn pattern(&self, i: usize) -> T {
@@ -190,7 +197,7 @@ impl NewLists {
         NewLists {
             ids: Run::new(space.ids, salt),
             offsets: Run::new(space.offsets, salt + 1),
-            record: Run::new(8, salt + 2),
+            record: Run::new(RECORD, salt + 2),
         }
     }
 
@@ -248,11 +255,62 @@ impl Addresses {
     }
 }
 
-/// A joiner, its converter and its time order: the answer's number; what is written goes to the lists.
+/// All that withdraw and reinstate are lent to change: the record, its alive words, and the number of rows
+/// that changed.
+pub struct Marked {
+    pub record: Run<u32>,
+    pub words: Run<u64>,
+    pub changed: Run<u64>,
+    salt: u64,
+}
+
+impl Marked {
+    pub fn new(set: &AliveSet, salt: u64) -> Marked {
+        Marked {
+            record: Run::with(&set.record, salt),
+            words: Run::with(&set.words, salt + 1),
+            changed: Run::new(1, salt + 2),
+            salt,
+        }
+    }
+
+    /// As before a call: the number of rows that changed is not written.
+    pub fn unwritten(&mut self) {
+        self.changed = Run::new(1, self.salt + 2);
+    }
+
+    /// The record and its alive words as they are.
+    pub fn set(&mut self) -> AliveSet {
+        let record = std::array::from_fn(|i| self.record.lent()[i]);
+        AliveSet { record, words: self.words.lent().to_vec() }
+    }
+
+    /// Writes as a call that is not refused does.
+    pub fn write(&mut self, changed: u64, left: &AliveSet) {
+        self.record.lent().copy_from_slice(&left.record);
+        self.words.lent().copy_from_slice(&left.words);
+        self.changed.lent()[0] = changed;
+    }
+
+    /// What is wrong, if the call must have had this outcome. A refusal changes nothing.
+    pub fn fault(&self, outcome: &withdraw::Outcome, before: &AliveSet) -> Option<String> {
+        let (left, changed): (&AliveSet, &[u64]) = match outcome {
+            withdraw::Outcome::Changed(n, left) => (left, &[*n]),
+            withdraw::Outcome::Refused(_) => (before, &[]),
+        };
+        None.or_else(|| self.record.fault("the record", &left.record))
+            .or_else(|| self.words.fault("alive words", &left.words))
+            .or_else(|| self.changed.fault("changed rows", changed))
+    }
+}
+
+/// A joiner, its converter, its time order, and its withdraw and reinstate: the answer's number; what is
+/// written goes to the lists.
 pub trait Joiner {
     fn join(&mut self, sections: &Sections, lists: &mut Lists) -> u32;
     /// Of the sections' one record and its runs.
     fn convert(&mut self, sections: &Sections, lists: &mut NewLists) -> u32;
     /// Of the sections' segments.
     fn order(&mut self, sections: &Sections, lists: &mut Addresses) -> u32;
+    fn mark(&mut self, mark: &Mark, lent: &mut Marked) -> u32;
 }

@@ -77,6 +77,23 @@ const BY_HAND: &[&str] = &[
     "1 255 1/1/1/val=0/alive=2",
     "0 255 1/1/1/val=0/alive=1",
     "0 255 255/0/0/alive=",
+    // 6: a wrong number of alive rows, in both modes, of each segment by itself, before 7, 9 and 10
+    "0 255 1/1/1/val=7/count=0",
+    "0 255 1/1/1/val=7/count=2",
+    "1 255 1/1/1/val=7/count=0 addr=0:0",
+    "1 255 1/1/2/val=7,8/alive=2/count=2 addr=0:1",
+    "1 255 1/1/2/val=7,8/alive=2/count=0 addr=0:1",
+    "0 255 1/1/1/val=7/count=0 1/1/1/val=8/count=2",
+    "1 255 1/1/2/val=7,8/alive=1/count=2 1/1/2/val=7,8/alive=3/count=1 addr=0:0,1:0,1:1",
+    "0 255 255/0/3/count=0",
+    "0 255 255/0/4294967295/count=0",
+    "1 255 255/0/1/count=2",
+    "0 255 4/1/1/val=0/terms=a 5/1/1/val=1/count=0",
+    // and after 3, 19, 4 and 5
+    "0 255 8/1/1/val=0/count=0",
+    "0 255 1/3/0/off=0/count=1",
+    "0 255 1/1/2/val=0/count=1",
+    "0 255 5/1/1/val=2/count=0",
     // 7
     "0 255 255/0/4294967295",
     "1 255 255/0/4294967294 255/0/1",
@@ -129,8 +146,13 @@ fn wire_forms() -> Vec<Vec<u8>> {
         forms.push(with(place, 1));
         forms.push(with(place, 1 << 61));
     }
-    for wide in [with(3, 1 << 58), with(3, u64::MAX), with(10, 1 << 60)] {
+    // nine times the second wraps to 1
+    for wide in [with(3, 1 << 58), with(3, 0x8E38E38E38E38E39), with(3, u64::MAX), with(10, 1 << 60)] {
         forms.push(wide);
+    }
+    // the number of alive rows in 33 bits, the low ones right or not, and a wrong one in 32
+    for count in [1 << 32 | 3, 1 << 32, u32::MAX as u64] {
+        forms.push(words(&[2, 0, 255, 1, 255, 0, 3, 0, 0, 0, 0, 0, count, 0, 0, 0, 0, 0, 0, 0]));
     }
     // too wide: a row id, a term byte, an address; not too wide: a value, which gives 2 by the
     // sums, as it isn't announced
@@ -140,7 +162,7 @@ fn wire_forms() -> Vec<Vec<u8>> {
     forms.push(words(&[2, 0, 255, 0, 0, 0, 1, u64::MAX, 0, 0, 0, 0]));
     // a value of type 6 with one word, with two and with three, and one of type 8 with one and with two
     for (ty, count) in [(6, 1), (6, 2), (6, 3), (8, 1), (8, 2)] {
-        let record = [2, 0, 255, 1, ty, 1, 1, 0, 0, 1, 0, 0, 0, 0];
+        let record = [2, 0, 255, 1, ty, 1, 1, 0, 0, 1, 0, 0, 1, 0, 0];
         let values = &[count, 3, 4, 5][..1 + count as usize];
         forms.push(words(&[&record, values, &[0; 4]].concat()));
     }
@@ -177,7 +199,7 @@ pub fn sample(seed: u64, count: usize) -> Result<(Vec<u8>, Vec<u8>), String> {
     // The long ones stand last: 257 segments, and one word more than 65,536 bytes.
     let segs = vec![Seg { ty: 255, ..Seg::default() }; 257];
     let many = Input { mode: 0, required: 255, segs, addresses: vec![] };
-    let long = Seg { ty: 1, kind: 1, rows: 8_174, values: vec![0; 8_174], ..Seg::default() };
+    let long = Seg { ty: 1, kind: 1, rows: 8_173, values: vec![0; 8_173], ..Seg::default() };
     let long = Input { mode: 0, required: 255, segs: vec![long], addresses: vec![] };
     let last = [many.sections().encode(), long.sections().encode()];
     assert_eq!(last[1].len(), 65_544);

@@ -2,17 +2,20 @@
 //! slips/, which the comparison must find (oracle/compare SEED COUNT --slips). They are tests of the
 //! comparison and of its inputs, of nothing else.
 mod converter;
+mod counts;
 mod listeners;
 mod time_order;
+mod withdraw;
 
 use std::collections::BTreeSet;
 
 use crate::compare::Part;
 use crate::model;
-use crate::ours::{Addresses, COPIED, Joiner, Lists, NewLists};
+use crate::ours::{Addresses, COPIED, Joiner, Lists, Marked, NewLists};
 use crate::run;
 use crate::table::{self, CHECKS, Call, Check};
 use crate::wire::{Input, Listing, Outcome, Sections, Seg};
+use crate::withdraw::Mark;
 
 #[derive(Clone, Copy)]
 pub enum How {
@@ -22,6 +25,8 @@ pub enum How {
     Skip(u32),
     /// Another check k.
     Check(u32, Check),
+    /// The records' numbers of alive rows tested right after check k.
+    CountsAfter(u32),
     /// Once checks 1 to 9 have passed, something else is read.
     Read(fn(&mut Input)),
     /// Another column.
@@ -38,6 +43,8 @@ pub enum How {
     Converter(converter::How),
     /// A slip of the time order.
     TimeOrder(time_order::How),
+    /// A slip of withdraw or reinstate.
+    Withdraw(withdraw::How),
 }
 
 pub struct Slip {
@@ -55,14 +62,16 @@ impl Slip {
         match self.how {
             How::Converter(_) => Part::Convert,
             How::TimeOrder(_) => Part::Order,
+            How::Withdraw(_) => Part::Mark,
             _ => Part::Join,
         }
     }
 }
 
-/// All of them: the joiner's, the converter's and the time order's.
+/// All of them: the joiner's, the converter's, the time order's, and those of withdraw and reinstate.
 pub fn slips() -> impl Iterator<Item = &'static Slip> {
-    SLIPS.iter().chain(listeners::SLIPS).chain(converter::SLIPS).chain(time_order::SLIPS)
+    let joiners = SLIPS.iter().chain(listeners::SLIPS).chain(counts::SLIPS);
+    joiners.chain(converter::SLIPS).chain(time_order::SLIPS).chain(withdraw::SLIPS)
 }
 
 const SLIPS: &[Slip] = &[
@@ -177,7 +186,7 @@ const SLIPS: &[Slip] = &[
     ),
     slip(
         "6 not for an alive set of no words",
-        How::Check(6, |c| !c.sections.alive.is_empty() && table::alive_sets(c)),
+        How::Check(6, |c| table::counts(c) || !c.sections.alive.is_empty() && table::alive_bits(c)),
     ),
     slip(
         "7 from 4294967294 rows on",
@@ -703,6 +712,7 @@ impl Standin {
             Some(How::Before(k, other)) => put_before(&mut checks, k, other),
             Some(How::Skip(k)) => checks.retain(|&(number, _)| number != k),
             Some(How::Check(k, check)) => put_in_place(&mut checks, k, check),
+            Some(How::CountsAfter(k)) => counts::split(&mut checks, k, table::alive_bits, table::counts),
             Some(How::Read(f)) => {
                 let call = Call::new(sections, lent);
                 let (first, last) = checks.split_at(place(&checks, 10));
@@ -767,5 +777,13 @@ impl Joiner for Standin {
             _ => None,
         };
         run::caught(|| time_order::time_order(how, sections, lists)).unwrap_or(u32::MAX)
+    }
+
+    fn mark(&mut self, mark: &Mark, lent: &mut Marked) -> u32 {
+        let how = match self.how {
+            Some(How::Withdraw(how)) => Some(how),
+            _ => None,
+        };
+        run::caught(|| withdraw::mark(how, mark, lent)).unwrap_or(u32::MAX)
     }
 }

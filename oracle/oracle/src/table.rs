@@ -1,12 +1,12 @@
-//! Document 01's table of answers ("Answers of the joiner"), 1 to 11, with document 02's 19 and its
-//! addresses, and what the joining program does with standard input: written from the documents' words
-//! alone.
+//! Document 01's table of answers ("Answers of the joiner"), 1 to 11, with document 02's 19, its addresses
+//! and its number of alive rows, and what the joining program does with standard input: written from the
+//! documents' words alone.
 use std::cell::OnceCell;
 use std::cmp::Ordering;
 use std::collections::HashSet;
 
 use crate::model;
-use crate::wire::{Input, Listing, Outcome, Sections, Seg, width};
+use crate::wire::{Input, Listing, Outcome, Record, Sections, Seg, width};
 
 /// How many elements are lent, of values words.
 #[derive(Clone, Copy, Debug, Default, PartialEq, Eq)]
@@ -116,7 +116,7 @@ pub fn segments(call: &Call) -> bool {
 /// from the term lengths' sum. "Section lengths" count the values' words; 3 has not been asked yet.
 pub fn section_lengths(call: &Call) -> bool {
     let s = call.sections;
-    let sum = |of: &dyn Fn(&[u32; 8]) -> u128| s.records.iter().map(of).sum::<u128>();
+    let sum = |of: &dyn Fn(&Record) -> u128| s.records.iter().map(of).sum::<u128>();
     sum(&|r| r[3] as u128) != s.ids.len() as u128
         || sum(&|r| r[4] as u128) != s.offsets.len() as u128
         || sum(&|r| r[5] as u128 * width(r[0]) as u128) != s.values.len() as u128
@@ -136,8 +136,8 @@ pub fn unknown(call: &Call) -> bool {
         || call.sections.records.iter().any(unknown_record)
 }
 
-/// 3 of one record.
-pub fn unknown_record(&[ty, kind, _rows, ids, offsets, values, terms, flag]: &[u32; 8]) -> bool {
+/// 3 of one record. The number of alive rows is no length: with type 255 it is that of the rows.
+pub fn unknown_record(&[ty, kind, _rows, ids, offsets, values, terms, flag, _count]: &Record) -> bool {
     !known_type(ty)
         || kind > 4
         || flag > 1
@@ -201,9 +201,30 @@ pub fn contents_of(s: &Seg) -> bool {
         || !s.terms.is_empty() && (!words || s.kind == 0)
 }
 
-/// 6: an alive bit past the rows, or an alive set in a stacked join
+/// 6: an alive bit past the rows, or an alive set in a stacked join; "also given when the stored number
+/// is wrong"
 pub fn alive_sets(call: &Call) -> bool {
+    alive_bits(call) || counts(call)
+}
+
+/// 6 without the stored numbers.
+pub fn alive_bits(call: &Call) -> bool {
     call.any_segment(|s| s.alive.is_some() && call.sections.mode == 0 || past_the_rows(s))
+}
+
+/// A wrong stored number, of any segment by itself.
+pub fn counts(call: &Call) -> bool {
+    counted(call).any(|(stored, s)| wrong_count(stored, s))
+}
+
+/// The stored numbers and the segments.
+pub fn counted<'a>(call: &'a Call) -> impl Iterator<Item = (u32, &'a Seg)> {
+    call.sections.records.iter().map(|r| r[8]).zip(&call.input().segs)
+}
+
+/// "Each record gains that number", of alive rows; "a record without an alive set holds its row count".
+pub fn wrong_count(stored: u32, s: &Seg) -> bool {
+    stored as u64 != alive_rows(s)
 }
 
 /// An alive bit past the rows.
@@ -440,11 +461,42 @@ mod tests {
             refused(5, text);
         }
         refused(0, "0 255 4/1/1/val=0/terms=-,0x00,a,aa,b");
-        // 6: 1 row, word 2
+        // 6: 1 row, word 2, be it counted or not
         refused(6, "1 255 1/1/1/val=0/alive=2");
+        refused(6, "1 255 1/1/1/val=0/alive=2/count=0");
         refused(6, "0 255 1/1/1/val=0/alive=1");
         refused(6, "0 255 255/0/0/alive=");
         refused(0, "1 255 255/0/0/alive=");
+        // 6: a wrong number of alive rows, in both modes, of any segment by itself
+        for text in [
+            "0 255 1/1/1/val=7/count=0",
+            "1 255 1/1/1/val=7/count=0 addr=0:0",
+            "0 255 1/1/1/val=7/count=2",
+            "1 255 1/1/2/val=7,8/alive=2/count=2 addr=0:1",
+            "1 255 1/1/2/val=7,8/alive=2/count=0 addr=0:1",
+            "1 255 1/1/2/val=7,8/alive=3/count=1 addr=0:0,0:1",
+            "0 255 1/1/1/val=7/count=0 1/1/1/val=8/count=2",
+            "1 255 1/1/1/val=7/count=0 1/1/1/val=8/count=2 addr=0:0,1:0",
+            "1 255 1/1/2/val=7,8/alive=1/count=2 1/1/2/val=7,8/alive=3/count=1 addr=0:0,1:0,1:1",
+            "0 255 255/0/3/count=0",
+            "0 255 255/0/0/count=1",
+            "0 255 1/0/3/count=0",
+            "1 255 255/0/0/alive=/count=1",
+            // before 7 and 9
+            "0 255 255/0/4294967295/count=0",
+            "0 255 255/0/4294967294/count=4294967295",
+            "1 255 1/1/1/val=7/count=0",
+            "0 255 4/1/1/val=0/terms=a 5/1/1/val=1/count=0",
+        ] {
+            refused(6, text);
+        }
+        // after 3, 19, 4 and 5
+        refused(3, "0 255 8/1/1/val=0/count=0");
+        refused(19, "0 255 1/3/0/off=0 255/0/1/count=0");
+        refused(4, "0 255 1/1/2/val=0/count=0");
+        refused(5, "0 255 5/1/1/val=2/count=0");
+        refused(0, "0 255 255/0/3/count=3");
+        refused(0, "1 255 1/1/2/val=7,8/alive=2/count=1 addr=0:1");
         // 7: one no-column segment of 4294967295 rows
         refused(7, "0 255 255/0/4294967295");
         refused(0, "0 255 255/0/4294967294");
@@ -506,11 +558,11 @@ mod tests {
     fn addresses_and_words() {
         let refused = |n: u32, text: &str| assert_eq!(number(text, PLENTY), n, "{text}");
         // 2: two words an address, no more and no less
-        let words = |records: &[[u32; 8]], words: &[u64]| {
+        let words = |records: &[Record], words: &[u64]| {
             let (records, values) = (records.to_vec(), words.to_vec());
             outcome(&Sections { required: 255, records, values, ..Sections::default() }, PLENTY).number()
         };
-        let full = |ty: u32, values: u32| [ty, 1, values, 0, 0, values, 0, 0];
+        let full = |ty: u32, values: u32| [ty, 1, values, 0, 0, values, 0, 0, values];
         assert_eq!(words(&[full(6, 1)], &[3, 4]), 0);
         assert_eq!(words(&[full(6, 1)], &[3]), 2);
         assert_eq!(words(&[full(6, 1)], &[3, 4, 5]), 2);
@@ -523,8 +575,8 @@ mod tests {
         assert_eq!(words(&[full(4_294_967_295, 2)], &[3, 4]), 3);
         // errors of two records cancel in words, and 4 finds them
         assert_eq!(words(&[full(6, 1), full(1, 2)], &[1, 2, 3, 4]), 10);
-        assert_eq!(words(&[[6, 1, 1, 0, 0, 2, 0, 0], [1, 1, 2, 0, 0, 0, 0, 0]], &[1, 2, 3, 4]), 4);
-        assert_eq!(words(&[[6, 1, 1, 0, 0, 2, 0, 0], [1, 1, 2, 0, 0, 1, 0, 0]], &[1, 2, 3, 4]), 2);
+        assert_eq!(words(&[[6, 1, 1, 0, 0, 2, 0, 0, 1], [1, 1, 2, 0, 0, 0, 0, 0, 2]], &[1, 2, 3, 4]), 4);
+        assert_eq!(words(&[[6, 1, 1, 0, 0, 2, 0, 0, 1], [1, 1, 2, 0, 0, 1, 0, 0, 2]], &[1, 2, 3, 4]), 2);
         // a segment's words start after the words of the segments before it
         let (records, values) = (vec![full(6, 1), full(1, 1)], vec![1, 2, 9]);
         let segs = Sections { records, values, ..Sections::default() }.cut().segs;
@@ -583,17 +635,25 @@ mod tests {
     fn program_form() {
         let bytes = |ty: u32, values: usize| {
             let mut s = input("0 255 1/1/0").sections();
-            (s.records[0][0], s.records[0][2], s.records[0][5]) = (ty, values as u32, values as u32);
+            let n = values as u32;
+            s.records[0] = [ty, 1, n, 0, 0, n, 0, 0, n];
             s.values = vec![7; values * width(ty)];
             s.encode()
         };
-        // 8 + 11 words without the values
-        assert_eq!(bytes(1, 8_173).len(), 65_536);
-        assert_eq!(program(&bytes(1, 8_173)).number(), 0);
-        assert_eq!(program(&bytes(1, 8_174)), Outcome::Refused(2));
-        assert_eq!(bytes(6, 4_086).len(), 65_528);
+        // 9 + 11 words without the values
+        assert_eq!(bytes(1, 8_172).len(), 65_536);
+        assert_eq!(program(&bytes(1, 8_172)).number(), 0);
+        assert_eq!(program(&bytes(1, 8_173)), Outcome::Refused(2));
+        assert_eq!(bytes(6, 4_086).len(), 65_536);
         assert_eq!(program(&bytes(6, 4_086)).number(), 0);
         assert_eq!(program(&bytes(6, 4_087)), Outcome::Refused(2));
         assert_eq!(program(&[]), Outcome::Refused(2));
+        // the number of alive rows has 32 bits: wider gives 2, also where its low ones are right
+        let mut wide = bytes(1, 1);
+        assert_eq!(wide[8 * 12], 1);
+        for (high, low, number) in [(0, 1, 0), (0, 0, 6), (1, 1, 2), (1, 0, 2)] {
+            (wide[8 * 12 + 4], wide[8 * 12]) = (high, low);
+            assert_eq!(program(&wide).number(), number);
+        }
     }
 }

@@ -2,13 +2,17 @@
 //! little-endian words), and the listing. A segment's or a column's value is one number here; only
 //! sections, outputs and the listing hold words.
 
+/// Type, kind, rows, numbers of row ids, offsets, values and terms, alive flag, and the ninth that document
+/// 02 adds: the number of alive rows.
+pub type Record = [u32; RECORD];
+pub const RECORD: usize = 9;
+
 /// The sections as they are lent: each kind of element in one run.
 #[derive(Clone, Debug, Default, PartialEq, Eq)]
 pub struct Sections {
     pub mode: u32,
     pub required: u32,
-    /// type, kind, rows, numbers of row ids, offsets, values and terms, alive flag
-    pub records: Vec<[u32; 8]>,
+    pub records: Vec<Record>,
     pub ids: Vec<u32>,
     pub offsets: Vec<u32>,
     /// words
@@ -50,6 +54,9 @@ pub struct Seg {
     pub values: Vec<u128>,
     pub terms: Vec<Vec<u8>>,
     pub alive: Option<Vec<u64>>,
+    /// The record's ninth number where it is a wrong one. Else it follows rows and alive set, as the
+    /// lists' numbers follow the lists.
+    pub wrong_count: Option<u32>,
 }
 
 /// The sections cut into segments.
@@ -70,6 +77,33 @@ impl Seg {
             Some(words) => words[(row / 64) as usize] >> (row % 64) & 1 == 1,
         }
     }
+
+    /// The ninth number as it must be: the set bits, or the rows where no alive set is given.
+    pub fn right_count(&self) -> u32 {
+        match &self.alive {
+            None => self.rows,
+            Some(words) => words.iter().map(|word| word.count_ones()).sum(),
+        }
+    }
+
+    /// Stores a ninth number, be it right or wrong.
+    pub fn set_count(&mut self, count: u32) {
+        self.wrong_count = Some(count).filter(|&count| count != self.right_count());
+    }
+
+    pub fn record(&self) -> Record {
+        [
+            self.ty,
+            self.kind,
+            self.rows,
+            self.ids.len() as u32,
+            self.offsets.len() as u32,
+            self.values.len() as u32,
+            self.terms.len() as u32,
+            self.alive.is_some() as u32,
+            self.wrong_count.unwrap_or(self.right_count()),
+        ]
+    }
 }
 
 impl Input {
@@ -81,16 +115,7 @@ impl Input {
             ..Sections::default()
         };
         for seg in &self.segs {
-            s.records.push([
-                seg.ty,
-                seg.kind,
-                seg.rows,
-                seg.ids.len() as u32,
-                seg.offsets.len() as u32,
-                seg.values.len() as u32,
-                seg.terms.len() as u32,
-                seg.alive.is_some() as u32,
-            ]);
+            s.records.push(seg.record());
             s.ids.extend(&seg.ids);
             s.offsets.extend(&seg.offsets);
             s.values.extend(words_of(seg.ty, &seg.values));
@@ -117,7 +142,7 @@ impl Sections {
         let mut alive = &self.alive[..];
         let mut segs = Vec::with_capacity(self.records.len());
         for r in &self.records {
-            segs.push(Seg {
+            let mut seg = Seg {
                 ty: r[0],
                 kind: r[1],
                 rows: r[2],
@@ -129,7 +154,10 @@ impl Sections {
                     .map(|&n| take(&mut bytes, n as usize).to_vec())
                     .collect(),
                 alive: (r[7] == 1).then(|| take(&mut alive, r[2].div_ceil(64) as usize).to_vec()),
-            });
+                wrong_count: None,
+            };
+            seg.set_count(r[8]);
+            segs.push(seg);
         }
         Input { mode: self.mode, required: self.required, segs, addresses: self.addresses.clone() }
     }
@@ -192,7 +220,7 @@ impl Sections {
         let s = Sections {
             mode: head[0],
             required: head[1],
-            records: narrow(words.section(8)?)?.as_chunks().0.to_vec(),
+            records: narrow(words.section(RECORD as u128)?)?.as_chunks().0.to_vec(),
             ids: narrow(words.section(1)?)?,
             offsets: narrow(words.section(1)?)?,
             values: words.section(1)?,
@@ -277,7 +305,7 @@ impl Listing {
 
 /// An input from words on a command line: MODE REQUIRED SEG.. [addr=s:r,s:r..] with
 /// SEG = type/kind/rows[/ids=1,2][/off=0,1][/val=7,-8][/terms=a,b (or 0x61, a lone - empty)][/alive=5]
-/// and an address by its two words, val=1:2.
+/// [/count=1], an address by its two words, val=1:2, and count the ninth number where it is a wrong one.
 pub fn from_words(words: &[String]) -> Result<Input, String> {
     fn number(text: &str) -> Result<u64, String> {
         let parsed = match (text.strip_prefix("0x"), text.starts_with('-')) {
@@ -330,8 +358,12 @@ pub fn from_words(words: &[String]) -> Result<Input, String> {
                 Some(("val", l)) => seg.values = list(l, |v| value(seg.ty, v))?,
                 Some(("terms", l)) => seg.terms = list(l, term)?,
                 Some(("alive", l)) => seg.alive = Some(list(l, number)?),
+                Some(("count", n)) => seg.wrong_count = Some(narrow(n)?),
                 _ => return Err(format!("what is {part}?")),
             }
+        }
+        if let Some(count) = seg.wrong_count {
+            seg.set_count(count);
         }
         input.segs.push(seg);
     }
@@ -362,6 +394,9 @@ pub fn to_words(input: &Input) -> String {
         if let Some(alive) = &s.alive {
             words += "/alive=";
             words += &alive.iter().map(u64::to_string).collect::<Vec<_>>().join(",");
+        }
+        if let Some(count) = s.wrong_count {
+            words += &format!("/count={count}");
         }
     }
     if !input.addresses.is_empty() {
@@ -410,9 +445,9 @@ mod tests {
             w[0] = count;
             assert_eq!(Sections::decode(&words(&w)), Err("a first count other than 2"));
         }
-        // Counts whose product with 8, 16 or 64 wraps at 2^64.
+        // Counts whose product with 8, 9, 16 or 72 wraps at 2^64, nine times the last but one to 1.
         for place in 3..11 {
-            for count in [1, 1 << 58, 1 << 60, 1 << 61, 1 << 63, u64::MAX] {
+            for count in [1, 1 << 58, 1 << 60, 1 << 61, 1 << 63, 0x8E38E38E38E38E39, u64::MAX] {
                 let mut w = [2, 0, 255, 0, 0, 0, 0, 0, 0, 0, 0];
                 w[place] = count;
                 assert_eq!(Sections::decode(&words(&w)), Err("a cut input"), "{place} {count}");
@@ -422,9 +457,11 @@ mod tests {
         assert!(wide(&[2, 1 << 32, 255, 0, 0, 0, 0, 0, 0, 0, 0]));
         assert!(!wide(&[2, (1 << 32) - 1, 255, 0, 0, 0, 0, 0, 0, 0, 0]));
         assert!(wide(&[2, 0, 1 << 32, 0, 0, 0, 0, 0, 0, 0, 0]));
-        for i in 0..8 {
-            let mut w = vec![2, 0, 255, 1, 0, 0, 0, 0, 0, 0, 0, 0, 0, 0, 0, 0, 0, 0, 0];
-            w[4 + i] = 1 << 32;
+        for i in 0..9 {
+            let mut w = vec![2, 0, 255, 1, 0, 0, 0, 0, 0, 0, 0, 0, 0, 0, 0, 0, 0, 0, 0, 0];
+            w[4 + i] = (1 << 32) - 1;
+            assert!(Sections::decode(&words(&w)).is_ok());
+            w[4 + i] += 1;
             assert!(wide(&w));
         }
         assert!(wide(&[2, 0, 255, 0, 1, 1 << 32, 0, 0, 0, 0, 0, 0]));

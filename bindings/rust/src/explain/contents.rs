@@ -1,7 +1,7 @@
 //! Answers 5 to 7: values, terms, alive sets, totals.
 use super::words::{element, of_type, value_of};
 use crate::codes::{ColumnType, kind};
-use crate::sections::{Cut, Sections};
+use crate::sections::{Cut, Record, Sections};
 use crate::sheet::term_text;
 
 pub fn values_and_terms(cut: &Cut<'_>) -> Option<String> {
@@ -54,12 +54,27 @@ fn terms_rise(cut: &Cut<'_>) -> Option<String> {
 }
 
 pub fn alive_set(cut: &Cut<'_>, stacked: bool) -> Option<String> {
-    let words = cut.alive?;
-    if stacked {
+    if stacked && cut.alive.is_some() {
         return Some("alive set: a stacked join takes none".to_string());
     }
+    alive_rows(&cut.record, cut.alive.unwrap_or_default())
+}
+
+/// A record's number of alive rows, and its alive words, which are as many as it announces.
+pub fn alive_rows(record: &Record, words: &[u64]) -> Option<String> {
+    past_the_rows(record, words).or_else(|| {
+        let (stored, counted) = (record.alive_rows, record.alive_number(words));
+        let why = match record.flag {
+            1 => format!("the alive set has {counted}"),
+            _ => format!("without an alive set all rows are alive, {counted}"),
+        };
+        (stored != counted).then(|| format!("alive rows {stored}: {why}"))
+    })
+}
+
+fn past_the_rows(record: &Record, words: &[u64]) -> Option<String> {
     // Only the last word can mark a row past the last.
-    let (last, rows) = (words.len().checked_sub(1)?, u64::from(cut.record.rows));
+    let (last, rows) = (words.len().checked_sub(1)?, u64::from(record.rows));
     let first_row = last as u64 * 64;
     let row = (first_row..first_row + 64)
         .find(|&row| row >= rows && words[last] >> (row - first_row) & 1 == 1)?;
@@ -85,7 +100,6 @@ pub fn totals(s: &Sections) -> Option<String> {
 #[cfg(test)]
 mod tests {
     use super::*;
-    use crate::sections::Record;
 
     /// Words that 32 bits can't count are no matter. (So many addresses are not made for a test.)
     #[test]

@@ -15,8 +15,12 @@ pub fn lengths(s: &Sections) -> Option<String> {
         .or_else(|| ends("offsets", |r| r.offsets as usize, s.offsets.len()))
         .or_else(|| ends(values_name(s), Record::value_words, s.values.len()))
         .or_else(|| ends("terms", |r| r.terms as usize, s.term_lengths.len()))
-        .or_else(|| ends("alive words", Record::alive_words, s.alive.len()))
+        .or_else(|| alive_words(s))
         .or_else(|| term_bytes(s))
+}
+
+pub fn alive_words(s: &Sections) -> Option<String> {
+    announced(s, "alive words", Record::alive_words, s.alive.len())
 }
 
 /// Words are spoken of only where they are not the values themselves.
@@ -91,11 +95,8 @@ pub fn codes(cut: &Cut<'_>) -> Option<String> {
     if r.kind as usize >= kind::NAMES.len() {
         return Some(format!("kind {}: the kinds are 0 to 4", r.kind));
     }
-    if r.flag > 1 {
-        return Some(format!(
-            "flag {}: 1 stands for an alive set, 0 for none",
-            r.flag
-        ));
+    if let Some(text) = flag(r) {
+        return Some(text);
     }
     if r.typ != NO_TYPE {
         return None;
@@ -114,6 +115,11 @@ pub fn codes(cut: &Cut<'_>) -> Option<String> {
     ];
     let (name, _) = lists.into_iter().find(|(_, number)| *number > 0)?;
     Some(format!("{name}: a segment without a column has none"))
+}
+
+pub fn flag(record: &Record) -> Option<String> {
+    let flag = record.flag;
+    (flag > 1).then(|| format!("flag {flag}: 1 stands for an alive set, 0 for none"))
 }
 
 pub fn old(cut: &Cut<'_>) -> Option<String> {

@@ -6,6 +6,7 @@
 mod contents;
 mod listed;
 mod lists;
+mod marked;
 mod times;
 mod types;
 mod words;
@@ -101,6 +102,23 @@ pub fn convert(s: &Sections) -> Option<Fault> {
             }),
         ])
     })
+}
+
+/// What withdrawing or reinstating these rows of a segment is refused for. Panics if there is no
+/// such segment.
+pub fn mark_rows(s: &Sections, segment: usize, rows: &[u32]) -> Option<Fault> {
+    let record = &s.records[segment];
+    let words = s.alive_part(segment).map(|part| &s.alive[part]);
+    let one = |found: Option<String>| found.map(|text| at(segment, &text));
+    first(&[
+        (Refusal::Lengths, &|| lists::alive_words(s)),
+        (Refusal::UnknownCode, &|| one(lists::flag(record))),
+        (Refusal::AliveSet, &|| {
+            one(contents::alive_rows(record, words.unwrap_or_default()))
+        }),
+        (Refusal::AbsentRow, &|| one(marked::absent(record, rows))),
+        (Refusal::NoAliveSet, &|| one(marked::no_alive_set(record))),
+    ])
 }
 
 /// What answer 2 is given for: lists that don't fit the records.

@@ -1,8 +1,8 @@
 //! A sheet's own text, with its old segments converted.
 use super::elements;
+use super::places::{Edit, Entry, Places, segments, write_edited};
 use super::reader::Keyword;
-use super::tokens::{Token, tokens};
-use super::writer::{write, write_list};
+use super::writer::{write, write_entry};
 use crate::codes::kind;
 use crate::sections::{Cut, Sections};
 use std::io::{self, Write};
@@ -18,107 +18,57 @@ pub fn write_converted(text: &str, converted: &Sections, out: &mut dyn Write) ->
     if segments.len() != cuts.len() {
         return write(converted, out);
     }
-    let mut end = 0;
+    let mut edits = Vec::new();
     for (segment, cut) in segments.iter().zip(&cuts) {
-        for (place, new) in segment.edits(text, cut)? {
-            out.write_all(&text.as_bytes()[end..place.start])?;
-            out.write_all(&new)?;
-            end = place.end;
-        }
+        edits.extend(edits_of(segment, text, cut)?);
     }
-    out.write_all(&text.as_bytes()[end..])
+    write_edited(text, edits, out)
 }
 
-/// Where a segment's entries stand in the text, as far as a conversion changes them.
-#[derive(Default)]
-struct Places {
-    /// The word after `kind`, if that is the old one.
-    old_kind: Option<Range<usize>>,
-    /// From `offsets` to its last element.
-    offsets: Range<usize>,
-    /// The word `ids`; an old segment has none behind it.
-    ids: Option<Range<usize>>,
-    has_rows: bool,
+/// What a conversion changes in a segment's entries.
+fn edits_of(segment: &Places, text: &str, new: &Cut<'_>) -> io::Result<Vec<Edit>> {
+    let is_old = |place: &Range<usize>| {
+        let kind = elements::kind(&text[place.clone()]);
+        kind == Ok(kind::OLD_MULTIVALUED)
+    };
+    let kind = segment.entry(Keyword::Kind);
+    let Some(kind) = kind.and_then(|entry| entry.elements.clone()).filter(is_old) else {
+        return Ok(Vec::new());
+    };
+    let name = elements::kind_text(new.record.kind);
+    let mut edits = vec![(kind, name.into_bytes())];
+    if let Some(offsets) = segment.entry(Keyword::Offsets) {
+        let has_rows = segment.entry(Keyword::Rows).is_some();
+        edits.push((offsets.whole(), lists(offsets, text, has_rows, new)?));
+    }
+    // An old segment has no ids behind the word.
+    let ids = segment.entry(Keyword::Ids);
+    edits.extend(ids.map(|entry| (entry.word.clone(), Vec::new())));
+    Ok(edits)
 }
 
-/// The places of each segment of a sheet that can be read.
-fn segments(text: &str) -> Vec<Places> {
-    let (mut segments, mut entry) = (Vec::new(), None);
-    let words = text
-        .trim_start_matches('\u{feff}')
-        .split('\n')
-        .flat_map(tokens)
-        .filter_map(|token| match token {
-            Ok(Token::Word(word)) => Some(word),
-            _ => None,
-        });
-    for word in words {
-        let start = word.as_ptr() as usize - text.as_ptr() as usize;
-        let place = start..start + word.len();
-        let keyword = Keyword::of(word);
-        if keyword == Some(Keyword::Segment) {
-            segments.push(Places::default());
-        }
-        let Some(segment) = segments.last_mut() else {
-            continue;
-        };
-        match (keyword, entry) {
-            (Some(Keyword::Rows), _) => segment.has_rows = true,
-            (Some(Keyword::Ids), _) => segment.ids = Some(place),
-            (Some(Keyword::Offsets), _) => segment.offsets = place,
-            (None, Some(Keyword::Offsets)) => segment.offsets.end = place.end,
-            (None, Some(Keyword::Kind)) => {
-                let old = elements::kind(word) == Ok(kind::OLD_MULTIVALUED);
-                segment.old_kind = old.then_some(place);
-            }
-            _ => {}
-        }
-        entry = keyword.or(entry);
+/// What stands in the place of the old offsets: on lines of its own, if these began one.
+fn lists(offsets: &Entry, text: &str, has_rows: bool, new: &Cut<'_>) -> io::Result<Vec<u8>> {
+    let before = &text[..offsets.word.start];
+    let line = &before[before.rfind('\n').map_or(0, |end| end + 1)..];
+    let apart = match line.trim().is_empty() {
+        true => format!("\n{line}"),
+        false => " ".to_string(),
+    };
+    let mut lists = Vec::new();
+    if !has_rows {
+        write!(lists, "rows {}{apart}", new.record.rows)?;
     }
-    segments
-}
-
-impl Places {
-    /// What is to stand at which place, in their order.
-    fn edits(&self, text: &str, new: &Cut<'_>) -> io::Result<Vec<(Range<usize>, Vec<u8>)>> {
-        let Some(kind) = self.old_kind.clone() else {
-            return Ok(Vec::new());
-        };
-        let name = elements::kind_text(new.record.kind);
-        let mut edits = vec![
-            (kind, name.into_bytes()),
-            (self.offsets.clone(), self.lists(text, new)?),
-        ];
-        edits.extend(self.ids.clone().map(|place| (place, Vec::new())));
-        edits.sort_by_key(|(place, _)| place.start);
-        Ok(edits)
+    if !new.ids.is_empty() {
+        write_entry("ids", new.ids.iter().map(u32::to_string), &mut lists)?;
+        lists.write_all(apart.as_bytes())?;
     }
-
-    /// What stands in the place of the old offsets: on lines of its own, if these began one.
-    fn lists(&self, text: &str, new: &Cut<'_>) -> io::Result<Vec<u8>> {
-        let before = &text[..self.offsets.start];
-        let line = &before[before.rfind('\n').map_or(0, |end| end + 1)..];
-        let apart = match line.trim().is_empty() {
-            true => format!("\n{line}"),
-            false => " ".to_string(),
-        };
-        let mut lists = Vec::new();
-        if !self.has_rows {
-            write!(lists, "rows {}{apart}", new.record.rows)?;
-        }
-        if !new.ids.is_empty() {
-            write_list("ids", new.ids.iter().map(u32::to_string), &mut lists)?;
-            lists.pop();
-            lists.write_all(apart.as_bytes())?;
-        }
-        write_list(
-            "offsets",
-            new.offsets.iter().map(u32::to_string),
-            &mut lists,
-        )?;
-        lists.pop();
-        Ok(lists)
-    }
+    write_entry(
+        "offsets",
+        new.offsets.iter().map(u32::to_string),
+        &mut lists,
+    )?;
+    Ok(lists)
 }
 
 #[cfg(test)]
@@ -180,7 +130,7 @@ mod tests {
 
     #[test]
     fn records_become_segments() {
-        let new = converted("record 1 3 1 0 2 1 0 0 offsets 0 1 values 7");
+        let new = converted("record 1 3 1 0 2 1 0 0 1 offsets 0 1 values 7");
         assert!(new.ends_with("kind NewMultivalued\nrows 1\nids 0\noffsets 0 1\nvalues 7\n"));
     }
 }

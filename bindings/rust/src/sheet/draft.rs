@@ -3,7 +3,7 @@ use super::SheetFault;
 use super::elements;
 use super::reader::Keyword;
 use super::tokens::Token;
-use crate::alive::{AliveSet, words_for};
+use crate::alive::{AliveSet, alive_number, words_for};
 use crate::codes::{ColumnType, NO_TYPE, kind, words_per_value};
 use crate::sections::{Record, Sections};
 use crate::terms::Terms;
@@ -52,6 +52,8 @@ pub struct Draft {
     terms: Terms,
     alive: Vec<u64>,
     withdrawn: Vec<u32>,
+    /// The number of alive rows, if it is given; else they are counted.
+    alive_rows: Option<u32>,
 }
 
 impl Draft {
@@ -100,6 +102,7 @@ impl Draft {
             Keyword::Offsets => self.offsets.push(elements::number(word)?),
             Keyword::Alive => self.alive.push(elements::number(word)?),
             Keyword::Withdrawn => self.withdrawn.push(elements::number(word)?),
+            Keyword::AliveRows => self.alive_rows = Some(elements::number(word)?),
             Keyword::Values => self.take_value(word)?,
             _ => return Err(format!("'{word}' can't stand here")),
         }
@@ -149,6 +152,7 @@ impl Draft {
         for length in lengths {
             sections.term_lengths.push(self.count(length)?);
         }
+        let counted = alive_number(rows.into(), (flag == 1).then_some(&alive[..]));
         sections.records.push(Record {
             typ: self.typ.unwrap_or(NO_TYPE),
             kind,
@@ -158,6 +162,7 @@ impl Draft {
             values: self.count(self.value_count())?,
             terms: self.count(self.terms.len())?,
             flag,
+            alive_rows: self.alive_rows.unwrap_or(counted),
         });
         sections.ids.append(&mut self.ids);
         sections.offsets.append(&mut self.offsets);

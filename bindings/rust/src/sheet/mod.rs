@@ -16,6 +16,8 @@
 mod converted;
 mod draft;
 mod elements;
+mod marked;
+mod places;
 mod reader;
 mod tokens;
 mod writer;
@@ -27,6 +29,7 @@ use std::io::{self, BufRead};
 
 pub use converted::write_converted;
 pub(crate) use elements::term_text;
+pub use marked::write_marked;
 pub use writer::{write, write_addresses, write_segments};
 
 /// Why a sheet could not be read.

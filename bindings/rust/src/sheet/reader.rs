@@ -22,6 +22,7 @@ pub enum Keyword {
     Terms,
     Alive,
     Withdrawn,
+    AliveRows,
     Addresses,
     Record,
     TermLengths,
@@ -29,7 +30,7 @@ pub enum Keyword {
 }
 
 impl Keyword {
-    const ALL: [(Keyword, &'static str); 17] = [
+    const ALL: [(Keyword, &'static str); 18] = [
         (Keyword::Mode, "mode"),
         (Keyword::Required, "required"),
         (Keyword::Segment, "segment"),
@@ -43,6 +44,7 @@ impl Keyword {
         (Keyword::Terms, "terms"),
         (Keyword::Alive, "alive"),
         (Keyword::Withdrawn, "withdrawn"),
+        (Keyword::AliveRows, "alive-rows"),
         (Keyword::Addresses, "addresses"),
         (Keyword::Record, "record"),
         (Keyword::TermLengths, "term-lengths"),
@@ -67,9 +69,10 @@ impl Keyword {
     fn words(self) -> Option<usize> {
         match self {
             Keyword::Segment => Some(0),
-            Keyword::Record => Some(8),
+            Keyword::Record => Some(9),
             Keyword::Mode | Keyword::Required => Some(1),
-            Keyword::Type | Keyword::Kind | Keyword::Rows | Keyword::Flag => Some(1),
+            Keyword::Type | Keyword::Kind | Keyword::Rows => Some(1),
+            Keyword::Flag | Keyword::AliveRows => Some(1),
             _ => None,
         }
     }
@@ -157,7 +160,7 @@ impl Reader {
                 let what = if wanted == 1 {
                     "a word"
                 } else {
-                    "eight numbers"
+                    "nine numbers"
                 };
                 let text = format!("'{}' wants {what} after it", keyword.word());
                 Err(SheetFault { line, text })
@@ -234,7 +237,18 @@ impl Reader {
 
     fn record_number(&mut self, number: u32) {
         self.record.push(number);
-        if let [typ, kind, rows, ids, offsets, values, terms, flag] = self.record[..] {
+        if let [
+            typ,
+            kind,
+            rows,
+            ids,
+            offsets,
+            values,
+            terms,
+            flag,
+            alive_rows,
+        ] = self.record[..]
+        {
             let record = Record {
                 typ,
                 kind,
@@ -244,6 +258,7 @@ impl Reader {
                 values,
                 terms,
                 flag,
+                alive_rows,
             };
             self.sections.records.push(record);
             self.record.clear();

@@ -63,10 +63,19 @@ fn write_segment(cut: &Cut<'_>, out: &mut dyn Write) -> io::Result<()> {
         write_list("terms", cut.terms().map(term_text), out)?;
     }
     match (cut.alive, r.flag) {
-        (Some(words), _) => write_list("alive", words.iter().map(|w| format!("{w:#x}")), out),
-        (None, 0) => Ok(()),
-        (None, flag) => writeln!(out, "flag {flag}"),
+        (Some(words), _) => write_list("alive", alive_texts(words), out)?,
+        (None, 0) => {}
+        (None, flag) => writeln!(out, "flag {flag}")?,
     }
+    // A right number follows from the rest.
+    match r.alive_rows {
+        number if number == cut.alive_number() => Ok(()),
+        wrong => writeln!(out, "alive-rows {wrong}"),
+    }
+}
+
+pub fn alive_texts(words: &[u64]) -> impl Iterator<Item = String> {
+    words.iter().map(|word| format!("{word:#x}"))
 }
 
 fn write_wholes(s: &Sections, out: &mut dyn Write) -> io::Result<()> {
@@ -80,7 +89,7 @@ fn write_wholes(s: &Sections, out: &mut dyn Write) -> io::Result<()> {
     }
     writeln!(
         out,
-        "# type, kind, rows, numbers of ids, offsets, values and terms, flag"
+        "# type, kind, rows, numbers of ids, offsets, values and terms, flag, alive rows"
     )?;
     for r in &s.records {
         let Record {
@@ -92,10 +101,11 @@ fn write_wholes(s: &Sections, out: &mut dyn Write) -> io::Result<()> {
             values,
             terms,
             flag,
+            alive_rows,
         } = r;
         writeln!(
             out,
-            "record {typ} {kind} {rows} {ids} {offsets} {values} {terms} {flag}"
+            "record {typ} {kind} {rows} {ids} {offsets} {values} {terms} {flag} {alive_rows}"
         )?;
     }
     write_list("ids", s.ids.iter().map(u32::to_string), out)?;
@@ -107,14 +117,23 @@ fn write_wholes(s: &Sections, out: &mut dyn Write) -> io::Result<()> {
         out,
     )?;
     write_list("term-bytes", s.term_bytes.chunks(40).map(hex_text), out)?;
-    write_list("alive", s.alive.iter().map(|w| format!("{w:#x}")), out)
+    write_list("alive", alive_texts(&s.alive), out)
 }
 
 /// How long a line may become.
 const WIDTH: usize = 96;
 
-/// Writes an entry, on several lines if it is long.
-pub fn write_list(
+fn write_list(
+    name: &str,
+    elements: impl Iterator<Item = String>,
+    out: &mut dyn Write,
+) -> io::Result<()> {
+    write_entry(name, elements, out)?;
+    writeln!(out)
+}
+
+/// Writes an entry without the end of its line, on several lines if it is long.
+pub fn write_entry(
     name: &str,
     elements: impl Iterator<Item = String>,
     out: &mut dyn Write,
@@ -129,5 +148,5 @@ pub fn write_list(
         write!(out, " {element}")?;
         column += 1 + element.len();
     }
-    writeln!(out)
+    Ok(())
 }

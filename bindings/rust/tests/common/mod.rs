@@ -1,18 +1,42 @@
-//! Joins that are accepted, and alive sets of one word.
-use jadmirus::{Address, AliveSet, Joined, Order, Segment, join};
+//! What several test files share; each takes what it needs.
+#![allow(dead_code)]
+
+pub mod chance;
+pub mod program;
+
+use jadmirus::{
+    Address, AliveSet, Joined, Order, Refusal, Sections, Segment, explain, join, sheet,
+};
 
 pub fn stacked(segments: &[Segment]) -> Joined {
     join(segments, Order::Stacked, None).unwrap()
 }
 
-pub fn ordered(segment: Segment, rows: &[u32]) -> Joined {
-    let addresses: Vec<Address> = rows
-        .iter()
-        .map(|&row| Address { segment: 0, row })
-        .collect();
-    join(&[segment], Order::Ordered(&addresses), None).unwrap()
+/// Rows of the first segment.
+pub fn addresses(rows: &[u32]) -> Vec<Address> {
+    let address = |&row| Address { segment: 0, row };
+    rows.iter().map(address).collect()
 }
 
+pub fn ordered(segment: Segment, rows: &[u32]) -> Joined {
+    join(&[segment], Order::Ordered(&addresses(rows)), None).unwrap()
+}
+
+/// An alive set of one word.
 pub fn alive(word: u64) -> AliveSet {
     AliveSet::from_words(vec![word])
+}
+
+/// The sections of a sheet.
+pub fn sections(sheet: &str) -> Sections {
+    sheet::read(sheet.as_bytes()).unwrap()
+}
+
+/// The answers of a sheet's join and of its time order, each as the explanation has it.
+pub fn answers(sheet: &str) -> [u32; 2] {
+    let sections = sections(sheet);
+    let answers = [sections.join().err(), sections.time_order().err()];
+    let found = [explain::join(&sections), explain::time_order(&sections)];
+    assert_eq!(found.map(|f| f.map(|f| f.refusal)), answers, "{sheet}");
+    answers.map(|answer| answer.map_or(0, Refusal::number))
 }

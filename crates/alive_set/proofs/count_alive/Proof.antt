@@ -5,13 +5,13 @@ use native.Mathlib.Omega.{arith}
 use lib.ListN.{length, drop, getD}
 use lib.Count.{ones-le}
 use borrow.Author.Needs.{needs}
-use Rattle.alive_set.specs.Alive.{aliveCount}
+use Rattle.definitions.specs.Row.{setBits}
 use Rattle.alive_set.proofs.Ones.{count-step, count-end}
 use Rattle.alive_set.proofs.count_alive.Statement.{statement}
 use Rattle.alive_set.proofs.count_alive.Tie as tie
 
 abbrev Inv-loop : tie.InvT-loop
-Inv-loop words n₀ i₀ n i = (i ≤ length words) × (n + aliveCount (drop i words) ≡ aliveCount words) × (n ≤ 64 * i)
+Inv-loop words n₀ i₀ n i = (i ≤ length words) × (n + setBits (drop i words) ≡ setBits words) × (n ≤ 64 * i)
 
 abbrev μ-loop : tie.MeasureT-loop
 μ-loop words n₀ i₀ n i = length words - i

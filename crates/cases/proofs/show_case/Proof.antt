@@ -98,8 +98,8 @@ array-share-prefix-bytes c = c .before .before .before .before .before .before .
 slice-aggregate-run-6 : tie.Need-slice-aggregate-run-6
 slice-aggregate-run-6 c = c .before .before .before .before .before .before .before .before .before .before .before .before .before .read-bytes .ensures .0 .1
 
-array-share-prefix-alive : tie.Need-array-share-prefix-alive
-array-share-prefix-alive c = c .before .before .before .before .before .before .before .before .before .before .read-words2 .ensures .0 .0
+array-borrow-prefix-alive : tie.Need-array-borrow-prefix-alive
+array-borrow-prefix-alive c = c .before .before .before .before .before .before .before .before .before .before .read-words2 .ensures .0 .0
 
 slice-aggregate-run-7 : tie.Need-slice-aggregate-run-7
 slice-aggregate-run-7 c = c .before .before .before .before .before .before .before .before .before .before .before .read-words2 .ensures .0 .1
@@ -151,7 +151,7 @@ show-case-spec =
     slice-aggregate-run-5
     array-share-prefix-bytes
     slice-aggregate-run-6
-    array-share-prefix-alive
+    array-borrow-prefix-alive
     slice-aggregate-run-7
     array-share-prefix-addresses
     slice-aggregate-run-8

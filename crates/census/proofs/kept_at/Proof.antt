@@ -14,7 +14,7 @@ from-on-requires c κs = search needs
 returns : tie.Need-returns
 returns c =
     let a = c .before .before .args .p in
-    λ i. record { typ = a .typ; kind = a .kind; flag = a .flag; held = 1; rows = a .rows; work = a .work; count = a .count; unit = a .unit; ids = a .ids; offsets = a .offsets; values = a .values; terms = a .terms; text = c .before .before .args .text; alive = a .alive; map = c .from-on .ensures i }
+    λ i. record { typ = a .typ; kind = a .kind; flag = a .flag; held = 1; rows = a .rows; work = a .work; count = a .count; unit = a .unit; ids = a .ids; offsets = a .offsets; values = a .values; terms = a .terms; text = c .before .before .args .text; alive = a .alive; map = c .from-on .ensures i; live = a .live }
 
 pub kept-at-spec : {M : Type 1} → statement M
 kept-at-spec = tie.close (tie.spec sub-n from-on-requires returns)

@@ -5,8 +5,11 @@ use lib.ListN.{replicate}
 use Rattle.column_index_shuffled.proofs.ordered_rows.Statement.{statement}
 use Rattle.column_index_shuffled.proofs.ordered_rows.Tie as tie
 
-fill-guesses-requires : tie.Need-fill-guesses-requires
-fill-guesses-requires c κs = search needs
+slice-reshare-prefix-write-rows : tie.Need-slice-reshare-prefix-write-rows
+slice-reshare-prefix-write-rows c = search needs
+
+slice-aggregate-write-rows : tie.Need-slice-aggregate-write-rows
+slice-aggregate-write-rows c = search needs
 
 write-rows-requires : tie.Need-write-rows-requires
 write-rows-requires c κs = search needs
@@ -27,17 +30,54 @@ same-length-4 : tie.Need-same-length-4
 same-length-4 c = search needs
 
 returns : tie.Need-returns
-returns c = (c .before .before .before .before .before .before .before .before .before .before .write-rows .ensures .0, (c .before .before .before .before .before .before .before .before .before .before .write-rows .ensures .1 .0, (c .before .before .before .before .before .before .before .before .before .before .write-rows .ensures .1 .1, c .before .before .zero .ensures ∙ ap (λ (n : ℕ). replicate n 0) (c .before .before .before .before .before .before .before .before .before .before .before .before .before .before .before .before .before .fill-guesses .kept .1 .1 .0))))
+returns c =
+    let w = c .before .before .before .before .before .before .before .before .before .before .write-rows .ensures in
+    (w .0, (w .1 .0, (w .1 .1, c .before .before .zero .ensures)))
+
+fill-guesses-requires : tie.Need-fill-guesses-requires
+fill-guesses-requires c κs = search needs
+
+write-rows-requires-2 : tie.Need-write-rows-requires-2
+write-rows-requires-2 c κs = search needs
+
+zero-requires-2 : tie.Need-zero-requires-2
+zero-requires-2 c κs = search needs
+
+same-length-5 : tie.Need-same-length-5
+same-length-5 c = search needs
+
+same-length-6 : tie.Need-same-length-6
+same-length-6 c = search needs
+
+same-length-7 : tie.Need-same-length-7
+same-length-7 c = search needs
+
+same-length-8 : tie.Need-same-length-8
+same-length-8 c = search needs
+
+returns-2 : tie.Need-returns-2
+returns-2 c =
+    let w = c .before .before .before .before .before .before .before .before .before .before .write-rows2 .ensures in
+    (w .0, (w .1 .0, (w .1 .1, c .before .before .zero2 .ensures ∙ ap (λ (n : ℕ). replicate n 0) (c .before .before .before .before .before .before .before .before .before .before .before .before .before .before .before .before .before .fill-guesses .kept .1 .1 .0))))
 
 pub ordered-rows-spec : {M : Type 1} → statement M
 ordered-rows-spec =
     tie.close
     (tie.spec
-    fill-guesses-requires
+    slice-reshare-prefix-write-rows
+    slice-aggregate-write-rows
     write-rows-requires
     zero-requires
     same-length
     same-length-2
     same-length-3
     same-length-4
-    returns)
+    returns
+    fill-guesses-requires
+    write-rows-requires-2
+    zero-requires-2
+    same-length-5
+    same-length-6
+    same-length-7
+    same-length-8
+    returns-2)

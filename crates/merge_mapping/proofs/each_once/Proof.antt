@@ -1,75 +1,66 @@
-use mathlib.Core.Path.{refl, sym, ap, _∙_}
-use mathlib.Core.List.{List}
-use Prim.Native.Nat.{ℕ, _≤_}
 use native.Mathlib.Omega.{arith}
-use lib.ListN.{length, length-map}
+use mathlib.Core.Path.{sym}
+use mathlib.Core.Bool.{false≢true}
+use Prim.Native.Nat.{_≤_}
+use lib.ListN.{length}
 use lib.Seq.{length-take-le}
 use borrow.Author.Tests.{not-true, not-false}
-use Rattle.definitions.specs.Segment.{addressFrom}
-use Rattle.merge_mapping.specs.Mapping.{allNew, marked, allAlive}
-use Rattle.merge_mapping.proofs.Stood.{markable, countable, once-bad, once-good}
-use Rattle.stands.proofs.Fill.{lent-stands}
-use Rattle.segment.proofs.Walk.{records-long}
 use Rattle.segment.specs.Lent.{addressesOf}
+use Rattle.segment.proofs.Walk.{records-long}
+use Rattle.stands.proofs.Fill.{lent-stands}
+use Rattle.merge_mapping.proofs.Stood.{words-lent, room-lent, room-then, once-bad, once-good, once-clean}
 use borrow.Author.Needs.{needs}
 use Rattle.merge_mapping.proofs.each_once.Statement.{statement}
 use Rattle.merge_mapping.proofs.each_once.Tie as tie
 
--- src/lib.rt:112:34
 slice-aggregate-fill-stands : tie.Need-slice-aggregate-fill-stands
 slice-aggregate-fill-stands c = search needs
 
--- src/lib.rt:112:5
 fill-stands-requires : tie.Need-fill-stands-requires
-fill-stands-requires c κs = let h : length (c .before .before .before .args .records .now) ≤ 256 = omega (arith, c .before .before .before .pre .few, records-long (c .before .before .before .args .records .now)) in (h, h)
+fill-stands-requires c κs =
+    let h : length (c .before .before .before .args .records .now) ≤ 256 = omega (arith, c .before .before .before .pre .few, records-long (c .before .before .before .args .records .now)) in
+    (h, h)
 
--- src/lib.rt:113:18
 array-share-prefix-stands : tie.Need-array-share-prefix-stands
 array-share-prefix-stands c = omega (arith, c .before .before .before .before .before .pre .few, records-long (c .before .before .before .before .before .args .records .now), c .before .fill-stands .kept .1 .0)
 
--- src/lib.rt:113:18
-slice-aggregate-mark-all : tie.Need-slice-aggregate-mark-all
-slice-aggregate-mark-all c = sym (length-take-le _ _ (omega (arith, c .before .before .before .before .before .before .pre .few, records-long (c .before .before .before .before .before .before .args .records .now), c .before .before .fill-stands .kept .1 .0)))
+slice-aggregate-fill-all : tie.Need-slice-aggregate-fill-all
+slice-aggregate-fill-all c = sym (length-take-le _ _ (omega (arith, c .before .before .before .before .before .before .pre .few, records-long (c .before .before .before .before .before .before .args .records .now), c .before .before .fill-stands .kept .1 .0)))
 
--- src/lib.rt:113:9
-mark-all-requires : tie.Need-mark-all-requires
-mark-all-requires c κs = markable (c .before .before .before .before .before .before .before .args .records .now) (c .before .before .before .before .before .before .before .args .alive .now) (c .before .before .before .before .before .before .before .args .marks .now) (c .before .before .before .before .before .before .before .pre) (lent-stands (c .before .before .before .before .before .before .before .args .records .now) _ (c .before .before .before .fill-stands .ensures)) refl
+fill-all-requires : tie.Need-fill-all-requires
+fill-all-requires c κs =
+    let is = lent-stands (c .before .before .before .before .before .before .before .args .records .now) _ (c .before .before .before .fill-stands .ensures) in
+    (words-lent (c .before .before .before .before .before .before .before .args .records .now) (c .before .before .before .before .before .before .before .args .alive .now) (c .before .before .before .before .before .before .before .args .bits .now) (c .before .before .before .before .before .before .before .pre) is, room-lent (c .before .before .before .before .before .before .before .args .records .now) (c .before .before .before .before .before .before .before .args .alive .now) (c .before .before .before .before .before .before .before .args .bits .now) (c .before .before .before .before .before .before .before .pre) is)
 
--- src/lib.rt:114:9
+array-share-prefix-stands-2 : tie.Need-array-share-prefix-stands-2
+array-share-prefix-stands-2 c = omega (arith, c .before .before .before .before .before .before .before .before .before .before .pre .few, records-long (c .before .before .before .before .before .before .before .before .before .before .args .records .now), c .before .before .before .before .before .before .fill-stands .kept .1 .0)
+
+slice-aggregate-take-all : tie.Need-slice-aggregate-take-all
+slice-aggregate-take-all c = sym (length-take-le _ _ (omega (arith, c .before .before .before .before .before .before .before .before .before .before .before .pre .few, records-long (c .before .before .before .before .before .before .before .before .before .before .before .args .records .now), c .before .before .before .before .before .before .before .fill-stands .kept .1 .0)))
+
+take-all-requires : tie.Need-take-all-requires
+take-all-requires c κs = room-then (c .before .before .before .before .before .before .before .before .before .before .before .before .args .records .now) (c .before .before .before .before .before .before .before .before .before .before .before .before .args .alive .now) (c .before .before .before .before .before .before .before .before .before .before .before .before .args .bits .now) (c .before .before .before .before .before .before .before .before .before .before .before .before .pre) (lent-stands (c .before .before .before .before .before .before .before .before .before .before .before .before .args .records .now) _ (c .before .before .before .before .before .before .before .before .fill-stands .ensures)) (c .before .before .before .before .fill-all .ensures)
+
 same-length : tie.Need-same-length
 same-length c = search needs
 
--- src/lib.rt:114:9
 returns : tie.Need-returns
 returns c =
-    let a = c .before .before .before .before .before .before .before .before .before .before .before .args in
-    let is = lent-stands (a .records .now) _ (c .before .before .before .before .before .before .before .fill-stands .ensures) in
-    let bs = addressesOf (a .addresses .now) in
-    (once-bad (a .records .now) (a .alive .now) (a .marks .now) (c .before .before .before .before .before .before .before .before .before .before .before .pre) bs (c .before .before .before .mark-all .ensures .0 ∙ ap (λ (t : List (List ℕ)). allNew t (a .alive .now) (a .marks .now) bs) is) (not-true _ (c .if1 .taken)), c .before .before .before .mark-all .ensures .1 ∙ ap (λ (t : List (List ℕ)). marked t (a .alive .now) (a .marks .now) bs) is)
+    let is = lent-stands (c .before .before .before .before .before .before .before .before .before .before .before .before .before .before .before .before .args .records .now) _ (c .before .before .before .before .before .before .before .before .before .before .before .before .fill-stands .ensures) in
+    let bad = not-true _ (c .if1 .taken) in
+    (once-bad (c .before .before .before .before .before .before .before .before .before .before .before .before .before .before .before .before .args .records .now) (c .before .before .before .before .before .before .before .before .before .before .before .before .before .before .before .before .args .alive .now) (c .before .before .before .before .before .before .before .before .before .before .before .before .before .before .before .before .args .bits .now) (c .before .before .before .before .before .before .before .before .before .before .before .before .before .before .before .before .pre) is (c .before .before .before .before .before .before .before .before .fill-all .ensures) (addressesOf (c .before .before .before .before .before .before .before .before .before .before .before .before .before .before .before .before .args .addresses .now)) (c .before .before .before .take-all .ensures .0) bad, λ e. absurd (false≢true e))
 
--- src/lib.rt:116:15
-array-share-prefix-stands-2 : tie.Need-array-share-prefix-stands-2
-array-share-prefix-stands-2 c = omega (arith, c .before .before .before .before .before .before .before .before .before .before .before .pre .few, records-long (c .before .before .before .before .before .before .before .before .before .before .before .args .records .now), c .before .before .before .before .before .before .before .fill-stands .kept .1 .0)
+none-left-requires : tie.Need-none-left-requires
+none-left-requires c κs = search needs
 
--- src/lib.rt:116:15
-slice-aggregate-all-alive : tie.Need-slice-aggregate-all-alive
-slice-aggregate-all-alive c = sym (length-take-le _ _ (omega (arith, c .before .before .before .before .before .before .before .before .before .before .before .before .pre .few, records-long (c .before .before .before .before .before .before .before .before .before .before .before .before .args .records .now), c .before .before .before .before .before .before .before .before .fill-stands .kept .1 .0)))
-
--- src/lib.rt:116:5
-all-alive-requires : tie.Need-all-alive-requires
-all-alive-requires c κs = countable (c .before .before .before .before .before .before .before .before .before .before .before .before .args .records .now) (c .before .before .before .before .before .before .before .before .before .before .before .before .args .alive .now) (c .before .before .before .before .before .before .before .before .before .before .before .before .args .marks .now) (c .before .before .before .before .before .before .before .before .before .before .before .before .pre) (lent-stands (c .before .before .before .before .before .before .before .before .before .before .before .before .args .records .now) _ (c .before .before .before .before .before .before .before .before .fill-stands .ensures))
-
--- src/lib.rt:100:1
 same-length-2 : tie.Need-same-length-2
 same-length-2 c = search needs
 
--- src/lib.rt:100:1
 returns-2 : tie.Need-returns-2
 returns-2 c =
-    let a = c .before .before .before .before .before .before .before .before .before .before .before .before .before .args in
-    let is = lent-stands (a .records .now) _ (c .before .before .before .before .before .before .before .before .before .fill-stands .ensures) in
-    let bs = addressesOf (a .addresses .now) in
-    (once-good (a .records .now) (a .alive .now) (a .marks .now) (c .before .before .before .before .before .before .before .before .before .before .before .before .before .pre) bs (c .before .before .before .before .before .mark-all .ensures .0 ∙ ap (λ (t : List (List ℕ)). allNew t (a .alive .now) (a .marks .now) bs) is) (not-false _ (c .before .before .if1 .left)) (c .all-alive .ensures ∙ ap (λ (t : List (List ℕ)). allAlive t (a .alive .now)) is) (sym (length-map (a .addresses .now) addressFrom)), c .before .before .before .before .before .mark-all .ensures .1 ∙ ap (λ (t : List (List ℕ)). marked t (a .alive .now) (a .marks .now) bs) is)
+    let is = lent-stands (c .before .before .before .before .before .before .before .before .before .before .before .before .before .before .before .before .before .before .args .records .now) _ (c .before .before .before .before .before .before .before .before .before .before .before .before .before .before .fill-stands .ensures) in
+    let good = not-false _ (c .before .before .if1 .left) in
+    (once-good (c .before .before .before .before .before .before .before .before .before .before .before .before .before .before .before .before .before .before .args .records .now) (c .before .before .before .before .before .before .before .before .before .before .before .before .before .before .before .before .before .before .args .alive .now) (c .before .before .before .before .before .before .before .before .before .before .before .before .before .before .before .before .before .before .args .bits .now) (c .before .before .before .before .before .before .before .before .before .before .before .before .before .before .before .before .before .before .pre) is (c .before .before .before .before .before .before .before .before .before .before .fill-all .ensures) (addressesOf (c .before .before .before .before .before .before .before .before .before .before .before .before .before .before .before .before .before .before .args .addresses .now)) (c .before .before .before .before .before .take-all .ensures .0) good (c .before .before .before .before .before .take-all .ensures .1) (c .none-left .ensures), once-clean (c .before .before .before .before .before .before .before .before .before .before .before .before .before .before .before .before .before .before .args .records .now) (c .before .before .before .before .before .before .before .before .before .before .before .before .before .before .before .before .before .before .args .alive .now) (c .before .before .before .before .before .before .before .before .before .before .before .before .before .before .before .before .before .before .args .bits .now) (c .before .before .before .before .before .before .before .before .before .before .before .before .before .before .before .before .before .before .pre) is (c .before .before .before .before .before .before .before .before .before .before .fill-all .ensures) (addressesOf (c .before .before .before .before .before .before .before .before .before .before .before .before .before .before .before .before .before .before .args .addresses .now)) (c .before .before .before .before .before .take-all .ensures .0) good (c .before .before .before .before .before .take-all .ensures .1) (c .none-left .ensures))
 
 pub each-once-spec : {M : Type 1} → statement M
 each-once-spec =
@@ -78,12 +69,13 @@ each-once-spec =
     slice-aggregate-fill-stands
     fill-stands-requires
     array-share-prefix-stands
-    slice-aggregate-mark-all
-    mark-all-requires
+    slice-aggregate-fill-all
+    fill-all-requires
+    array-share-prefix-stands-2
+    slice-aggregate-take-all
+    take-all-requires
     same-length
     returns
-    array-share-prefix-stands-2
-    slice-aggregate-all-alive
-    all-alive-requires
+    none-left-requires
     same-length-2
     returns-2)

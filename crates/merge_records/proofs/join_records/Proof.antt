@@ -37,6 +37,7 @@ use denote.Triple.Entry.{Args, Vals, alive, onEntry}
 use denote.Triple.Spec.{Meets, tripleOf}
 use denote.Triple.Table.{entered, cited}
 use denote.Triple.Walked.{says, Stays, walkOf, Walks, ends-at, walked, walk-meets}
+use Rattle.definitions.specs.Segment.{recordWidth}
 use Rattle.definitions.specs.Outcome.{Outcome, joinOutcome, lentOf}
 use Rattle.segment.specs.declared.Record.{Record}
 use Rattle.segment.proofs.Record as T
@@ -67,7 +68,7 @@ abbrev Pair : RattleType
 Pair = Array u32 2
 
 abbrev Table : RattleType
-Table = Array (Array u32 8) 257
+Table = Array (Array u32 recordWidth) 257
 
 -- a slice's machine value
 abbrev sl : {X : Type 0} → RefT (List X) → Val
@@ -248,7 +249,7 @@ module _ {M : Type 1} (𝓤 : URA M) (H : Heap 𝓤) (A : Atoms 𝓤) (W : Given
         split ! $ move ! (1 ∷ []) $ use1 W (raw (fact 𝓤 (t ≡ laidTo ys (countOf n)))) (rows-said t) $ heard ! (t ≡ laidTo ys (countOf n)) (λ e. split ! $ move ! (1 ∷ []) $
         -- [the table; the records' token; the other tokens; the other slices; required; mode; _33; …; _0; …]
         peeks ! Table (Is Table) (shows 𝓤 H A Table) t (u ∷ []) (λ is.
-        land ! (from ! (stop !)) (init ! 36 refl (array-lawful 𝓤 H A W (Array u32 8) (array-lawful 𝓤 H A W u32 (uint-lawful 𝓤 H A W w32) 8) 257 .typed t _ is .0)) $
+        land ! (from ! (stop !)) (init ! 36 refl (array-lawful 𝓤 H A W (Array u32 recordWidth) (array-lawful 𝓤 H A W u32 (uint-lawful 𝓤 H A W w32) recordWidth) 257 .typed t _ is .0)) $
         assigns ! (of-opd ! (load ! (from ! (fld ! refl (stop !))) (look-in ! 66 (sub ! 1 refl (whole !))))) (from ! (stop !)) (init ! 34 refl (tt, record { fits = are .1 .1 .0 .0 .1 .0 })) $
         assigns ! (addr ! (from ! (fld ! refl (hop ! (look-in ! 50 (sub ! 0 refl (whole !))) (stop !))))) (from ! (stop !)) (init ! 32 refl (tt, tt)) $
         assigns ! (agg ! (and-then ! (load ! (from ! (stop !)) (look ! 32 refl)) (and-then ! (load ! (from ! (fld ! refl (stop !))) (look-in ! 50 (sub ! 1 refl (whole !)))) (no-more !)))) (from ! (stop !))

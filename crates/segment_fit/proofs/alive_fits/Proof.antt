@@ -13,13 +13,13 @@ returns : tie.Need-returns
 unfolding fitsAlive
 returns c = stop _ (ap not (sym (c .before .has-stacked-set .ensures) ∙ c .if1 .taken))
 
-past-rows-requires : tie.Need-past-rows-requires
-past-rows-requires c κs = search needs
+set-fits-requires : tie.Need-set-fits-requires
+set-fits-requires c κs = search needs
 
 returns-2 : tie.Need-returns-2
 unfolding fitsAlive
-returns-2 c = past (ap not (sym (c .before .before .has-stacked-set .ensures) ∙ c .before .if1 .left)) (ap not (c .past-rows .ensures))
+returns-2 c = past (ap not (sym (c .before .before .has-stacked-set .ensures) ∙ c .before .if1 .left)) (c .set-fits .ensures)
 
 pub alive-fits-spec : {M : Type 1} → statement M
 alive-fits-spec =
-    tie.close (tie.spec has-stacked-set-requires returns past-rows-requires returns-2)
+    tie.close (tie.spec has-stacked-set-requires returns set-fits-requires returns-2)

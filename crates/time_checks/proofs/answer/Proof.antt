@@ -20,7 +20,7 @@ all-alive-requires : tie.Need-all-alive-requires
 all-alive-requires c κs =
     let i = lentTimes (c .before .before .before .before .before .before .before .before .args .records .now) (c .before .before .before .before .before .before .before .before .args .ids .now) (c .before .before .before .before .before .before .before .before .args .offsets .now) (c .before .before .before .before .before .before .before .before .args .values .now) (c .before .before .before .before .before .before .before .before .args .lengths .now) (c .before .before .before .before .before .before .before .before .args .bytes .now) (c .before .before .before .before .before .before .before .before .args .alive .now) (c .before .before .before .before .before .before .before .before .args .space) in
     let y = first-ready i (sym (c .before .first-to-seven .ensures) ∙ c .if1 .left) in
-    (omega (arith, y .few, records-long (c .before .before .before .before .before .before .before .before .args .records .now)), omega (arith, y .exact .alive))
+    omega (arith, y .few, records-long (c .before .before .before .before .before .before .before .before .args .records .now))
 
 returns-2 : tie.Need-returns-2
 returns-2 c =

@@ -9,12 +9,13 @@ use Rattle.verdict.proofs.Answer.{nine-first, nine-room, nine-eight, ni
 use Rattle.runs.proofs.Zeros.{zero-again}
 use Rattle.definitions.specs.Checks.{firstOf}
 use Rattle.definitions.proofs.Accept.{plain-passed}
-use Rattle.definitions.proofs.Checks.{all-passed}
+use Rattle.definitions.proofs.Checks.{all-passed, passes}
 use Rattle.sections_fit.proofs.Seven.{seven-same, known, ready}
 use Rattle.sections_fit.specs.declared.Totals.{Totals}
 use Rattle.segment.specs.Records.{recordsOf, sectionsIn}
 use Rattle.segment.specs.Lent.{addressesOf, workingOnly, lentInput}
 use Rattle.merge_mapping.specs.Mapping.{rowsIn}
+use Rattle.merge_mapping.proofs.Own.{input-within}
 use Rattle.segment.proofs.Walk.{records-long}
 use Rattle.definitions.specs.Answer.{total, checksToSeven}
 use Rattle.verdict.proofs.verdict.Statement.{statement}
@@ -85,8 +86,8 @@ addresses-fit-requires c κs =
     record {
       few = r .few;
       held = omega (arith, r .exact .alive);
+      within = input-within i (passes p 6);
       counted = t;
-      most = omega (arith, r .rows);
       room = λ n. room-rows (a .mode) (totals-of .result .rows) _ _ (c .before .before .room-enough .ensures) (not-false _ (c .before .if2 .left)) (known i p) n;
       clean = zero-again _ (length (a .work .now)) (c .before .before .before .before .before .before .before .before .zero .ensures);
     }

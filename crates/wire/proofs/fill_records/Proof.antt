@@ -4,6 +4,7 @@ use mathlib.Core.List.{List, []}
 use Prim.Native.Nat.{ℕ, _-_, _/_, _≤_}
 use native.Mathlib.Omega.{arith}
 use lib.ListN.{length, length-set}
+use Rattle.definitions.specs.Segment.{recordWidth}
 use Rattle.definitions.specs.Wire.{grouped}
 use Rattle.runs.proofs.Laws.{putting, putting-none, putting-first, putting-all}
 use Rattle.wire.proofs.Sections as laws
@@ -11,7 +12,7 @@ use Rattle.wire.proofs.fill_records.Statement.{statement}
 use Rattle.wire.proofs.fill_records.Tie as tie
 
 abbrev Inv-loop : tie.InvT-loop
-Inv-loop words out₀ n i₀ out i = (i ≤ n) × (out ≡ putting 0 (grouped 8 (length words / 8) words) out₀ i) × (length out ≡ length out₀)
+Inv-loop words out₀ n i₀ out i = (i ≤ n) × (out ≡ putting 0 (grouped recordWidth (length words / recordWidth) words) out₀ i) × (length out ≡ length out₀)
 
 abbrev μ-loop : tie.MeasureT-loop
 μ-loop words out₀ n i₀ out i = n - i
@@ -41,8 +42,8 @@ loop-again : tie.Need-loop-again Inv-loop μ-loop
 loop-again c =
     let l = c .before .before .loop in
     let w : List ℕ = c .before .before .before .before .args .words .now in
-    let e = laws.grouped-length 8 (length w / 8) w in
-    (omega (arith, c .before .loop-test .taken), rw (l .inv .1, c .record-at .ensures, ← laws.grouped-at 8 (length w / 8) w (l .i) (c .before .loop-test .taken)) (putting-first {A = List ℕ} (grouped 8 (length w / 8) w) _ (l .i) [] (omega (arith, c .before .before .before .before .pre .1)) (omega (arith, c .before .loop-test .taken))), simp length-set (l .inv .2))
+    let e = laws.grouped-length recordWidth (length w / recordWidth) w in
+    (omega (arith, c .before .loop-test .taken), rw (l .inv .1, c .record-at .ensures, ← laws.grouped-at recordWidth (length w / recordWidth) w (l .i) (c .before .loop-test .taken)) (putting-first {A = List ℕ} (grouped recordWidth (length w / recordWidth) w) _ (l .i) [] (omega (arith, c .before .before .before .before .pre .1)) (omega (arith, c .before .loop-test .taken))), simp length-set (l .inv .2))
 
 same-length : tie.Need-same-length Inv-loop μ-loop
 same-length c = search needs
@@ -51,7 +52,7 @@ returns : tie.Need-returns Inv-loop μ-loop
 returns c =
     let l = c .before .loop in
     let w : List ℕ = c .before .before .before .args .words .now in
-    let e = laws.grouped-length 8 (length w / 8) w in
+    let e = laws.grouped-length recordWidth (length w / recordWidth) w in
     l .inv .1 ∙ putting-all _ _ _ _ _ refl (omega (arith, l .inv .0)) (omega (arith, c .loop-test .left))
 
 pub fill-records-spec : {M : Type 1} → statement M

@@ -3,6 +3,7 @@ use Prim.Native.Nat.{_+_, _-_}
 use native.Mathlib.Omega.{arith}
 use lib.ListN.{length}
 use borrow.Author.Needs.{needs}
+use Rattle.definitions.specs.Segment.{recordWidth}
 use Rattle.lists.proofs.Parts.{part-lent, part-length}
 use Rattle.runs.proofs.Laws.{put-whole, below-part}
 use Rattle.wire.proofs.record_at.Statement.{statement}
@@ -29,14 +30,14 @@ slice-aggregate-fill-numbers c = search needs
 fill-numbers-requires : tie.Need-fill-numbers-requires
 fill-numbers-requires c κs =
     let s = c .before .before .before in
-    let m = part-length 8 (s .args .at) (s .args .words .now) (s .pre .1) in
-    (below-part 4294967296 (s .args .at) (s .args .at + 8 - s .args .at) (s .args .words .now) (s .pre .0), omega arith)
+    let m = part-length recordWidth (s .args .at) (s .args .words .now) (s .pre .1) in
+    (below-part 4294967296 (s .args .at) (s .args .at + recordWidth - s .args .at) (s .args .words .now) (s .pre .0), omega arith)
 
 returns : tie.Need-returns
 returns c =
     let s = c .before .before .before .before .before in
-    let p = part-lent (s .args .at) 8 8 (s .args .words .now) refl in
-    c .before .fill-numbers .ensures ∙ put-whole _ _ (ap length p ∙ part-length 8 (s .args .at) (s .args .words .now) (s .pre .1)) ∙ p
+    let p = part-lent (s .args .at) recordWidth recordWidth (s .args .words .now) refl in
+    c .before .fill-numbers .ensures ∙ put-whole _ _ (ap length p ∙ part-length recordWidth (s .args .at) (s .args .words .now) (s .pre .1)) ∙ p
 
 pub record-at-spec : {M : Type 1} → statement M
 record-at-spec =

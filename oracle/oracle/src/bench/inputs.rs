@@ -26,11 +26,13 @@
 //! half untimed     kind 2, a row keeps its time if next() is even
 //! tenth withdrawn  kind 1, one row in ten withdrawn
 //!
-//! The converter's segment is that of multi as kind 3, from seed 1.
+//! The converter's segment is that of multi as kind 3, from seed 1. The alive set that withdraw and reinstate
+//! change has one row in ten withdrawn, from seed 1.
 use tantivy_columnar::ColumnType;
 
 use crate::rng::Rng;
 use crate::wire::{IP, Input, Seg};
+use crate::withdraw::AliveSet;
 
 pub const COLUMNS: &[&str] =
     &["full", "opt", "optsparse", "multi", "mixed", "mixed-f64", "str", LISTENERS, TERMS];
@@ -180,6 +182,22 @@ pub fn stored(rows: u32) -> Seg {
     let mut s = Seg { ty: 1, rows, ..Seg::default() };
     multivalued(&mut s, &mut Rng::new(1), 3);
     s
+}
+
+/// The alive set that is changed, and its record.
+pub fn withdrawing(rows: u32) -> AliveSet {
+    let alive = Some(alive(&mut Rng::new(1), rows));
+    AliveSet::of(&Seg { ty: 1, rows, alive, ..Seg::default() })
+}
+
+/// One of its alive rows.
+pub fn alive_row(rng: &mut Rng, set: &AliveSet) -> u32 {
+    loop {
+        let row = rng.below(set.rows() as u64) as u32;
+        if set.words[row as usize / 64] >> (row % 64) & 1 == 1 {
+            return row;
+        }
+    }
 }
 
 fn words(rng: &mut Rng, n: u32) -> Vec<u128> {

@@ -1,5 +1,6 @@
 //! The table and the growth series as text, and the machine that they were made on.
 use super::inputs::{IN_TURN, LISTENERS, Line, OrderLine, TERMS, lines, order_lines};
+use super::withdraw::{MeasuredRun, MeasuredSet, RUN, measure_run, measure_set};
 use super::{Measured, MeasuredConversion, MeasuredOrder, ROUNDS};
 use super::{keep_memory, measure, measure_conversion, measure_order};
 use crate::compare::has_library;
@@ -24,8 +25,8 @@ const MOST_SEGMENTS: usize = 256;
 /// Prints the tables of the lines that have `word` in their name. False if checksums differ.
 pub fn table(segs: usize, rows: u32, word: &str) -> Result<bool, String> {
     let (lines, orders) = (lines(word), order_lines(word));
-    let converter = CONVERTER.contains(word);
-    if lines.is_empty() && orders.is_empty() && !converter {
+    let (converter, withdraw) = (CONVERTER.contains(word), WITHDRAW.contains(word));
+    if lines.is_empty() && orders.is_empty() && !converter && !withdraw {
         return Err("no line has that word in its name".into());
     }
     begin()?;
@@ -43,6 +44,9 @@ pub fn table(segs: usize, rows: u32, word: &str) -> Result<bool, String> {
     }
     if converter {
         all_equal &= conversion((segs as u32).saturating_mul(rows));
+    }
+    if withdraw {
+        all_equal &= sets((segs as u32).saturating_mul(rows)) & runs(rows);
     }
     Ok(all_equal)
 }
@@ -145,6 +149,83 @@ fn conversion(rows: u32) -> bool {
     let (ours, copy) = (digits(ours), digits(copy));
     eprintln!("{CONVERTER:<28} {rows:>10} rows: ours {ours:>8}, copy {copy:>8} ns per row{equal}");
     sums[0] == sums[1]
+}
+
+/// The name of withdraw and reinstate where lines are named.
+const WITHDRAW: &str = "withdraw and reinstate";
+
+/// Sets of up to so many rows.
+fn sets(most: u32) -> bool {
+    println!(
+        "\nWithdraw and reinstate: alive sets with a tenth of the rows withdrawn. One row: a call that changes \
+         it, and one that is refused with 15, which has every test before that; beside them a plain count of the \
+         set bits. A run: {} random rows in one call; that without what a run of no rows takes; the same change \
+         in plain Rust, without a test. Processor time, least of {ROUNDS} rounds.\n",
+        grouped(RUN)
+    );
+    println!(
+        "| Rows | Alive words | One row, ns | Refused, ns | Plain count, ns | One row / count | Run of no rows, ns | Run, ns a row | Less a run of no rows, ns a row | Plain, ns a row | Checksum of both |"
+    );
+    println!("|--:|--:|--:|--:|--:|--:|--:|--:|--:|--:|---|");
+    let sizes = [1_000, 100_000, 1_000_000, 10_000_000];
+    // All of them are run.
+    sizes
+        .into_iter()
+        .filter(|&rows| rows <= most)
+        .map(measure_set)
+        .fold(true, |equal, m| print_set(&m) & equal)
+}
+
+fn print_set(m: &MeasuredSet) -> bool {
+    println!(
+        "| {} | {} | {} | {} | {} | {} | {} | {} | {} | {} | {} |",
+        grouped(m.rows as usize),
+        grouped(m.words),
+        digits(m.one),
+        digits(m.refused),
+        digits(m.count),
+        digits(m.one / m.count),
+        digits(m.none),
+        digits(m.run.per_row(m.run.ours)),
+        digits(m.run.per_row(m.run.ours - m.none)),
+        digits(m.run.per_row(m.run.plain)),
+        sum(m.run.sums)
+    );
+    let (one, count) = (digits(m.one), digits(m.count));
+    eprintln!("{WITHDRAW:<28} {:>10} rows: one row {one:>8}, count {count:>8} ns", m.rows);
+    print_progress(&m.run)
+}
+
+/// Runs of more and more rows in one set.
+fn runs(rows: u32) -> bool {
+    println!(
+        "\nRuns of random rows in an alive set of {} rows, one call each. Times in ns a row.\n",
+        grouped(rows as usize)
+    );
+    println!("| Rows named | Ours | Plain | Ours / plain | Checksum of both |");
+    println!("|--:|--:|--:|--:|---|");
+    let sizes = (0..).map(|i| 10usize.pow(i)).take_while(|&named| named <= rows as usize);
+    sizes.map(|named| measure_run(rows, named)).fold(true, |equal, m| print_run(&m) & equal)
+}
+
+fn print_run(m: &MeasuredRun) -> bool {
+    println!(
+        "| {} | {} | {} | {} | {} |",
+        grouped(m.named),
+        digits(m.per_row(m.ours)),
+        digits(m.per_row(m.plain)),
+        digits(m.ours / m.plain),
+        sum(m.sums)
+    );
+    print_progress(m)
+}
+
+fn print_progress(m: &MeasuredRun) -> bool {
+    let equal = if m.sums[0] == m.sums[1] { "" } else { ", CHECKSUMS DIFFER" };
+    let (ours, plain) = (digits(m.per_row(m.ours)), digits(m.per_row(m.plain)));
+    let name = format!("run of {}", m.named);
+    eprintln!("{name:<28} {:>10} rows: ours {ours:>8}, plain {plain:>8} ns per row{equal}", m.rows);
+    m.sums[0] == m.sums[1]
 }
 
 fn print_head(segs: usize, rows: u32) {

@@ -1,10 +1,11 @@
 //! Converters that are wrong on purpose.
+use super::counts::split;
 use super::listeners::{in_words, lengths_by, termless, two_if_unknown};
 use super::{Slip, put_before, put_in_place, slip};
 use crate::convert::{self, CHECKS, Call, Check, Converted, Outcome};
 use crate::ours::NewLists;
 use crate::table;
-use crate::wire::{IP, Sections, Seg, width};
+use crate::wire::{IP, Record, Sections, Seg, width};
 
 #[derive(Clone, Copy)]
 pub enum How {
@@ -14,6 +15,8 @@ pub enum How {
     Skip(u32),
     /// Another check k.
     Check(u32, Check),
+    /// The number of alive rows tested right after check k.
+    CountAfter(u32),
     /// Something else is written.
     Write(fn(&Seg, &mut Converted)),
     /// Something else is left in memory.
@@ -114,7 +117,7 @@ pub const SLIPS: &[Slip] = &[
             table::contents_of(&Seg { values, ..s.clone() })
         }),
     ),
-    wrong("converter: 6 for an alive set", How::Check(6, |c| record(c)[7] == 1)),
+    wrong("converter: 6 for an alive set", How::Check(6, |c| record(c)[7] == 1 || convert::count(c))),
     wrong(
         "converter: 6 for the row after the last alone",
         How::Check(6, |c| {
@@ -122,9 +125,30 @@ pub const SLIPS: &[Slip] = &[
             let next = |words: &Vec<u64>| {
                 words.get(s.rows as usize / 64).is_some_and(|w| w >> (s.rows % 64) & 1 == 1)
             };
-            s.alive.as_ref().is_some_and(next)
+            s.alive.as_ref().is_some_and(next) || record(c)[8] != s.right_count()
         }),
     ),
+    wrong("converter: 6 without the number of alive rows", How::Check(6, convert::alive_bits)),
+    wrong(
+        "converter: 6 by the number not without an alive set",
+        How::Check(6, |c| convert::alive_bits(c) || record(c)[7] == 1 && convert::count(c)),
+    ),
+    wrong(
+        "converter: 6 by the number not with an alive set",
+        How::Check(6, |c| convert::alive_bits(c) || record(c)[7] == 0 && convert::count(c)),
+    ),
+    wrong(
+        "converter: 6 for a number above the rows alone",
+        How::Check(6, |c| convert::alive_bits(c) || record(c)[8] > record(c)[2]),
+    ),
+    wrong(
+        "converter: 6 not for a bit past the rows that is counted",
+        How::Check(6, |c| record(c)[8] != c.segment().right_count()),
+    ),
+    wrong("converter: 6 not for a bit past the rows that is not counted", How::Check(6, convert::count)),
+    wrong("converter: the number tested before 4", How::CountAfter(3)),
+    wrong("converter: the number tested before 5", How::CountAfter(4)),
+    wrong("converter: the number tested after 11", How::CountAfter(11)),
     wrong(
         "converter: 11 for the ids alone",
         How::Check(11, |c| c.space.ids < convert::needed(&c.segment()).ids),
@@ -191,6 +215,21 @@ pub const SLIPS: &[Slip] = &[
     wrong("converter: another number of values", How::Write(|_, new| new.record[5] = new.record[3])),
     wrong("converter: no terms", How::Write(|_, new| new.record[6] = 0)),
     wrong("converter: the flag dropped", How::Write(|_, new| new.record[7] = 0)),
+    wrong("converter: the number of alive rows dropped", How::Write(|_, new| new.record[8] = 0)),
+    wrong(
+        "converter: the rows for the number of alive rows",
+        How::Write(|_, new| new.record[8] = new.record[2]),
+    ),
+    wrong(
+        "converter: the rows with a value for the number of alive rows",
+        How::Write(|_, new| new.record[8] = new.record[3]),
+    ),
+    wrong(
+        "converter: the alive rows with a value for the number of alive rows",
+        How::Write(|old, new| {
+            new.record[8] = new.ids.iter().filter(|&&row| old.is_alive(row)).count() as u32
+        }),
+    ),
     wrong(
         "converter: an id beyond the new ids",
         How::Leave(|outcome, lists| {
@@ -246,7 +285,7 @@ fn table_call<'a>(call: &Call<'a>) -> table::Call<'a> {
     table::Call::new(call.sections, table::Lent::default())
 }
 
-fn record(call: &Call) -> [u32; 8] {
+fn record(call: &Call) -> Record {
     call.sections.records[0]
 }
 
@@ -258,6 +297,7 @@ pub fn convert(how: Option<How>, sections: &Sections, lists: &mut NewLists) -> u
         Some(How::Before(k, other)) => put_before(&mut checks, k, other),
         Some(How::Skip(k)) => checks.retain(|&(number, _)| number != k),
         Some(How::Check(k, check)) => put_in_place(&mut checks, k, check),
+        Some(How::CountAfter(k)) => split(&mut checks, k, convert::alive_bits, convert::count),
         _ => {}
     }
     let mut outcome = convert::outcome_by(&checks, &call);

@@ -1,11 +1,13 @@
 //! Time orders that are wrong on purpose.
 use std::cmp::Reverse;
 
+use super::counts::{given, split, sums, wrong as wrong_count};
 use super::listeners::{lengths_by, two_if_unknown};
 use super::{Slip, put_before, put_in_place, slip};
 use crate::model;
 use crate::order::{self, CHECKS, Call, Check, Outcome};
 use crate::ours::Addresses;
+use crate::table;
 use crate::wire::{IP, Sections, Seg};
 
 #[derive(Clone, Copy)]
@@ -16,6 +18,8 @@ pub enum How {
     Skip(u32),
     /// Another check k.
     Check(u32, Check),
+    /// The records' numbers of alive rows tested right after check k.
+    CountsAfter(u32),
     /// Other addresses.
     Sort(fn(&[Seg]) -> Vec<[u32; 2]>),
     /// Something else is left in memory.
@@ -61,6 +65,45 @@ pub const SLIPS: &[Slip] = &[
         "time order: 6 for an alive set",
         How::Check(6, |c| order::alive_sets(c) || c.join.any_segment(|s| s.alive.is_some())),
     ),
+    wrong("time order: 6 without the numbers of alive rows", How::Check(6, order::alive_bits)),
+    wrong(
+        "time order: 6 by the numbers not without an alive set",
+        How::Check(6, |c| counts_by(c, |n, s| wrong_count(n, s) && given(s))),
+    ),
+    wrong(
+        "time order: 6 by the numbers not with an alive set",
+        How::Check(6, |c| counts_by(c, |n, s| wrong_count(n, s) && !given(s))),
+    ),
+    wrong(
+        "time order: 6 by the numbers not for no column",
+        How::Check(6, |c| counts_by(c, |n, s| wrong_count(n, s) && s.ty != 255)),
+    ),
+    wrong(
+        "time order: 6 for a number that is too large alone",
+        How::Check(6, |c| counts_by(c, |n, s| n as u64 > table::alive_rows(s))),
+    ),
+    wrong(
+        "time order: 6 by the sum of the numbers",
+        How::Check(6, |c| order::alive_bits(c) || sums(&c.join)),
+    ),
+    wrong(
+        "time order: 6 by the first segment's number alone",
+        How::Check(6, |c| {
+            order::alive_bits(c) || table::counted(&c.join).take(1).any(|(n, s)| wrong_count(n, s))
+        }),
+    ),
+    wrong(
+        "time order: 6 not for a bit past the rows that is counted",
+        How::Check(6, |c| table::counted(&c.join).any(|(n, s)| n != s.right_count())),
+    ),
+    wrong(
+        "time order: 6 not for a bit past the rows that is not counted",
+        How::Check(6, |c| table::counts(&c.join)),
+    ),
+    wrong("time order: the numbers tested before 5", How::CountsAfter(4)),
+    wrong("time order: the numbers tested after 7", How::CountsAfter(7)),
+    wrong("time order: the numbers tested after 11", How::CountsAfter(11)),
+    wrong("time order: the numbers tested after 12", How::CountsAfter(12)),
     wrong("time order: 7 from 4294967294 rows on", How::Check(7, |c| rows(c) >= 4294967294)),
     wrong("time order: 7 from 4294967296 rows on", How::Check(7, |c| rows(c) > 4294967295)),
     wrong("time order: 11 by all rows", How::Check(11, |c| (c.space as u64) < rows(c))),
@@ -320,6 +363,11 @@ pub const SLIPS: &[Slip] = &[
     wrong("time order: 12 once rows are written", How::Leave(|outcome, lists| written(12, outcome, lists))),
 ];
 
+/// 6 by another test of the numbers of alive rows.
+fn counts_by(call: &Call, fails: fn(u32, &Seg) -> bool) -> bool {
+    order::alive_bits(call) || table::counted(&call.join).any(|(count, s)| fails(count, s))
+}
+
 fn rows(call: &Call) -> u64 {
     call.join.sections.records.iter().map(|r| r[2] as u64).sum()
 }
@@ -426,6 +474,9 @@ pub fn time_order(how: Option<How>, sections: &Sections, lists: &mut Addresses) 
         Some(How::Before(k, other)) => put_before(&mut checks, k, other),
         Some(How::Skip(k)) => checks.retain(|&(number, _)| number != k),
         Some(How::Check(k, check)) => put_in_place(&mut checks, k, check),
+        Some(How::CountsAfter(k)) => {
+            split(&mut checks, k, order::alive_bits, |c| table::counts(&c.join));
+        }
         _ => {}
     }
     let outcome = match order::answer_by(&checks, &call) {

@@ -10,6 +10,8 @@ pub enum Command {
     Order,
     Check,
     Convert,
+    Withdraw,
+    Reinstate,
     Encode,
     Show,
 }
@@ -44,6 +46,9 @@ pub struct Arguments {
     pub rows: bool,
     /// To print its numbers, not its listing.
     pub numbers: bool,
+    /// The segment whose rows are to be withdrawn or reinstated, and these rows.
+    pub segment: u32,
+    pub marked: Vec<u32>,
 }
 
 pub enum Request {
@@ -58,6 +63,8 @@ impl Command {
             "order" => Some(Command::Order),
             "check" => Some(Command::Check),
             "convert" => Some(Command::Convert),
+            "withdraw" => Some(Command::Withdraw),
+            "reinstate" => Some(Command::Reinstate),
             "encode" => Some(Command::Encode),
             "show" => Some(Command::Show),
             _ => None,
@@ -70,9 +77,16 @@ impl Command {
             Command::Order => "order",
             Command::Check => "check",
             Command::Convert => "convert",
+            Command::Withdraw => "withdraw",
+            Command::Reinstate => "reinstate",
             Command::Encode => "encode",
             Command::Show => "show",
         }
+    }
+
+    /// Whether it withdraws or reinstates rows.
+    pub fn marks(self) -> bool {
+        matches!(self, Command::Withdraw | Command::Reinstate)
     }
 
     fn takes(self, option: &str) -> bool {
@@ -110,7 +124,7 @@ fn of_command(
     command: Command,
     mut words: impl Iterator<Item = OsString>,
 ) -> Result<Request, Failure> {
-    let mut inputs = Vec::new();
+    let mut plain = Vec::new();
     let mut arguments = Arguments {
         command,
         input: Place::Standard,
@@ -120,15 +134,15 @@ fn of_command(
         times: false,
         rows: false,
         numbers: false,
+        segment: 0,
+        marked: Vec::new(),
     };
     while let Some(word) = words.next() {
         match word.to_str() {
             Some("--help" | "-h") => return Ok(Request::Print(help::of(command).to_string())),
             // What stands behind it is no option, whatever it begins with.
-            Some("--") => inputs.extend(words.by_ref().map(place)),
-            _ if word == "-" || !word.as_encoded_bytes().starts_with(b"-") => {
-                inputs.push(place(word));
-            }
+            Some("--") => plain.extend(words.by_ref()),
+            _ if word == "-" || !word.as_encoded_bytes().starts_with(b"-") => plain.push(word),
             _ => take_option(&mut arguments, &word, &mut words)
                 .map_err(|text| usage(command, &text))?,
         }
@@ -136,12 +150,28 @@ fn of_command(
     if let Some(text) = contradiction(&arguments) {
         return Err(usage(command, text));
     }
-    arguments.input = match <[Place; 1]>::try_from(inputs) {
-        Ok([input]) => input,
-        Err(inputs) if inputs.is_empty() => return Err(usage(command, "it wants a file")),
-        Err(_) => return Err(usage(command, "it takes one file")),
-    };
+    take_words(&mut arguments, plain).map_err(|text| usage(command, &text))?;
     Ok(Request::Run(arguments))
+}
+
+/// Takes the words that are no options: a file and, if rows are marked, a segment and rows of it.
+fn take_words(arguments: &mut Arguments, words: Vec<OsString>) -> Result<(), String> {
+    let mut words = words.into_iter();
+    arguments.input = place(words.next().ok_or("it wants a file")?);
+    if arguments.command.marks() {
+        arguments.segment = number(&words.next().ok_or("it wants a segment's number")?)?;
+        arguments.marked = words
+            .by_ref()
+            .map(|word| number(&word))
+            .collect::<Result<_, _>>()?;
+        if arguments.marked.is_empty() {
+            return Err("it wants a row's number".to_string());
+        }
+    }
+    match words.next() {
+        None => Ok(()),
+        Some(_) => Err("it takes one file".to_string()),
+    }
 }
 
 /// Why options don't go together: none is passed over unsaid.
@@ -196,6 +226,15 @@ fn take_option(
         _ => arguments.output_form = Some(form_of(&value()?)?),
     }
     Ok(())
+}
+
+/// A segment's number, or a row's.
+fn number(word: &OsStr) -> Result<u32, String> {
+    let parsed = word.to_str().and_then(|word| word.parse().ok());
+    parsed.ok_or_else(|| {
+        let shown = word.display();
+        format!("'{shown}' is no number from 0 to {}", u32::MAX)
+    })
 }
 
 fn place(word: OsString) -> Place {

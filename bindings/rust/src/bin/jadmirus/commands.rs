@@ -5,7 +5,7 @@ use crate::input::{self, Input, Source};
 use crate::output::{to, to_stdout};
 use crate::progress::Progress;
 use jadmirus::explain::{self, Fault};
-use jadmirus::{Joined, Refusal, Sections, Segment, WireFault, sheet};
+use jadmirus::{Joined, Record, Refusal, Sections, Segment, WireFault, sheet};
 use std::fmt;
 use std::io::{self, IsTerminal, Write, stdout};
 
@@ -17,13 +17,15 @@ pub enum Status {
 
 pub fn run(arguments: &Arguments) -> Result<Status, Failure> {
     let mut progress = Progress::new();
-    let keep = arguments.command == Command::Convert;
+    let keep = arguments.command == Command::Convert || arguments.command.marks();
     let source = input::read(&arguments.input, arguments.from, keep, &mut progress)?;
     let what = match arguments.command {
         Command::Join => "joining",
         Command::Order => "ordering",
         Command::Check => "checking",
         Command::Convert => "converting",
+        Command::Withdraw => "withdrawing",
+        Command::Reinstate => "reinstating",
         Command::Encode | Command::Show => "writing",
     };
     progress.step(what);
@@ -32,6 +34,7 @@ pub fn run(arguments: &Arguments) -> Result<Status, Failure> {
         Command::Order => order(arguments, source.input),
         Command::Check => check(arguments, source.input),
         Command::Convert => convert(arguments, source),
+        Command::Withdraw | Command::Reinstate => mark(arguments, source),
         Command::Encode => encode(arguments, source.input),
         Command::Show => show(arguments, source.input),
     }
@@ -151,15 +154,77 @@ fn convert(arguments: &Arguments, source: Source) -> Result<Status, Failure> {
         let found = explain::convert(&sections).filter(|fault| fault.refusal == refusal);
         return refuse_at(arguments, refusal, found);
     }
-    let output = arguments.output.as_ref();
-    match source.form {
-        Form::Wire => write_wire(&sections, output)?,
-        Form::Sheet => to(output.unwrap_or(&Place::Standard), |out| match old {
-            true => sheet::write_converted(&source.text, &sections, out),
-            false => out.write_all(source.text.as_bytes()),
-        })?,
-    }
+    write_anew(arguments, source.form, &sections, |out| match old {
+        true => sheet::write_converted(&source.text, &sections, out),
+        false => out.write_all(source.text.as_bytes()),
+    })?;
     Ok(Status::Accepted)
+}
+
+/// Withdraws or reinstates rows of a segment.
+fn mark(arguments: &Arguments, source: Source) -> Result<Status, Failure> {
+    let mut sections = match source.input {
+        Ok(sections) => sections,
+        Err(fault) => return refuse_wire(arguments, &fault),
+    };
+    let (segment, rows) = (arguments.segment as usize, &arguments.marked[..]);
+    if segment >= sections.records.len() {
+        let text = match sections.records.len() {
+            0 => format!("there is no segment {segment}, nor any other"),
+            n => format!("there is no segment {segment}: the last one is {}", n - 1),
+        };
+        return Err(Failure::of(&input::name(&arguments.input), text));
+    }
+    let answered = match arguments.command {
+        Command::Withdraw => sections.withdraw_rows(segment, rows),
+        _ => sections.reinstate_rows(segment, rows),
+    };
+    let changed = match answered {
+        Ok(changed) => changed,
+        Err(refusal) => {
+            let found = explain::mark_rows(&sections, segment, rows);
+            let found = found.filter(|fault| fault.refusal == refusal);
+            return refuse_at(arguments, refusal, found);
+        }
+    };
+    write_anew(arguments, source.form, &sections, |out| match changed {
+        0 => out.write_all(source.text.as_bytes()),
+        _ => sheet::write_marked(&source.text, &sections, segment, out),
+    })?;
+    let name = input::name(&arguments.input);
+    let what = marked_text(arguments, changed, &sections.records[segment]);
+    eprintln!("jadmirus: {name}: segment {segment}: {what}");
+    Ok(Status::Accepted)
+}
+
+/// What was done, in words.
+fn marked_text(arguments: &Arguments, changed: u32, record: &Record) -> String {
+    let (done, so) = match arguments.command {
+        Command::Withdraw => ("withdrawn", "withdrawn"),
+        _ => ("reinstated", "alive"),
+    };
+    let alive = format!("{} of {} rows alive", record.alive_rows, record.rows);
+    match (&arguments.marked[..], changed) {
+        ([row], 0) => format!("row {row} was {so} already; nothing changed"),
+        ([row], _) => format!("row {row} {done}, {alive}"),
+        (_, 0) => format!("the rows were {so} already; nothing changed"),
+        (_, 1) => format!("1 row {done}, {alive}"),
+        (_, several) => format!("{several} rows {done}, {alive}"),
+    }
+}
+
+/// Writes what was read, changed: a wire form as a wire form, a sheet by its own text.
+fn write_anew(
+    arguments: &Arguments,
+    form: Form,
+    sections: &Sections,
+    write: impl FnOnce(&mut dyn Write) -> io::Result<()>,
+) -> Result<(), Failure> {
+    let output = arguments.output.as_ref();
+    match form {
+        Form::Wire => write_wire(sections, output),
+        Form::Sheet => to(output.unwrap_or(&Place::Standard), write),
+    }
 }
 
 fn encode(arguments: &Arguments, input: Input) -> Result<Status, Failure> {

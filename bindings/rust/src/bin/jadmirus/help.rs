@@ -8,6 +8,8 @@ Joins the segments of one play-log column, by the proved library of Jadmirus.
   jadmirus order FILE     put the rows of a column of times in time order
   jadmirus check FILE     say what would be refused, and where
   jadmirus convert FILE   make old multivalued segments new ones, which can be joined
+  jadmirus withdraw FILE SEGMENT ROW...    withdraw plays
+  jadmirus reinstate FILE SEGMENT ROW...   reinstate plays that were withdrawn
   jadmirus encode SHEET   write a sheet's wire form
   jadmirus show FILE      write a wire form as a sheet
 
@@ -107,6 +109,38 @@ printed instead, and which segment it is and why goes to standard error.
 Exit status: 0 converted; 1 refused; 2 failed (usage, files, memory).
 ";
 
+const WITHDRAW: &str = "\
+jadmirus withdraw FILE SEGMENT ROW... [--output FILE] [--from sheet|wire]
+
+Withdraws rows of a segment, all of them or none, and writes FILE with that: a sheet as a sheet,
+a wire form as a wire form. Ordered joins and time orders leave withdrawn rows out. SEGMENT and
+ROW are counted from 0. In a sheet, the segment's 'withdrawn' or 'alive' is changed, and
+'alive-rows' if it stands there; what else is in FILE stays as it is, comments too. Addresses
+stay as well: withdraw the row in the column of times, and order that anew. Whether anything
+changed goes to standard error; if all rows were withdrawn already, FILE comes out as it is.
+
+The segment must have an alive set: in a sheet, 'withdrawn' gives it one, even without a row. If
+a row can't be withdrawn, none is, and no FILE is written: 'answer' and its number are printed
+instead, and why goes to standard error.
+
+  --output FILE   write to that file instead of standard output; it may be FILE itself
+  --from FORM     the form of the input (sheet or wire), if it can't be told
+
+Exit status: 0 withdrawn; 1 refused; 2 failed (usage, files, memory).
+";
+
+const REINSTATE: &str = "\
+jadmirus reinstate FILE SEGMENT ROW... [--output FILE] [--from sheet|wire]
+
+Reinstates rows of a segment that were withdrawn, all of them or none, and writes FILE with that,
+just as 'jadmirus withdraw' does ('jadmirus withdraw --help').
+
+  --output FILE   write to that file instead of standard output; it may be FILE itself
+  --from FORM     the form of the input (sheet or wire), if it can't be told
+
+Exit status: 0 reinstated; 1 refused; 2 failed (usage, files, memory).
+";
+
 const ENCODE: &str = "\
 jadmirus encode SHEET [--output FILE] [--from sheet|wire]
 
@@ -138,6 +172,8 @@ pub fn of(command: Command) -> &'static str {
         Command::Order => ORDER,
         Command::Check => CHECK,
         Command::Convert => CONVERT,
+        Command::Withdraw => WITHDRAW,
+        Command::Reinstate => REINSTATE,
         Command::Encode => ENCODE,
         Command::Show => SHOW,
     }
