@@ -29,6 +29,46 @@ pub struct Record {
 }
 
 impl Record {
+    /// The record of its numbers in their order.
+    pub(crate) fn of_numbers(numbers: [u32; 9]) -> Self {
+        let [
+            typ,
+            kind,
+            rows,
+            ids,
+            offsets,
+            values,
+            terms,
+            flag,
+            alive_rows,
+        ] = numbers;
+        Record {
+            typ,
+            kind,
+            rows,
+            ids,
+            offsets,
+            values,
+            terms,
+            flag,
+            alive_rows,
+        }
+    }
+
+    pub(crate) fn numbers(&self) -> [u32; 9] {
+        [
+            self.typ,
+            self.kind,
+            self.rows,
+            self.ids,
+            self.offsets,
+            self.values,
+            self.terms,
+            self.flag,
+            self.alive_rows,
+        ]
+    }
+
     pub(crate) fn words_per_value(&self) -> usize {
         words_per_value(ColumnType::from_code(self.typ))
     }

@@ -76,18 +76,7 @@ impl Sections {
         write_word(out, self.required)?;
         write_word(out, self.records.len() as u64)?;
         for r in &self.records {
-            let numbers = [
-                r.typ,
-                r.kind,
-                r.rows,
-                r.ids,
-                r.offsets,
-                r.values,
-                r.terms,
-                r.flag,
-                r.alive_rows,
-            ];
-            numbers
+            r.numbers()
                 .iter()
                 .try_for_each(|&number| write_word(out, number))?;
         }

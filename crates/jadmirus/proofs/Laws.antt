@@ -20,6 +20,7 @@ use Rattle.records.specs.Rows.{numbersOf}
 use Rattle.convert.specs.declared.ConvertAnswer.{ConvertAnswer}
 use Rattle.convert.specs.declared.ConvertAnswer.the-variants as C
 use Rattle.convert.specs.Outcome as converted
+use Rattle.withdraw.specs.Lent.{recordLeft}
 use Rattle.time_order.specs.declared.TimeAnswer.{TimeAnswer}
 use Rattle.time_order.specs.declared.TimeAnswer.the-variants as T
 use Rattle.time_order.specs.Outcome as ordered
@@ -68,11 +69,13 @@ module _ {a : ConvertAnswer} {ids offsets : List ℕ} {o : Convert.ConvertOutcom
       (ap convertNumberOf r, (ap (λ (x : Convert.ConvertOutcome). x .ids) e, (ap (λ (x : Convert.ConvertOutcome). x .offsets) e, l ∙ ap (λ (x : Convert.ConvertAnswer). recordAfter x old) r)))
 
 -- number, record and words, and how many rows changed, of a call's outcome
-abbrev ToldMarked : Withdraw.MarkOutcome → Withdraw.AliveSet → List ℕ → ℕ → List ℕ → Type 0
-ToldMarked o left old k count = (k ≡ markNumberOf (o .answer)) × ((left ≡ o .left) × (count ≡ changesAfter (o .answer) old))
+abbrev ToldMarked : Withdraw.MarkOutcome → Withdraw.AliveSet → List ℕ → List ℕ → List ℕ → ℕ → List ℕ → Type 0
+ToldMarked o left after before old k count =
+    (k ≡ markNumberOf (o .answer)) × ((left ≡ o .left) × ((after ≡ recordLeft o before) × (count ≡ changesAfter (o .answer) old)))
 
-pub told-marked : {a : Withdraw.MarkAnswer} {left : Withdraw.AliveSet} {o : Withdraw.MarkOutcome} → record { answer = a; left = left } ≡ o → (old : List ℕ) {k : ℕ} {count : List ℕ}
-    → k ≡ markNumberOf a → count ≡ changesAfter a old → ToldMarked o left old k count
-told-marked e old p q =
+pub told-marked : {a : Withdraw.MarkAnswer} {left : Withdraw.AliveSet} {o : Withdraw.MarkOutcome} → record { answer = a; left = left } ≡ o → {after : List ℕ} (before : List ℕ) → after ≡ recordLeft o before
+    → (old : List ℕ) {k : ℕ} {count : List ℕ}
+    → k ≡ markNumberOf a → count ≡ changesAfter a old → ToldMarked o left after before old k count
+told-marked e before n old p q =
     let r = ap (λ (x : Withdraw.MarkOutcome). x .answer) e in
-    (p ∙ ap markNumberOf r, (ap (λ (x : Withdraw.MarkOutcome). x .left) e, q ∙ ap (λ (x : Withdraw.MarkAnswer). changesAfter x old) r))
+    (p ∙ ap markNumberOf r, (ap (λ (x : Withdraw.MarkOutcome). x .left) e, (n, q ∙ ap (λ (x : Withdraw.MarkAnswer). changesAfter x old) r)))

@@ -12,7 +12,7 @@ ghost use Rattle.segment.specs.Lent.{addressesOf};
 ghost use Rattle.time_checks.specs.Lent.{lentTimes};
 ghost use Rattle.time_order.specs.Outcome.{outputOf};
 ghost use Rattle.convert.specs.Outcome.{lentConvert};
-ghost use Rattle.withdraw.specs.Lent.{lentSet, answerOf};
+ghost use Rattle.withdraw.specs.Lent.{lentSet, answerOf, recordLeft};
 ghost use Rattle.jadmirus.specs.Told.{listOf, numbersAfter, countAfter, recordAfter, changesAfter};
 
 // The ten numbers of an acceptance in their order.
@@ -188,6 +188,7 @@ pub extern "C" fn jadmirus_withdraw(
 ) -> u32
     ensures { λ r. ⌜ r ≡ markNumberOf (markOutcome (withdrawing (row ∷ [])) (lentSet (now («record» .entry)) (now (alive .entry))) .answer) ⌝ }
     ensures { λ _. ⌜ lentSet (now («record» .exit)) (now (alive .exit)) ≡ markOutcome (withdrawing (row ∷ [])) (lentSet (now («record» .entry)) (now (alive .entry))) .left ⌝ }
+    ensures { λ _. ⌜ now («record» .exit) ≡ recordLeft (markOutcome (withdrawing (row ∷ [])) (lentSet (now («record» .entry)) (now (alive .entry)))) (now («record» .entry)) ⌝ }
     ensures { λ _. ⌜ now («out_changed» .exit) ≡ changesAfter (markOutcome (withdrawing (row ∷ [])) (lentSet (now («record» .entry)) (now (alive .entry))) .answer) (now («out_changed» .entry)) ⌝ }
 {
     let a = withdraw::withdraw(record, alive, row);
@@ -204,6 +205,7 @@ pub extern "C" fn jadmirus_reinstate(
 ) -> u32
     ensures { λ r. ⌜ r ≡ markNumberOf (markOutcome (reinstating (row ∷ [])) (lentSet (now («record» .entry)) (now (alive .entry))) .answer) ⌝ }
     ensures { λ _. ⌜ lentSet (now («record» .exit)) (now (alive .exit)) ≡ markOutcome (reinstating (row ∷ [])) (lentSet (now («record» .entry)) (now (alive .entry))) .left ⌝ }
+    ensures { λ _. ⌜ now («record» .exit) ≡ recordLeft (markOutcome (reinstating (row ∷ [])) (lentSet (now («record» .entry)) (now (alive .entry)))) (now («record» .entry)) ⌝ }
     ensures { λ _. ⌜ now («out_changed» .exit) ≡ changesAfter (markOutcome (reinstating (row ∷ [])) (lentSet (now («record» .entry)) (now (alive .entry))) .answer) (now («out_changed» .entry)) ⌝ }
 {
     let a = withdraw::reinstate(record, alive, row);
@@ -220,6 +222,7 @@ pub extern "C" fn jadmirus_withdraw_rows(
 ) -> u32
     ensures { λ r. ⌜ r ≡ markNumberOf (markOutcome (withdrawing (now (rows .entry))) (lentSet (now («record» .entry)) (now (alive .entry))) .answer) ⌝ }
     ensures { λ _. ⌜ lentSet (now («record» .exit)) (now (alive .exit)) ≡ markOutcome (withdrawing (now (rows .entry))) (lentSet (now («record» .entry)) (now (alive .entry))) .left ⌝ }
+    ensures { λ _. ⌜ now («record» .exit) ≡ recordLeft (markOutcome (withdrawing (now (rows .entry))) (lentSet (now («record» .entry)) (now (alive .entry)))) (now («record» .entry)) ⌝ }
     ensures { λ _. ⌜ now («out_changed» .exit) ≡ changesAfter (markOutcome (withdrawing (now (rows .entry))) (lentSet (now («record» .entry)) (now (alive .entry))) .answer) (now («out_changed» .entry)) ⌝ }
 {
     let a = withdraw::withdraw_rows(record, alive, rows);
@@ -236,6 +239,7 @@ pub extern "C" fn jadmirus_reinstate_rows(
 ) -> u32
     ensures { λ r. ⌜ r ≡ markNumberOf (markOutcome (reinstating (now (rows .entry))) (lentSet (now («record» .entry)) (now (alive .entry))) .answer) ⌝ }
     ensures { λ _. ⌜ lentSet (now («record» .exit)) (now (alive .exit)) ≡ markOutcome (reinstating (now (rows .entry))) (lentSet (now («record» .entry)) (now (alive .entry))) .left ⌝ }
+    ensures { λ _. ⌜ now («record» .exit) ≡ recordLeft (markOutcome (reinstating (now (rows .entry))) (lentSet (now («record» .entry)) (now (alive .entry)))) (now («record» .entry)) ⌝ }
     ensures { λ _. ⌜ now («out_changed» .exit) ≡ changesAfter (markOutcome (reinstating (now (rows .entry))) (lentSet (now («record» .entry)) (now (alive .entry))) .answer) (now («out_changed» .entry)) ⌝ }
 {
     let a = withdraw::reinstate_rows(record, alive, rows);

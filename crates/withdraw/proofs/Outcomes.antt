@@ -10,7 +10,8 @@ use Rattle.segment.specs.Records.{structOf}
 use Rattle.segment.specs.declared.Record.{Record}
 use Rattle.records.specs.Rows.{numbersOf}
 use Rattle.withdraw.specs.declared.MarkAnswer.{MarkAnswer as Answered}
-use Rattle.withdraw.specs.Lent.{setBy, lentSet, markingOf, outcomeOf, Markable}
+use Rattle.withdraw.specs.Lent.{setBy, lentSet, markingOf, outcomeOf, recordLeft, Markable}
+use Rattle.definitions.specs.Segment.{recordNumbers}
 
 module _ (numbers words rows : List ℕ) (alive : Bool) {r : Record} (e : r ≡ structOf numbers) {k : ℕ} (w : k ≡ markNumber (setBy r words) rows) where
   same-set : setBy r words ≡ lentSet numbers words
@@ -19,9 +20,15 @@ module _ (numbers words rows : List ℕ) (alive : Bool) {r : Record} (e : r ≡ 
   number : k ≡ markNumber (lentSet numbers words) rows
   number = w ∙ ap (λ (m : AliveSet). markNumber m rows) same-set
 
-  pub refuses : (k ≡ 0 → ⊥) → outcomeOf (Answered.Refused k) numbers words ≡ markOutcome (markingOf alive rows) (lentSet numbers words)
+  -- what the outcome says, and the record's numbers in lent memory
+  abbrev Told : Answered → List ℕ → List ℕ → Type 0
+  Told x after out =
+      (outcomeOf x after out ≡ markOutcome (markingOf alive rows) (lentSet numbers words))
+      × (after ≡ recordLeft (markOutcome (markingOf alive rows) (lentSet numbers words)) numbers)
+
+  pub refuses : (k ≡ 0 → ⊥) → Told (Answered.Refused k) numbers words
   unfolding markOutcome
-  refuses d = rw (← number, ne-eqb k 0 d)
+  refuses d = (rw (← number, ne-eqb k 0 d), rw (← number, ne-eqb k 0 d))
 
   module _ (z : k ≡ 0) where
     pub markable : Markable (setBy r words)
@@ -31,11 +38,12 @@ module _ (numbers words rows : List ℕ) (alive : Bool) {r : Record} (e : r ≡ 
     there = granted (setBy r words) rows (sym w ∙ z) .there
 
     pub changes-are : {q : Record} {out after : List ℕ} {n : ℕ} → setBy q out ≡ markedRows alive (setBy r words) rows → after ≡ numbersOf q → n ≡ changesTo alive (setBy r []) (q .alive)
-        → outcomeOf (Answered.Changed n) after out ≡ markOutcome (markingOf alive rows) (lentSet numbers words)
+        → Told (Answered.Changed n) after out
     unfolding markOutcome
     changes-are {q} {out} s a c =
         let m = lentSet numbers words in
         let left : setBy q out ≡ markedRows alive m rows = s ∙ ap (λ (m : AliveSet). markedRows alive m rows) same-set in
-        let told = c ∙ ap₂ (λ (x : Record) (n : ℕ). changesTo alive (setBy x []) n) e (ap (λ (x : AliveSet). x .given .aliveCount) left) in
-        rw (← number, eq-eqb k 0 z)
-        (λ i. record { answer = changed (told i); left = (ap (λ (l : List ℕ). lentSet l out) a ∙ left) i })
+        let told = c ∙ ap₂ (λ (x : Record) (n : ℕ). changesTo alive (setBy x []) n) e (ap (λ (x : AliveSet). x .given .aliveCount) left) in (
+          rw (← number, eq-eqb k 0 z) (λ i. record { answer = changed (told i); left = (ap (λ (l : List ℕ). lentSet l out) a ∙ left) i }),
+          rw (← number, eq-eqb k 0 z) (a ∙ ap (λ (x : AliveSet). recordNumbers (x .given)) left),
+        )

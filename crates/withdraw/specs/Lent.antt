@@ -3,7 +3,7 @@ use Prim.Native.Nat.{ℕ}
 use mathlib.Core.Path.{_≡_}
 use mathlib.Core.List.{List}
 use mathlib.Core.Bool.{Bool}
-use Rattle.definitions.specs.Segment.{recordFrom}
+use Rattle.definitions.specs.Segment.{recordFrom, recordNumbers}
 use Rattle.definitions.specs.Withdraw.{AliveSet, Marking, MarkAnswer, changed, unmarked, MarkOutcome, Sound}
 use Rattle.segment.specs.Records.{recordIn}
 use Rattle.segment.specs.declared.Record.{Record}
@@ -26,6 +26,14 @@ answerOf (Answered.Refused k) = unmarked k
 
 abbrev pub outcomeOf : Answered → List ℕ → List ℕ → MarkOutcome
 outcomeOf a numbers words = record { answer = answerOf a; left = lentSet numbers words }
+
+-- the record's numbers as a call leaves them in lent memory: those of the record, or as they were
+abbrev pub recordBy : MarkAnswer → List ℕ → List ℕ → List ℕ
+recordBy (changed n) new old = new
+recordBy (unmarked k) new old = old
+
+abbrev pub recordLeft : MarkOutcome → List ℕ → List ℕ
+recordLeft o old = recordBy (o .answer) (recordNumbers (o .left .given)) old
 
 -- what the checks say of a set whose rows may be marked
 pub record Markable (m : AliveSet) : Type 0 where

@@ -5,7 +5,7 @@ ghost use mathlib.Core.Bool.{false};
 ghost use Prim.Native.Nat.{_<_, _-_};
 ghost use Rattle.definitions.specs.Lists.{allBelow};
 ghost use Rattle.definitions.specs.Withdraw.{withdrawing, reinstating, rowAbsent, markNumber, markedRow, markedRows, changesTo, markOutcome, withdrawOutcome, reinstateOutcome};
-ghost use Rattle.withdraw.specs.Lent.{setBy, lentSet, outcomeOf, markingOf, Markable};
+ghost use Rattle.withdraw.specs.Lent.{setBy, lentSet, outcomeOf, recordLeft, markingOf, Markable};
 
 // How many rows changed, 0 where the rows were so already; or the number of the first check that fails.
 pub enum MarkAnswer {
@@ -120,6 +120,7 @@ fn mark(
     rows: &[u32],
 ) -> MarkAnswer
     ensures { λ x. ⌜ outcomeOf x (now («record» .exit)) (now (words .exit)) ≡ markOutcome (markingOf alive (now (rows .entry))) (lentSet (now («record» .entry)) (now (words .entry))) ⌝ }
+    ensures { λ _. ⌜ now («record» .exit) ≡ recordLeft (markOutcome (markingOf alive (now (rows .entry))) (lentSet (now («record» .entry)) (now (words .entry)))) (now («record» .entry)) ⌝ }
 {
     let r = segment::record_of(*record);
     let k = first_wrong(r, words, rows);
@@ -134,6 +135,7 @@ fn mark(
 // Withdraws a row.
 pub fn withdraw(record: &mut segment::RecordNumbers, words: &mut [u64], row: u32) -> MarkAnswer
     ensures { λ x. ⌜ outcomeOf x (now («record» .exit)) (now (words .exit)) ≡ withdrawOutcome row (lentSet (now («record» .entry)) (now (words .entry))) ⌝ }
+    ensures { λ _. ⌜ now («record» .exit) ≡ recordLeft (withdrawOutcome row (lentSet (now («record» .entry)) (now (words .entry)))) (now («record» .entry)) ⌝ }
 {
     let rows = [row];
     mark(false, record, words, &rows)
@@ -142,6 +144,7 @@ pub fn withdraw(record: &mut segment::RecordNumbers, words: &mut [u64], row: u32
 // Reinstates a row.
 pub fn reinstate(record: &mut segment::RecordNumbers, words: &mut [u64], row: u32) -> MarkAnswer
     ensures { λ x. ⌜ outcomeOf x (now («record» .exit)) (now (words .exit)) ≡ reinstateOutcome row (lentSet (now («record» .entry)) (now (words .entry))) ⌝ }
+    ensures { λ _. ⌜ now («record» .exit) ≡ recordLeft (reinstateOutcome row (lentSet (now («record» .entry)) (now (words .entry)))) (now («record» .entry)) ⌝ }
 {
     let rows = [row];
     mark(true, record, words, &rows)
@@ -154,6 +157,7 @@ pub fn withdraw_rows(
     rows: &[u32],
 ) -> MarkAnswer
     ensures { λ x. ⌜ outcomeOf x (now («record» .exit)) (now (words .exit)) ≡ markOutcome (withdrawing (now (rows .entry))) (lentSet (now («record» .entry)) (now (words .entry))) ⌝ }
+    ensures { λ _. ⌜ now («record» .exit) ≡ recordLeft (markOutcome (withdrawing (now (rows .entry))) (lentSet (now («record» .entry)) (now (words .entry)))) (now («record» .entry)) ⌝ }
 {
     mark(false, record, words, rows)
 }
@@ -165,6 +169,7 @@ pub fn reinstate_rows(
     rows: &[u32],
 ) -> MarkAnswer
     ensures { λ x. ⌜ outcomeOf x (now («record» .exit)) (now (words .exit)) ≡ markOutcome (reinstating (now (rows .entry))) (lentSet (now («record» .entry)) (now (words .entry))) ⌝ }
+    ensures { λ _. ⌜ now («record» .exit) ≡ recordLeft (markOutcome (reinstating (now (rows .entry))) (lentSet (now («record» .entry)) (now (words .entry)))) (now («record» .entry)) ⌝ }
 {
     mark(true, record, words, rows)
 }

@@ -237,29 +237,8 @@ impl Reader {
 
     fn record_number(&mut self, number: u32) {
         self.record.push(number);
-        if let [
-            typ,
-            kind,
-            rows,
-            ids,
-            offsets,
-            values,
-            terms,
-            flag,
-            alive_rows,
-        ] = self.record[..]
-        {
-            let record = Record {
-                typ,
-                kind,
-                rows,
-                ids,
-                offsets,
-                values,
-                terms,
-                flag,
-                alive_rows,
-            };
+        if let Ok(numbers) = <[u32; 9]>::try_from(&self.record[..]) {
+            let record = Record::of_numbers(numbers);
             self.sections.records.push(record);
             self.record.clear();
         }

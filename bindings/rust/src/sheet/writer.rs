@@ -1,7 +1,7 @@
 //! Sections as a sheet.
 use super::elements::{hex_text, kind_text, mode_text, term_text, typ_text, value_text};
 use crate::explain;
-use crate::sections::{Address, Cut, Record, Sections};
+use crate::sections::{Address, Cut, Sections};
 use std::io::{self, Write};
 
 /// Writes a sheet from which [`read`](super::read) makes the same sections: by segments if the
@@ -92,21 +92,7 @@ fn write_wholes(s: &Sections, out: &mut dyn Write) -> io::Result<()> {
         "# type, kind, rows, numbers of ids, offsets, values and terms, flag, alive rows"
     )?;
     for r in &s.records {
-        let Record {
-            typ,
-            kind,
-            rows,
-            ids,
-            offsets,
-            values,
-            terms,
-            flag,
-            alive_rows,
-        } = r;
-        writeln!(
-            out,
-            "record {typ} {kind} {rows} {ids} {offsets} {values} {terms} {flag} {alive_rows}"
-        )?;
+        write_list("record", r.numbers().iter().map(u32::to_string), out)?;
     }
     write_list("ids", s.ids.iter().map(u32::to_string), out)?;
     write_list("offsets", s.offsets.iter().map(u32::to_string), out)?;
