@@ -60,6 +60,16 @@ pub bit-one : (words : List ℕ) (row : ℕ) → bitAt words row ≡ true → bi
 unfolding bitAt
 bit-one words row e = eqb-true (bitNumber words row) 1 e
 
+-- words that have the row's bit as given and all other bits as others have them
+one-differs : (old new : List ℕ) (row : ℕ) {n : ℕ} → bitNumber new row ≡ n → ((r : ℕ) → (r ≡ row → ⊥) → bitNumber new r ≡ bitNumber old r)
+    → (r : ℕ) → bitAt new r ≡ cond (eqb r row) (eqb n 1) (bitAt old r)
+unfolding bitAt
+one-differs old new row {n} e others r = go (ℕ-discrete r row)
+  where
+    go : Dec (r ≡ row) → eqb (bitNumber new r) 1 ≡ cond (eqb r row) (eqb n 1) (eqb (bitNumber old r) 1)
+    go (yes p) = rw (eq-eqb r row p) (ap (λ (k : ℕ). eqb (bitNumber new k) 1) p ∙ ap (λ (k : ℕ). eqb k 1) e)
+    go (no d) = rw (ne-eqb r row d) (ap (λ (k : ℕ). eqb k 1) (others r d))
+
 -- words, and others that have the row's bit besides
 record Apart (low high : List ℕ) (row : ℕ) : Type 0 where
   size : length low ≡ length high
@@ -87,20 +97,10 @@ module _ (low high : List ℕ) (row : ℕ) (a : Apart low high row) where
 
   -- seen from either side: the row's own bit, and the others
   high-is : (r : ℕ) → bitAt high r ≡ cond (eqb r row) true (bitAt low r)
-  unfolding bitAt
-  high-is r = go (ℕ-discrete r row)
-    where
-      go : Dec (r ≡ row) → eqb (bitNumber high r) 1 ≡ cond (eqb r row) true (eqb (bitNumber low r) 1)
-      go (yes p) = rw (eq-eqb r row p) (ap (λ (k : ℕ). eqb (bitNumber high k) 1) p ∙ eq-eqb (bitNumber high row) 1 (a .sets))
-      go (no d) = rw (ne-eqb r row d) (ap (λ (n : ℕ). eqb n 1) (a .others r d))
+  high-is = one-differs low high row (a .sets) (a .others)
 
   low-is : (r : ℕ) → bitAt low r ≡ cond (eqb r row) false (bitAt high r)
-  unfolding bitAt
-  low-is r = go (ℕ-discrete r row)
-    where
-      go : Dec (r ≡ row) → eqb (bitNumber low r) 1 ≡ cond (eqb r row) false (eqb (bitNumber high r) 1)
-      go (yes p) = rw (eq-eqb r row p) (ap (λ (k : ℕ). eqb (bitNumber low k) 1) p ∙ ap (λ (n : ℕ). eqb n 1) (a .clear))
-      go (no d) = rw (ne-eqb r row d) (ap (λ (n : ℕ). eqb n 1) (sym (a .others r d)))
+  low-is = one-differs high low row (a .clear) (λ r d. sym (a .others r d))
 
 module _ (words : List ℕ) (row : ℕ) (inside : row / 64 < length words) where
   elsewhere : (r : ℕ) → (r ≡ row → ⊥) → r / 64 ≡ row / 64 → r % 64 ≡ row % 64 → ⊥
