@@ -8,7 +8,7 @@ output. It does not join: no list of an answer is computed from the segments, bu
 byte strings, sorted, in which each old term is looked up.
 
 Standard input is hexadecimal numbers. First how many cases; then of each case its name (its bytes, after their number), 0 for a join, 1 for a time
-order, 2 for a conversion, or 3 to 6 for withdraw and reinstate of one row and of a run, mode, required type; records (each of its numbers), ids, offsets, values,
+order, 2 for a conversion, or 3 to 6 for withdraw and reinstate of one row and of a run, mode, required type; records (each its numbers, those of 64 bits in halves), ids, offsets, values,
 term lengths, term bytes, alive words and addresses, each list after its count (records and addresses counted whole); the working bytes lent and the elements lent of
 ids, offsets, values, term lengths, term bytes and map, or, of a time order, the addresses lent, or, of a conversion, the ids and offsets lent, or, of withdraw and
 reinstate, the rows named, after their count. This file alone knows that order, with the program: RECORD, SECTIONS and OUTPUTS below.
@@ -23,7 +23,21 @@ TYPES = {"I64": 0, "U64": 1, "F64": 2, "Bytes": 3, "Str": 4, "Bool": 5, "IpAddr"
 KINDS = {"Empty": 0, "Full": 1, "Optional": 2, "OldMultivalued": 3, "NewMultivalued": 4}
 MODES = {"stacked": 0, "ordered": 1}
 
-# A record's numbers in their order, and what each is if the segment does not say otherwise (`announced-NAME`).
+
+def signed(word):
+    return word - 2**64 if word >= 2**63 else word
+
+
+def pair(type, values):
+    """the least and the greatest value, as words: of I64, which is signed, and of U64; 0 and 0 of other types and of no values"""
+    if type not in (TYPES["I64"], TYPES["U64"]) or not values:
+        return [0, 0]
+    order = signed if type == TYPES["I64"] else (lambda word: word)
+    words = [w for (w,) in values]
+    return [min(words, key=order), max(words, key=order)]
+
+
+# A record's numbers in their order, and what each is if the segment does not say otherwise (`announced-NAME`). The last two have 64 bits.
 RECORD = [
     ("type", lambda s: s["type"]),
     ("kind", lambda s: s["kind"]),
@@ -34,7 +48,10 @@ RECORD = [
     ("terms", lambda s: len(s["terms"])),
     ("flag", lambda s: 0 if s["alive"] is None else 1),
     ("alive-rows", lambda s: s["rows"] if s["alive"] is None else sum(bin(w).count("1") for w in s["alive"])),
+    ("least", lambda s: pair(s["type"], s["values"])[0]),
+    ("greatest", lambda s: pair(s["type"], s["values"])[1]),
 ]
+NARROW = [name for name, _ in RECORD].index("least")  # of 32 bits
 # The sections after the records, in their order, and a segment's run in each.
 SECTIONS = [
     ("ids", lambda s: s["ids"]),
@@ -102,7 +119,7 @@ SEGMENT = {
     "terms": (MANY, term),
     "alive": (MANY, number),
 }
-SEGMENT.update({"announced-" + name: (ONE, number) for name, _ in RECORD[3:]})
+SEGMENT.update({"announced-" + name: (ONE, lambda w: number(w) % 2**64) for name, _ in RECORD[3:]})
 SPACES = ["work"] + [name for name, _, _ in OUTPUTS]
 SPACE = {name: (ONE, number) for name in SPACES + ["addresses"]}
 JOINED = {
@@ -115,6 +132,8 @@ JOINED = {
     "terms": (MANY, term),
     "map": (MANY, number),
     "copied": (ONE, number),
+    "least": (ONE, lambda w: number(w) % 2**64),
+    "greatest": (ONE, lambda w: number(w) % 2**64),
 }
 SORTED = {"addresses": (MANY, address)}
 CONVERTED = {"ids": (MANY, number), "offsets": (MANY, number), "record": (MANY, number)}
@@ -271,6 +290,15 @@ def record(s):
     return [s.get("announced-" + n, usual(s)) for n, usual in RECORD]
 
 
+def row(s):
+    """a record's numbers as the program takes them: those of 64 bits in halves, the low one first"""
+    numbers = record(s)
+    return numbers[:NARROW] + [half for n in numbers[NARROW:] for half in (n % 2**32, n // 2**32)]
+
+
+ROW = NARROW + 2 * (len(RECORD) - NARROW)
+
+
 def stored(case):
     """the numbers of a case in their stored order"""
 
@@ -284,7 +312,7 @@ def stored(case):
         sys.exit("case %s: the name or a space is larger than the program's place for it" % case["name"])
     call = case["call"]
     numbers = counted(name) + [ENTRIES[case["entry"]][0], call["mode"], call["required"]]
-    numbers += counted([n for s in segments for n in record(s)], len(RECORD))
+    numbers += counted([n for s in segments for n in row(s)], ROW)
     for _, run in SECTIONS:
         numbers += counted([x for s in segments for x in run(s)])
     numbers += counted([x for a in call["addresses"] for x in a], 2)
@@ -311,7 +339,7 @@ def printed(case):
         numbers, words = record(s), s["alive"] or []
         if answer == 0:
             head += ", changed %d" % column["changed"]
-            numbers, words = numbers[:-1] + [column["alive-rows"]], column["alive"]
+            numbers, words = numbers[: NARROW - 1] + [column["alive-rows"]] + numbers[NARROW:], column["alive"]
         return [head, line(case, "record", numbers, len(RECORD), ""), line(case, "alive", words, len(words), "")]
     if case["entry"] == "time-order":
         pairs = ["%d,%d" % p for p in column["addresses"]]
@@ -324,6 +352,8 @@ def printed(case):
         head += ", type %d, class %d, rows %d, elements" % (column["type"], column["class"], column["rows"])
         head += "".join(" %d" % n for n in counts)
         head += ", copied %d" % column.get("copied", sum(len(t) for t in column["terms"]))
+        own = pair(column["type"], column["values"])
+        head += ", pair %d %d" % (column.get("least", own[0]), column.get("greatest", own[1]))
     lists = [line(case, name, xs, space, str(BEFORE)) for (name, xs), space in zip(outputs, lent[1:])]
     return [head] + lists + [line(case, "working", [0] * lent[0], lent[0], "")]
 

@@ -14,7 +14,7 @@ First come random segments, then the faults, then cases whose order is written b
 times follow one another: there the merge writes many rows of a segment in one run.
 
 Input: hexadecimal numbers. First how many cases; each has records, ids, offsets, values, term lengths, term bytes and alive words, each after its count
-(records counted whole), and the number of addresses lent. Output: a line for each case, the answer, the number of addresses, and the whole output, segment
+(records counted whole, their last two numbers in halves), and the number of addresses lent. Output: a line for each case, the answer, the number of addresses, and the whole output, segment
 and row; places that are not written keep ffffffff."""
 import random
 
@@ -95,16 +95,30 @@ def alive_rows(s):
     return len(s["cells"]) if s["alive"] is None else sum(s["alive"])
 
 
+def pair(typ, values):
+    """a record's tenth and eleventh number: the least and the greatest value of types 0, which is signed, and 1; 0 and 0 of other types, times too, and of no values"""
+    if typ > 1 or not values:
+        return [0, 0]
+    signed = [v - 2**64 if typ == 0 and v >= 2**63 else v for v in values]
+    return [word(min(signed)), word(max(signed))]
+
+
 def sections(segments):
     x = {"records": [], "ids": [], "offsets": [], "values": [], "lengths": [], "bytes": [], "alive": []}
     for s in segments:
         ids, offsets, values, words = lay(s)
-        x["records"].append([s["type"], s["kind"], len(s["cells"]), len(ids), len(offsets), len(values), 0, 0 if s["alive"] is None else 1, alive_rows(s)])
+        flag = 0 if s["alive"] is None else 1
+        x["records"].append([s["type"], s["kind"], len(s["cells"]), len(ids), len(offsets), len(values), 0, flag, alive_rows(s)] + pair(s["type"], values))
         x["ids"] += ids
         x["offsets"] += offsets
         x["values"] += values
         x["alive"] += words
     return x
+
+
+def row(r):
+    """a record's numbers as the program takes them: the last two, of 64 bits, in halves, the low one first"""
+    return r[:9] + [half for n in r[9:] for half in (n % 2**32, n // 2**32)]
 
 
 def accepted():
@@ -133,7 +147,7 @@ def refused(fault):
     if fault == "several, withdrawn":
         bad["kind"], bad["cells"], bad["alive"] = 4, [[1, 1], [2]], [False, True]
     if fault == "type":
-        bad["type"] = random.choice([0, 1, 2])
+        bad["type"], bad["cells"] = random.choice([0, 1, 2]), random.choice([[[5], [6]], [[6], [-5]], [[2**63 - 1], [-(2**63)]]])
     old = fault.startswith("kind 3")
     if old:
         bad["kind"], bad["cells"], bad["alive"] = 3, random.choice([[], [[]], [[5], [], [6]], [[1], [1, 2]], [[5], [4]]]), None
@@ -189,6 +203,14 @@ def refused(fault):
         answer = 6
     if fault.startswith("number"):
         x, answer = wrong_number(fault, segments, at), 6
+    if fault.startswith("pair"):
+        x, answer = untrue_pair(fault, segments, at), 5
+    if fault == "lists, pair":
+        x["records"][at][2] += 1
+        x["records"][at][9:] = [5, 6]
+        answer = 4
+    if fault == "kind 3, pair":
+        x["records"][at][9:] = [5, 6]
     if fault == "bool, number":
         x["records"][at][0] = 5
         x["records"][at][8] = 0
@@ -199,7 +221,7 @@ def refused(fault):
         x = sections([{"type": 255, "kind": 0, "cells": [], "alive": None}] * 257)
         answer = 1
     if fault == "rows":
-        x = {"records": [[255, 0, 2**32 - 1, 0, 0, 0, 0, 0, 2**32 - 1]], "ids": [], "offsets": [], "values": [], "lengths": [], "bytes": [], "alive": []}
+        x = {"records": [[255, 0, 2**32 - 1, 0, 0, 0, 0, 0, 2**32 - 1, 0, 0]], "ids": [], "offsets": [], "values": [], "lengths": [], "bytes": [], "alive": []}
         answer = 7
     return x, len(order(segments)) + random.randrange(4), answer, []
 
@@ -218,7 +240,31 @@ def wrong_number(fault, segments, at):
         x["records"][at][8] = random.randrange(right)
         x["records"][at - 1][8] += right - x["records"][at][8]
     if fault == "number, rows":
-        x["records"].append([255, 0, 2**32 - 1, 0, 0, 0, 0, 0, 2**32 - 1])
+        x["records"].append([255, 0, 2**32 - 1, 0, 0, 0, 0, 0, 2**32 - 1, 0, 0])
+    return x
+
+
+def untrue_pair(fault, segments, at):
+    """a pair that is not that of the values, before 6, 7, 11 and 12"""
+    bad = segments[at]
+    if fault == "pair, no column":
+        bad.update({"type": 255, "kind": 0, "cells": [[], []]})
+    if fault == "pair, no time":
+        bad.update({"kind": 2, "cells": [[], []]})
+    if fault == "pair, falling":
+        bad["cells"] = [[5], [4]]
+    if fault == "pair, withdrawn":
+        bad["alive"] = [False, True]
+    x = sections(segments)
+    if fault == "pair, number type":
+        bad["type"] = x["records"][at][0] = random.choice([0, 1])
+        x["records"][at][9:] = random.choice([[0, 0], [5, 5], [6, 5], [4, 6], [5, 7], [5 + 2**32, 6], [5, 6 + 2**32]])
+    else:
+        x["records"][at][9:] = random.choice([[5, 6], [0, 1], [1, 0], [2**63, 2**63 - 1], [2**32, 0], [0, 2**32]])
+    if fault == "pair, number":
+        x["records"][at][8] += 1
+    if fault == "pair, rows":
+        x["records"].append([255, 0, 2**32 - 1, 0, 0, 0, 0, 0, 2**32 - 1, 0, 0])
     return x
 
 
@@ -323,9 +369,10 @@ def in_runs(long, lost):
 
 
 def main():
-    cases = [accepted() for _ in range(325)]
+    cases = [accepted() for _ in range(361)]
     faults = ["falling", "falling across zero", "falling, withdrawn", "falling, optional", "several", "several, withdrawn", "type", "addresses", "addresses, a word each", "lengths", "unknown type", "lists", "bool", "past rows", "rows"]
     faults += ["kind 3", "kind 3, wrong lists", "kind 3 beside ids 1 1", "kind 3 beside an unknown type", "kind 3, no column", "kind 3, unknown flag", "kind 3, lengths", "kind 3, number"]
+    faults += ["pair", "pair, no column", "pair, no time", "pair, falling", "pair, withdrawn", "pair, number type", "pair, number", "pair, rows", "lists, pair", "kind 3, pair"]
     faults += ["number", "number, alive set", "number, falling", "number, rows", "numbers that cancel", "bool, number"]
     cases += [refused(f) for f in faults for _ in range(3)] + [refused("many")]
     cases += [by_hand(segments, expected) for segments, expected in BY_HAND]
@@ -336,7 +383,7 @@ def main():
     for x, space, answer, out in cases:
         # What the program holds of a case.
         assert space <= 96 and max(len(x["ids"]), len(x["offsets"]), len(x["values"])) <= 80 and len(x["alive"]) <= 16
-        line = ["%x" % len(x["records"])] + ["%x" % n for r in x["records"] for n in r]
+        line = ["%x" % len(x["records"])] + ["%x" % n for r in x["records"] for n in row(r)]
         for name in ["ids", "offsets", "values", "lengths", "bytes", "alive"]:
             line += ["%x" % len(x[name])] + ["%x" % n for n in x[name]]
         given.append(" ".join(line + ["%x" % space]))
@@ -344,7 +391,7 @@ def main():
         told.append(" ".join(["%x" % answer, "%x" % len(out)] + ["%x %x" % p for p in whole]))
     stdin, stdout = "\n".join(given) + "\n", "\n".join(told) + "\n"
     # The program reads no more.
-    assert len(stdin) <= 65536
+    assert len(stdin) <= 131072
     for file, text in [("stdin", stdin), ("stdout", stdout)]:
         with open(FOLDER + file, "w") as f:
             f.write(text)

@@ -69,6 +69,11 @@ impl ColumnType {
         matches!(self, ColumnType::Bytes | ColumnType::Str)
     }
 
+    /// Whether a record holds the least and the greatest value of such a column.
+    pub fn has_pair(self) -> bool {
+        matches!(self, ColumnType::I64 | ColumnType::U64)
+    }
+
     /// Whether the type is one of the three of numbers, which can be joined with one another.
     pub fn is_number(self) -> bool {
         matches!(self, ColumnType::I64 | ColumnType::U64 | ColumnType::F64)

@@ -2,6 +2,7 @@
 use crate::alive::{AliveSet, alive_number};
 use crate::codes::{ColumnType, kind};
 use crate::ffi;
+use crate::pair::Pair;
 use crate::refusal::Refusal;
 use crate::sections::{Cut, Record, Sections};
 use crate::segment::{Index, Segment, count, length, value_count};
@@ -22,10 +23,12 @@ pub struct OldSegment {
     terms: Terms,
     alive: Option<AliveSet>,
     alive_rows: u32,
+    pair: Pair,
 }
 
 impl OldSegment {
     pub fn new(typ: ColumnType, rows: u32, offsets: Vec<u32>, values: Vec<u64>) -> OldSegment {
+        let pair = Pair::of(typ, &values);
         OldSegment {
             typ,
             rows,
@@ -34,6 +37,7 @@ impl OldSegment {
             terms: Terms::default(),
             alive: None,
             alive_rows: rows,
+            pair,
         }
     }
 
@@ -56,6 +60,13 @@ impl OldSegment {
         self
     }
 
+    /// The segment with the least and the greatest value that were stored with it; an untrue pair is
+    /// refused.
+    pub fn with_pair(mut self, pair: Pair) -> OldSegment {
+        self.pair = pair;
+        self
+    }
+
     pub(crate) fn convert(self) -> Result<Segment, Refusal> {
         let term_lengths: Result<Vec<u32>, Refusal> = self.terms.iter().map(length).collect();
         let old = Cut {
@@ -69,6 +80,7 @@ impl OldSegment {
                 terms: count(self.terms.len())?,
                 flag: u32::from(self.alive.is_some()),
                 alive_rows: self.alive_rows,
+                pair: self.pair,
             },
             ids: &[],
             offsets: &self.offsets,
@@ -77,10 +89,15 @@ impl OldSegment {
             term_bytes: self.terms.bytes(),
             alive: self.alive.as_ref().map(AliveSet::words),
         };
-        let Converted { ids, offsets, .. } = old.convert()?;
+        let Converted {
+            record,
+            ids,
+            offsets,
+        } = old.convert()?;
         let index = Index::NewMultivalued { ids, offsets };
         let rows = self.rows.into();
-        let new = Segment::from_parts(Some(self.typ), index, rows, self.values, self.terms);
+        let new = Segment::from_parts(Some(self.typ), index, rows, self.values, self.terms)
+            .with_pair(record.pair);
         Ok(match self.alive {
             Some(alive) => new.with_alive(alive),
             None => new,

@@ -8,6 +8,8 @@ use crate::sections::{Address, Cut, Record, Sections};
 
 // The library counts in 64 bits, and so do the sums of lengths in this crate.
 const _: () = assert!(usize::BITS == 64);
+// A record is a row of thirteen numbers of 32 bits.
+const _: () = assert!(size_of::<Record>() == 13 * 4 && align_of::<Record>() == 4);
 
 unsafe extern "C" {
     fn jadmirus_join(
@@ -43,7 +45,7 @@ unsafe extern "C" {
         out_term_bytes_count: usize,
         out_map: *mut u32,
         out_map_count: usize,
-        out_numbers: *mut [u64; 10],
+        out_numbers: *mut [u64; 12],
     ) -> u32;
 
     fn jadmirus_time_order(
@@ -120,6 +122,8 @@ unsafe extern "C" {
         rows_count: usize,
         out_changed: *mut [u64; 1],
     ) -> u32;
+
+    fn jadmirus_pair(typ: u32, values: *const u64, values_count: usize, out_pair: *mut [u64; 2]);
 }
 
 /// The memory that a join is lent to write in.
@@ -133,17 +137,17 @@ pub(crate) struct Outputs {
     pub term_bytes: Vec<u8>,
     pub map: Vec<u32>,
     /// Type, class, rows; elements of ids, offsets, values (each IpAddr once), terms, term bytes
-    /// and map; the term bytes copied.
-    pub numbers: [u64; 10],
+    /// and map; the term bytes copied; the least and the greatest joined value.
+    pub numbers: [u64; 12],
 }
 
 /// The join's answer. 0: the lists and the numbers are written.
 pub(crate) fn join(s: &Sections, out: &mut Outputs) -> u32 {
     // Sound: every pointer is a live slice's or array's, followed by that slice's own length; what
     // is written is borrowed as `mut`, each list another one, so nothing overlaps. An empty slice's
-    // pointer is aligned, as the library asks. Record and Address are `repr(C)` structs of nine
-    // and two 32-bit numbers, so runs of them are laid out as the C declaration says. The library
-    // keeps no pointer.
+    // pointer is aligned, as the library asks. Record and Address are `repr(C)` structs of
+    // thirteen and two 32-bit numbers, so runs of them are laid out as the C declaration says. The
+    // library keeps no pointer.
     unsafe {
         jadmirus_join(
             s.mode,
@@ -293,13 +297,22 @@ pub(crate) fn mark_rows(
     }
 }
 
+/// The least and the greatest of a column's values, as its record holds them.
+pub(crate) fn pair(typ: u32, values: &[u64]) -> [u64; 2] {
+    let mut pair = [0; 2];
+    // Sound for the reasons given in `join`.
+    unsafe { jadmirus_pair(typ, values.as_ptr(), values.len(), &mut pair) };
+    pair
+}
+
 #[cfg(test)]
 mod tests {
     use super::*;
     use crate::codes::ColumnType;
+    use crate::pair::Pair;
     use crate::segment::Segment;
 
-    const NONE: [u64; 10] = [77; 10];
+    const NONE: [u64; 12] = [77; 12];
 
     /// As many elements of everything.
     fn lent(elements: usize) -> Outputs {
@@ -355,7 +368,7 @@ mod tests {
             let (answer, numbers, ids, offsets, values) = joined(ids, offsets, values);
             assert_eq!((answer, numbers, (ids, offsets, values)), (11, NONE, kept));
         }
-        let numbers = [6, 2, 1, 1, 2, 2, 0, 0, 0, 0];
+        let numbers = [6, 2, 1, 1, 2, 2, 0, 0, 0, 0, 0, 0];
         let exact = (0, numbers, vec![0], vec![0, 2], words);
         assert_eq!(joined(1, 2, 4), exact);
         let ample = (
@@ -380,8 +393,24 @@ mod tests {
             (answer, out.numbers, out.term_bytes)
         };
         assert_eq!(joined(3), (11, NONE, vec![77; 3]));
-        let numbers = [4, 0, 2, 0, 0, 2, 1, 2, 2, 2];
+        let numbers = [4, 0, 2, 0, 0, 2, 1, 2, 2, 2, 0, 0];
         assert_eq!(joined(4), (0, numbers, b"abMM".to_vec()));
+    }
+
+    /// The joined pair comes with the numbers, as words.
+    #[test]
+    fn the_joined_pair() {
+        let pair = |segments: &[Segment]| {
+            let mut out = lent(4);
+            assert_eq!(join(&Sections::of(segments).unwrap(), &mut out), 0);
+            [out.numbers[10], out.numbers[11]]
+        };
+        let i64s = Segment::i64s([[i64::MIN], [-1], [1 << 32]]);
+        assert_eq!(pair(&[i64s]), [1 << 63, 1 << 32]);
+        let u64s = Segment::u64s([[u64::MAX], [1 << 32]]);
+        assert_eq!(pair(&[u64s]), [1 << 32, u64::MAX]);
+        assert_eq!(pair(&[Segment::date_times([[5]])]), [0, 0]);
+        assert_eq!(pair(&[Segment::no_column(2)]), [0, 0]);
     }
 
     #[test]
@@ -406,6 +435,7 @@ mod tests {
             terms: 0,
             flag: 0,
             alive_rows: 3,
+            pair: Pair::new(7, 9),
         },
         ids: &[],
         offsets: &[0, 2, 2, 3],
@@ -457,7 +487,7 @@ mod tests {
     #[test]
     fn converted_addresses() {
         let mut old = OLD;
-        old.record.typ = 6;
+        (old.record.typ, old.record.pair) = (6, Pair::default());
         assert_eq!(converted(&old, 9, 9).0, 2);
         old.values = &[1, 2, 3, 4, 5, 6];
         converts(&old);
@@ -501,6 +531,29 @@ mod tests {
             3
         );
     }
+
+    /// An untrue pair, after 4 and before 6; and a true one is kept.
+    #[test]
+    fn pairs_of_the_converter() {
+        let untrue = [(7, 8), (8, 9), (9, 7), (0, 0), (7, 9 | 1 << 32)];
+        for (least, greatest) in untrue {
+            let mut old = OLD;
+            old.record.pair = Pair::new(least, greatest);
+            old.record.alive_rows = 0;
+            assert_eq!(converted(&old, 9, 9).0, 5, "{least} {greatest}");
+            old.offsets = &[0, 2, 1, 3];
+            assert_eq!(converted(&old, 9, 9).0, 4, "{least} {greatest}");
+        }
+        let mut old = OLD;
+        (old.record.typ, old.values) = (0, &[1 << 63, u64::MAX, 1 << 32]);
+        old.record.pair = Pair::new(1 << 63, 1 << 32);
+        converts(&old);
+        old.record.typ = 7;
+        assert_eq!(converted(&old, 9, 9).0, 5);
+        old.record.pair = Pair::default();
+        converts(&old);
+    }
+
     /// A wrong number of alive rows, after 5 and before 11; and the number is kept.
     #[test]
     fn alive_rows_of_the_converter() {
@@ -521,8 +574,8 @@ mod tests {
     /// Rows, flag, number of alive rows and alive words.
     type Set<'a> = (u32, u32, u32, &'a [u64]);
 
-    /// A record whose type and kind a join would refuse, and whose lengths stand for nothing that
-    /// is lent.
+    /// A record whose type and kind a join would refuse, and whose lengths and pair stand for
+    /// nothing that is lent.
     fn record((rows, flag, alive_rows, _): Set<'_>) -> Record {
         Record {
             typ: 9,
@@ -534,6 +587,7 @@ mod tests {
             terms: 4,
             flag,
             alive_rows,
+            pair: Pair::new(ALL, 5),
         }
     }
 

@@ -1,6 +1,7 @@
-use crate::codes::{Class, ColumnType, words_per_value};
+use crate::codes::{Class, ColumnType, code_of, words_per_value};
 use crate::ffi::Outputs;
 use crate::ip::ip_addr;
+use crate::pair::Pair;
 use crate::sections::{Cut, Sections};
 use crate::segment::{Index, Segment};
 use crate::sheet::term_text;
@@ -24,6 +25,7 @@ pub struct Joined {
     /// Each segment's part of the map; none if its column is not held.
     map_parts: Vec<Option<Range<usize>>>,
     copied: u64,
+    pair: Pair,
 }
 
 /// One value of a row.
@@ -113,6 +115,27 @@ impl Joined {
         self.copied
     }
 
+    /// The least and the greatest of the joined values, as words; 0 and 0 unless the type is I64 or
+    /// U64 and there are values. Values of withdrawn rows are none of them.
+    pub fn pair(&self) -> Pair {
+        self.pair
+    }
+
+    /// The least value of a column of type I64 or U64; none for other types, and without values.
+    pub fn least(&self) -> Option<Value<'_>> {
+        self.of_pair(self.pair.least())
+    }
+
+    /// The greatest value, as [`least`](Joined::least) gives the least one.
+    pub fn greatest(&self) -> Option<Value<'_>> {
+        self.of_pair(self.pair.greatest())
+    }
+
+    fn of_pair(&self, word: u64) -> Option<Value<'_>> {
+        let has_pair = self.typ.is_some_and(ColumnType::has_pair) && !self.values.is_empty();
+        has_pair.then(|| self.value(&[word]))
+    }
+
     /// A row's values; none for a row past the last.
     pub fn row(&self, row: u32) -> impl ExactSizeIterator<Item = Value<'_>> {
         self.values_in(self.part_of(row))
@@ -181,8 +204,8 @@ impl Joined {
     }
 }
 
-/// A joined column serves as a segment again, with its lists and no alive set: all its rows are
-/// alive. The map is no part of the column.
+/// A joined column serves as a segment again, with its lists, its pair and no alive set: all its
+/// rows are alive. The map is no part of the column.
 impl From<Joined> for Segment {
     fn from(joined: Joined) -> Segment {
         let index = match (joined.typ, joined.class) {
@@ -194,8 +217,9 @@ impl From<Joined> for Segment {
                 offsets: joined.offsets,
             },
         };
-        let rows = joined.rows.into();
-        Segment::from_parts(joined.typ, index, rows, joined.values, joined.terms)
+        let (typ, rows, values) = (joined.typ, joined.rows.into(), joined.values);
+        debug_assert_eq!(joined.pair, Pair::of_code(code_of(typ), &values));
+        Segment::from_parts(typ, index, rows, values, joined.terms).with_pair(joined.pair)
     }
 }
 
@@ -212,6 +236,8 @@ pub(crate) fn from_outputs(outputs: Outputs, sections: &Sections) -> Joined {
         bytes,
         map,
         copied,
+        least,
+        greatest,
     ] = outputs.numbers;
     let typ = ColumnType::from_code(typ as u32);
     let words = values * words_per_value(typ) as u64;
@@ -227,6 +253,7 @@ pub(crate) fn from_outputs(outputs: Outputs, sections: &Sections) -> Joined {
         map: first(outputs.map, map),
         map_parts: map_parts(&sections.cut().unwrap_or_default()),
         copied,
+        pair: Pair::new(least, greatest),
     }
 }
 

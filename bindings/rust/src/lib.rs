@@ -63,6 +63,7 @@ mod ffi;
 mod ip;
 mod joined;
 mod listing;
+mod pair;
 mod refusal;
 mod sections;
 mod segment;
@@ -76,6 +77,7 @@ pub use codes::{Class, ColumnType};
 pub use convert::OldSegment;
 pub use ip::{ip_addrs, ip_words};
 pub use joined::{Joined, Value};
+pub use pair::Pair;
 pub use refusal::Refusal;
 pub use sections::{Address, Record, Sections};
 pub use segment::{Index, Segment};
@@ -137,8 +139,8 @@ pub fn time_order(segments: &[Segment]) -> Result<Vec<Address>, Refusal> {
 }
 
 /// Converts a stored segment of kind 3, old multivalued, to kind 4, which can be joined. Each row
-/// has the same values in the same order afterwards, and terms, alive set and number of alive rows
-/// are kept.
+/// has the same values in the same order afterwards, and terms, alive set, number of alive rows and
+/// pair are kept.
 ///
 /// It is refused with [`Refusal::Lengths`], [`Refusal::RowLists`], [`Refusal::Contents`] or
 /// [`Refusal::AliveSet`], the first of them that applies.

@@ -26,7 +26,8 @@ impl Joined {
     }
 
     /// Writes the numbers that come with acceptance, each in a line after its name: the listing's
-    /// without the lists, the number of term bytes, and how many of them were copied.
+    /// without the lists, the number of term bytes, how many of them were copied, and the least and
+    /// the greatest value as unsigned words.
     pub fn write_numbers(&self, out: &mut dyn Write) -> io::Result<()> {
         let numbers = [
             ("answer", 0),
@@ -40,6 +41,8 @@ impl Joined {
             ("term-bytes", self.terms().bytes().len() as u64),
             ("maps", self.map().len() as u64),
             ("term-bytes-copied", self.term_bytes_copied()),
+            ("least", self.pair().least()),
+            ("greatest", self.pair().greatest()),
         ];
         numbers
             .iter()

@@ -17,7 +17,7 @@ pub enum Refusal {
     OldMultivalued,
     /// 4: row ids, offsets or the number of values don't fit the kind.
     RowLists,
-    /// 5: values or terms don't fit the type.
+    /// 5: values or terms don't fit the type, or a least or greatest value is not that of the values.
     Contents,
     /// 6: an alive set past the rows or in a stacked join, or a wrong number of alive rows.
     AliveSet,
@@ -79,8 +79,8 @@ const LISTED: [(Refusal, u32, &str, &str); 15] = [
         Refusal::Contents,
         5,
         "values or terms",
-        "A value is impossible for its type, or a segment's terms are not strictly ascending or \
-         stand where there can be none.",
+        "A value is impossible for its type, a segment's terms are not strictly ascending or stand \
+         where there can be none, or its least or greatest value is not that of its values.",
     ),
     (
         Refusal::AliveSet,

@@ -2,6 +2,7 @@
 use crate::alive::{alive_number, is_alive, words_for};
 use crate::codes::{ColumnType, NO_TYPE, kind, mode, words_per_value};
 use crate::joined::Joined;
+use crate::pair::Pair;
 use crate::refusal::Refusal;
 use crate::{ffi, joined};
 use std::ops::Range;
@@ -26,11 +27,14 @@ pub struct Record {
     /// How many rows are alive: as many as the alive set has set bits, or all rows if the segment
     /// has none. Every call refuses another number with [`Refusal::AliveSet`].
     pub alive_rows: u32,
+    /// The least and the greatest stored value of a column of type I64 or U64 that has values, else
+    /// 0 and 0. Every call that reads the values refuses another pair with [`Refusal::Contents`].
+    pub pair: Pair,
 }
 
 impl Record {
-    /// The record of its numbers in their order.
-    pub(crate) fn of_numbers(numbers: [u32; 9]) -> Self {
+    /// The record of its numbers in their order, of which only the pair's need more than 32 bits.
+    pub(crate) fn of_numbers(numbers: [u64; 11]) -> Self {
         let [
             typ,
             kind,
@@ -41,7 +45,8 @@ impl Record {
             terms,
             flag,
             alive_rows,
-        ] = numbers;
+            ..,
+        ] = numbers.map(|number| number as u32);
         Record {
             typ,
             kind,
@@ -52,20 +57,23 @@ impl Record {
             terms,
             flag,
             alive_rows,
+            pair: Pair::new(numbers[9], numbers[10]),
         }
     }
 
-    pub(crate) fn numbers(&self) -> [u32; 9] {
+    pub(crate) fn numbers(&self) -> [u64; 11] {
         [
-            self.typ,
-            self.kind,
-            self.rows,
-            self.ids,
-            self.offsets,
-            self.values,
-            self.terms,
-            self.flag,
-            self.alive_rows,
+            self.typ.into(),
+            self.kind.into(),
+            self.rows.into(),
+            self.ids.into(),
+            self.offsets.into(),
+            self.values.into(),
+            self.terms.into(),
+            self.flag.into(),
+            self.alive_rows.into(),
+            self.pair.least(),
+            self.pair.greatest(),
         ]
     }
 
@@ -213,7 +221,7 @@ impl Sections {
             term_lengths: vec![0; terms],
             term_bytes: vec![0; self.term_bytes.len()],
             map: vec![0; terms],
-            numbers: [0; 10],
+            numbers: [0; 12],
         }
     }
 

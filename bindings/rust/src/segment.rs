@@ -1,6 +1,7 @@
 use crate::alive::{AliveSet, alive_number, words_for};
 use crate::codes::{ColumnType, code_of, kind, words_per_value};
 use crate::ip;
+use crate::pair::Pair;
 use crate::refusal::Refusal;
 use crate::sections::{Record, Sections};
 use crate::terms::Terms;
@@ -46,7 +47,8 @@ impl Index {
 /// Values are 64-bit words: two's complement for I64 and DateTime, IEEE bits for F64, 0 or 1 for
 /// Bool, ordinals of the terms for Bytes and Str. An IpAddr has two, which
 /// [`ip_words`](crate::ip_words) makes of addresses. The constructors that take rows make the
-/// words, the terms and the lists themselves.
+/// words, the terms and the lists themselves. All of them count the alive rows and find the least
+/// and the greatest value, which a segment keeps as its record does.
 #[derive(Clone, Debug, PartialEq, Eq)]
 pub struct Segment {
     typ: Option<ColumnType>,
@@ -57,6 +59,7 @@ pub struct Segment {
     terms: Terms,
     alive: Option<AliveSet>,
     alive_rows: u32,
+    pair: Pair,
 }
 
 /// Constructors by lists.
@@ -118,6 +121,14 @@ impl Segment {
         self
     }
 
+    /// The segment with the least and the greatest value that were stored with it. Joins and time
+    /// orders refuse an untrue pair with [`Refusal::Contents`]; the constructors find the true one
+    /// for you.
+    pub fn with_pair(mut self, pair: Pair) -> Segment {
+        self.pair = pair;
+        self
+    }
+
     /// The segment with these rows withdrawn, and those that were withdrawn before. It has an alive
     /// set then, even if no row is named. A row that the segment doesn't have is passed over.
     pub fn without_rows(mut self, withdrawn: impl IntoIterator<Item = u32>) -> Segment {
@@ -128,9 +139,11 @@ impl Segment {
     }
 
     fn new(typ: ColumnType, index: Index, rows: u64, values: Vec<u64>) -> Segment {
-        Segment::from_parts(Some(typ), index, rows, values, Terms::default())
+        let pair = Pair::of(typ, &values);
+        Segment::from_parts(Some(typ), index, rows, values, Terms::default()).with_pair(pair)
     }
 
+    /// A segment with the pair 0 and 0, which the caller may have to replace.
     pub(crate) fn from_parts(
         typ: Option<ColumnType>,
         index: Index,
@@ -146,6 +159,7 @@ impl Segment {
             terms,
             alive: None,
             alive_rows: alive_number(rows, None),
+            pair: Pair::default(),
         }
     }
 }
@@ -182,6 +196,11 @@ impl Segment {
     /// The number of alive rows, which the segment keeps: all rows if it has no alive set.
     pub fn alive_rows(&self) -> u32 {
         self.alive_rows
+    }
+
+    /// The least and the greatest stored value, also of withdrawn rows, which the segment keeps.
+    pub fn pair(&self) -> Pair {
+        self.pair
     }
 
     /// What a call that withdraws or reinstates rows is lent: of the record, the library looks at
@@ -338,6 +357,7 @@ impl Sections {
             terms: count(segment.terms.len())?,
             flag: u32::from(segment.alive.is_some()),
             alive_rows: segment.alive_rows,
+            pair: segment.pair,
         };
         if let Some(alive) = &segment.alive {
             if alive.words().len() != words_for(rows) {

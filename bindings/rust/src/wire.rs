@@ -1,5 +1,6 @@
 //! The wire form of the sections: 64-bit words, the lowest byte first; nine sections, each after
 //! its count.
+use crate::pair::Pair;
 use crate::sections::{Address, Record, Sections};
 use std::error::Error;
 use std::fmt;
@@ -180,6 +181,7 @@ impl<R: Read> Words<R> {
                 terms: self.number("number of terms")?,
                 flag: self.number("flag")?,
                 alive_rows: self.number("number of alive rows")?,
+                pair: Pair::new(self.word("least value")?, self.word("greatest value")?),
             });
         }
         Ok(records)
@@ -277,7 +279,7 @@ mod tests {
             text,
             "byte 48: offset 4294967296 is too wide: it must fit 32 bits"
         );
-        let mut record = [&[2, 0, 255, 1], &[0; 8][..], &[1 << 32], &[0; 7]].concat();
+        let mut record = [&[2, 0, 255, 1], &[0; 8][..], &[1 << 32], &[0; 9]].concat();
         let text = fault(&bytes(&record));
         assert_eq!(
             text,
@@ -286,6 +288,14 @@ mod tests {
         record[12] -= 1;
         let sections = Sections::read_wire(&bytes(&record)[..]).unwrap();
         assert_eq!(sections.records[0].alive_rows, u32::MAX);
+        // The pair may be any two words.
+        (record[13], record[14]) = (u64::MAX, 1 << 32 | 7);
+        let sections = Sections::read_wire(&bytes(&record)[..]).unwrap();
+        let pair = Pair::new(u64::MAX, 1 << 32 | 7);
+        assert_eq!(sections.records[0].pair, pair);
+        let mut written = Vec::new();
+        sections.write_wire(&mut written).unwrap();
+        assert_eq!(written, bytes(&record));
         let values = bytes(&[2, 0, 255, 0, 0, 0, 1, u64::MAX, 0, 0, 0, 0]);
         assert_eq!(Sections::read_wire(&values[..]).unwrap().values, [u64::MAX]);
     }

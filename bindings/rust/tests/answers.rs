@@ -94,7 +94,7 @@ fn nineteen() {
         answers("segment type U64 kind OldMultivalued rows 7 ids 9 offsets 1 0"),
         [19, 19]
     );
-    assert_eq!(answers("record 1 3 1 0 2 1 0 0 1 offsets 0 1"), [2, 2]);
+    assert_eq!(answers("record 1 3 1 0 2 1 0 0 1 0 0 offsets 0 1"), [2, 2]);
     assert_eq!(
         answers("segment type none kind OldMultivalued rows 0"),
         [3, 3]

@@ -18,8 +18,8 @@ fn join_of_a_sheet_and_of_its_wire_form() {
     assert_eq!(accepted(&["join", "-"], C1.as_bytes()), C1_LISTING);
     let encoded = jadmirus(&["encode", "-"], C1.as_bytes()).stdout;
     let expected = [
-        &[2, 0, 255, 2, 4, 2, 2, 1, 0, 1, 1, 0, 2][..],
-        &[4, 1, 2, 0, 0, 2, 2, 0, 2],
+        &[2, 0, 255, 2, 4, 2, 2, 1, 0, 1, 1, 0, 2, 0, 0][..],
+        &[4, 1, 2, 0, 0, 2, 2, 0, 2, 0, 0],
         &[1, 1, 0, 3, 0, 1, 0, 3, 1, 1, 1, 3, 98, 97, 98, 0, 0],
     ];
     assert_eq!(encoded, wire(&expected.concat()));
@@ -41,11 +41,12 @@ fn rows_in_words() {
     );
 }
 
-/// Type, class and rows, the listing's counts, and the term bytes: a and b, copied once.
+/// Type, class and rows, the listing's counts, the term bytes (a and b, copied once) and the pair,
+/// which a column of texts doesn't have.
 #[test]
 fn numbers_alone() {
     let text = "answer 0\ntype 4\nclass 1\nrows 4\nids 3\noffsets 0\nvalues 3\nterms 2\n\
-        term-bytes 2\nmaps 3\nterm-bytes-copied 2\n";
+        term-bytes 2\nmaps 3\nterm-bytes-copied 2\nleast 0\ngreatest 0\n";
     assert_eq!(accepted(&["join", "--numbers", "-"], C1.as_bytes()), text);
     let path = file("numbers.sheet");
     let words = ["join", "--numbers", "--output", &path, "-"];
@@ -60,6 +61,82 @@ fn numbers_alone() {
         b"segment type 8 kind Full values 1",
     );
     assert_eq!((&*out, status), ("answer 3\n", 1));
+}
+
+/// A day of votes, up and down, and one of votes up alone.
+const VOTES: &str = "segment type I64 kind Full values 5 -7\n\
+    segment type U64 kind Optional rows 2 ids 1 values 9\n";
+
+/// The pair stands in the record and comes with the numbers, as unsigned words; the listing doesn't
+/// have it.
+#[test]
+fn least_and_greatest() {
+    let numbers = accepted(&["join", "--numbers", "-"], VOTES.as_bytes());
+    let pair = "\nterm-bytes-copied 0\nleast 18446744073709551609\ngreatest 9\n";
+    assert!(numbers.ends_with(pair), "{numbers}");
+    let listing = "answer 0\ntype 0\nclass 1\nrows 4\nids 3 0 1 3\noffsets 0\n\
+        values 3 5 18446744073709551609 9\nterms 0\nmaps 0\n";
+    assert_eq!(accepted(&["join", "-"], VOTES.as_bytes()), listing);
+    let encoded = jadmirus(&["encode", "-"], VOTES.as_bytes()).stdout;
+    let minus_7 = -7i64 as u64;
+    let words = [
+        &[2, 0, 255, 2, 0, 1, 2, 0, 0, 2, 0, 0, 2, minus_7, 5][..],
+        &[1, 2, 2, 1, 0, 1, 0, 0, 2, 9, 9],
+        &[1, 1, 0, 3, 5, minus_7, 9, 0, 0, 0, 0],
+    ];
+    assert_eq!(encoded, wire(&words.concat()));
+    let shown = accepted(&["show", "-"], &encoded);
+    let text = "mode stacked\nrequired none\n\n\
+        segment\ntype I64\nkind Full\nrows 2\nvalues 5 -7\nleast -7\ngreatest 5\n\n\
+        segment\ntype U64\nkind Optional\nrows 2\nids 1\nvalues 9\nleast 9\ngreatest 9\n";
+    assert_eq!(shown, text);
+    assert_eq!(jadmirus(&["encode", "-"], shown.as_bytes()).stdout, encoded);
+    // Both may be any words, but for the number before them, which has 32 bits.
+    let put = |place: usize, word: u64| {
+        let mut words = words.concat();
+        words[place] = word;
+        run(&["join", "-"], &wire(&words))
+    };
+    assert_eq!(put(13, 1 << 63).0, "answer 5\n");
+    assert_eq!(put(14, u64::MAX).0, "answer 5\n");
+    let (out, err, status) = put(12, 2 | 1 << 32);
+    assert_eq!((&*out, status), ("answer 2\n", 1));
+    let text = "byte 96: number of alive rows 4294967298 is too wide: it must fit 32 bits";
+    assert!(err.contains(text), "{err}");
+    // A result is handed on with its pair, which then is held to the values.
+    let joined = accepted(&["join", "--output=-", "-"], VOTES.as_bytes());
+    let lists = "rows 4\nids 0 1 3\nvalues 5 -7 9\nleast -7\ngreatest 9\n";
+    assert_eq!(joined, format!("segment\ntype I64\nkind Optional\n{lists}"));
+    assert_eq!(accepted(&["join", "-"], joined.as_bytes()), listing);
+    let damaged = joined.replace("values 5 -7 9", "values 5 -7 8");
+    let (out, _, status) = run(&["check", "-"], damaged.as_bytes());
+    let text = "answer 5 (values or terms)\n\
+        segment 0, greatest value 9: row 3, value 8 (the 3rd) is the greatest\n";
+    assert_eq!((&*out, status), (text, 1));
+}
+
+/// An untrue pair in a sheet and in its wire form, as every command takes it.
+#[test]
+fn untrue_pairs() {
+    let times = "segment type DateTime kind Full values 5 least 5 greatest 5";
+    let encoded = jadmirus(&["encode", "-"], times.as_bytes()).stdout;
+    for input in [times.as_bytes(), &encoded] {
+        for command in ["join", "order"] {
+            let (out, err, status) = run(&[command, "-"], input);
+            assert_eq!((&*out, status), ("answer 5\n", 1));
+            let text = "or its least or greatest value is not that of its values.\n";
+            assert!(err.ends_with(text), "{err}");
+        }
+        for words in [&["check", "-"][..], &["check", "--times", "-"]] {
+            let (out, err, status) = run(words, input);
+            let text = "answer 5 (values or terms)\n\
+                segment 0, least value 5: it is 0 for a column of type DateTime\n";
+            assert_eq!((&*out, &*err, status), (text, "", 1));
+        }
+    }
+    let shown = accepted(&["show", "-"], &encoded);
+    assert!(shown.ends_with("\nvalues 5\nleast 5\ngreatest 5\n"));
+    assert_eq!(jadmirus(&["encode", "-"], shown.as_bytes()).stdout, encoded);
 }
 
 /// Two listeners, none and one; a day without the column; and an IPv4 address, mapped.
@@ -96,7 +173,7 @@ fn wire_form_of_addresses() {
     let sheet = "segment type IpAddr kind Full values 2001:db8::1 192.0.2.7";
     let encoded = jadmirus(&["encode", "-"], sheet.as_bytes()).stdout;
     let words = [
-        &[2, 0, 255, 1, 6, 1, 2, 0, 0, 2, 0, 0, 2, 0, 0][..],
+        &[2, 0, 255, 1, 6, 1, 2, 0, 0, 2, 0, 0, 2, 0, 0, 0, 0][..],
         &[4, 0x2001_0db8_0000_0000, 1, 0, 0xffff_c000_0207, 0, 0, 0, 0],
     ];
     assert_eq!(encoded, wire(&words.concat()));
@@ -107,10 +184,13 @@ fn wire_form_of_addresses() {
     assert_eq!(jadmirus(&["encode", "-"], shown.as_bytes()).stdout, encoded);
     // An address without its second word: the sections stand as wholes, in words.
     let halved = wire(&[
-        2, 0, 255, 1, 6, 1, 1, 0, 0, 1, 0, 0, 1, 0, 0, 1, 7, 0, 0, 0, 0,
+        2, 0, 255, 1, 6, 1, 1, 0, 0, 1, 0, 0, 1, 0, 0, 0, 0, 1, 7, 0, 0, 0, 0,
     ]);
     let shown = accepted(&["show", "-"], &halved);
-    assert!(shown.contains("\nrecord 6 1 1 0 0 1 0 0 1\n"), "{shown}");
+    assert!(
+        shown.contains("\nrecord 6 1 1 0 0 1 0 0 1 0 0\n"),
+        "{shown}"
+    );
     assert!(shown.contains("\nvalues 7\n"), "{shown}");
     assert_eq!(jadmirus(&["encode", "-"], shown.as_bytes()).stdout, halved);
     let (out, _, status) = run(&["check", "-"], &halved);
@@ -153,7 +233,7 @@ fn places_of_faults() {
             "segments: 257 are there, and a call takes at most 256",
         ),
         (
-            "record 1 1 1 0 0 1 0 0 1",
+            "record 1 1 1 0 0 1 0 0 1 0 0",
             "segment 0, values: the segments up to this one announce 1, and 0 are there",
         ),
         (
@@ -161,7 +241,7 @@ fn places_of_faults() {
             "segment 0, type 8: no known type",
         ),
         (
-            "record 6 1 1 0 0 1 0 0 1 values 3",
+            "record 6 1 1 0 0 1 0 0 1 0 0 values 3",
             "segment 0, words of values (an IpAddr has two): the segments up to this one announce \
              2, and 1 is there",
         ),
@@ -204,6 +284,14 @@ fn places_of_faults() {
         (
             "segment type IpAddr kind Full values ::1 terms \"a\"",
             "segment 0, terms: a column of type IpAddr has none",
+        ),
+        (
+            "segment rows 1 segment type I64 kind Full values 3 -1 least 3",
+            "segment 1, least value 3: row 1, value -1 (the 2nd) is the least",
+        ),
+        (
+            "segment type U64 kind Empty rows 1 greatest 7",
+            "segment 0, greatest value 7: it is 0 for a column without values",
         ),
         (
             "segment rows 1 segment rows 2 alive-rows 1",
@@ -308,7 +396,7 @@ fn conversion_of_a_sheet_and_of_its_wire_form() {
     let encode = |sheet: &str| jadmirus(&["encode", "-"], sheet.as_bytes()).stdout;
     let converted = jadmirus(&["convert", "-"], &encode(OLD)).stdout;
     let words = [
-        2, 0, 255, 1, 1, 4, 3, 2, 3, 3, 0, 0, 3, 2, 0, 2, 3, 0, 2, 3, 3, 7, 8, 9, 0, 0, 0, 0,
+        2, 0, 255, 1, 1, 4, 3, 2, 3, 3, 0, 0, 3, 7, 9, 2, 0, 2, 3, 0, 2, 3, 3, 7, 8, 9, 0, 0, 0, 0,
     ];
     assert_eq!(converted, wire(&words));
     assert_eq!(converted, encode(CONVERTED));
@@ -327,7 +415,8 @@ fn conversion_of_addresses() {
     let [old, new] = [old, new].map(|sheet| jadmirus(&["encode", "-"], sheet.as_bytes()).stdout);
     assert_eq!(jadmirus(&["convert", "-"], &old).stdout, new);
     let words = [
-        &[2, 0, 255, 1, 6, 4, 3, 2, 3, 3, 0, 1, 2, 2, 0, 2, 3, 0, 2, 3][..],
+        &[2, 0, 255, 1, 6, 4, 3, 2, 3, 3, 0, 1, 2, 0, 0][..],
+        &[2, 0, 2, 3, 0, 2, 3],
         &[6, 0, 1, 0, 0xffff_c000_0207, 0x2001_0db8_0000_0000, 1],
         &[0, 0, 1, 3, 0],
     ];
@@ -370,7 +459,7 @@ fn nothing_to_convert() {
         C1,
         CONVERTED,
         "# A comment, and no line end\nsegment type U64 kind Optional rows 3 ids 1 1 values 0 0",
-        "record 1 1 1 0 0 1 0 0 1\r\n",
+        "record 1 1 1 0 0 1 0 0 1 0 0\r\n",
     ];
     for sheet in sheets {
         assert_eq!(accepted(&["convert", "-"], sheet.as_bytes()), sheet);
@@ -468,6 +557,11 @@ fn refused_conversions() {
             "segment 2, row 1, value 2 (the 2nd): a Bool is 0 or 1",
         ),
         (
+            5,
+            "segment type U64 kind OldMultivalued offsets 0 1 values 7 least 6 alive 2",
+            "segment 2, least value 6: row 0 (withdrawn), value 7 (the 1st) is the least",
+        ),
+        (
             6,
             "segment type U64 kind OldMultivalued offsets 0 1 values 7 alive 2",
             "segment 2, alive word 2 (the 1st): marks row 1, not below the number of rows, 1",
@@ -484,7 +578,7 @@ fn refused_conversions() {
             (format!("answer {answer}\n"), text.to_string())
         );
     }
-    let unfit = "record 1 3 1 0 2 1 0 0 1 offsets 0 1";
+    let unfit = "record 1 3 1 0 2 1 0 0 1 0 0 offsets 0 1";
     let (out, err, status) = run(&["convert", "-"], unfit.as_bytes());
     assert_eq!((&*out, status), ("answer 2\n", 1));
     let place = "segment 0, values: the segments up to this one announce 1, and 0 are there\n";
@@ -656,12 +750,15 @@ fn a_result_by_a_link() {
 #[test]
 fn sections_as_wholes() {
     let words = [
-        2, 0, 255, 1, 4, 1, 2, 0, 0, 2, 1, 0, 2, 0, 0, 1, 7, 1, 3, 2, 97, 98, 1, 5, 1, 0, 9,
+        2, 0, 255, 1, 4, 1, 2, 0, 0, 2, 1, 0, 2, 0, 0, 0, 0, 1, 7, 1, 3, 2, 97, 98, 1, 5, 1, 0, 9,
     ];
     let input = wire(&words);
     let sheet = accepted(&["show", "-"], &input);
     assert!(sheet.contains("# segment 0, values: the segments up to this one announce 2"));
-    assert!(sheet.contains("\nrecord 4 1 2 0 0 2 1 0 2\n"), "{sheet}");
+    assert!(
+        sheet.contains("\nrecord 4 1 2 0 0 2 1 0 2 0 0\n"),
+        "{sheet}"
+    );
     assert_eq!(jadmirus(&["encode", "-"], sheet.as_bytes()).stdout, input);
 }
 
@@ -781,6 +878,38 @@ fn faults_of_sheets() {
             "line 1: 'alive-rows' stands before the first 'segment'",
         ),
         (
+            "segment rows 1\nleast 1 type U64",
+            "line 2: the segment's 'type' must stand before its least value",
+        ),
+        (
+            "segment type I64 kind Full values 1\nleast 9223372036854775808",
+            "line 2: least: '9223372036854775808' is no number from -9223372036854775808 to",
+        ),
+        (
+            "segment type U64 kind Full values 1\ngreatest -1",
+            "line 2: greatest: '-1' is no number from 0 to 18446744073709551615",
+        ),
+        (
+            "segment type U64 kind Full values 1 greatest",
+            "line 1: 'greatest' wants a word after it",
+        ),
+        (
+            "segment type U64 kind Full values 1 2\nleast 1 2",
+            "line 2: least: takes one word, and '2' begins no entry",
+        ),
+        (
+            "segment type Str kind Full values \"a\"\nleast \"a\"",
+            "line 2: least: a quoted text can't stand here",
+        ),
+        (
+            "segment type U64 kind Full values 1\nleast 1\nleast 1",
+            "line 3: 'least' stands before, in line 2, for the same",
+        ),
+        (
+            "greatest 1",
+            "line 1: 'greatest' stands before the first 'segment'",
+        ),
+        (
             "segment rows 1 flag 1",
             "line 1: flag 1 says that an alive set follows",
         ),
@@ -816,11 +945,23 @@ fn faults_of_sheets() {
         ),
         (
             "record 1 2 3",
-            "line 1: 'record' wants nine numbers after it",
+            "line 1: 'record' wants eleven numbers after it",
         ),
         (
-            "record 1 1 1 0 0 1 0 0 1 1",
-            "line 1: record: takes 9 numbers, and '1' begins no entry",
+            "record 1 1 1 0 0 1 0 0 1",
+            "line 1: 'record' wants eleven numbers after it",
+        ),
+        (
+            "record 1 1 1 0 0 1 0 0 4294967296 7 7",
+            "line 1: record: '4294967296' is no number from 0 to 4294967295",
+        ),
+        (
+            "record 1 1 1 0 0 1 0 0 1 7 18446744073709551616",
+            "line 1: record: '18446744073709551616' is no number from 0 to 18446744073709551615",
+        ),
+        (
+            "record 1 1 1 0 0 1 0 0 1 7 7 1",
+            "line 1: record: takes 11 numbers, and '1' begins no entry",
         ),
     ];
     for (sheet, text) in cases {

@@ -119,7 +119,7 @@ fn order_of_the_checks() {
     assert_eq!(refused(&three), Refusal::UnknownCode);
     let none = "segment type none kind OldMultivalued rows 0 offsets 0";
     assert_eq!(refused(none), Refusal::UnknownCode);
-    let two = "record 9 3 1 0 2 1 0 0 1 offsets 0 1";
+    let two = "record 9 3 1 0 2 1 0 0 1 0 0 offsets 0 1";
     assert_eq!(refused(two), Refusal::Lengths);
 }
 
@@ -180,7 +180,7 @@ fn other_segments_are_not_checked() {
         (beside.records[2].kind, &beside.ids[..]),
         (4, &[1, 1, 0][..])
     );
-    let mut unfit = sections("record 1 1 1 0 0 1 0 0 1");
+    let mut unfit = sections("record 1 1 1 0 0 1 0 0 1 0 0");
     let before = unfit.clone();
     assert_eq!(unfit.convert(), Ok(()));
     assert_eq!(unfit, before);

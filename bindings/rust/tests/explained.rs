@@ -5,8 +5,8 @@ mod common;
 use common::chance::Chance;
 use jadmirus::explain::{self, Fault};
 use jadmirus::{
-    Address, AliveSet, ColumnType, Joined, Order, Record, Refusal, Sections, Segment, join, sheet,
-    time_order,
+    Address, AliveSet, ColumnType, Joined, Order, Pair, Record, Refusal, Sections, Segment, join,
+    sheet, time_order,
 };
 use std::collections::BTreeSet;
 
@@ -177,6 +177,31 @@ fn recount(s: &mut Sections) {
     }
 }
 
+/// Makes the pairs what they are to be.
+fn find_pairs(s: &mut Sections) {
+    let mut values = &s.values[..];
+    for record in &mut s.records {
+        let width = if record.typ == 6 { 2 } else { 1 };
+        let number = (record.values as usize * width).min(values.len());
+        let own = values.split_off(..number).unwrap();
+        record.pair = pair_of(record.typ, own);
+    }
+}
+
+/// The pair, found by sorting.
+fn pair_of(typ: u32, values: &[u64]) -> Pair {
+    let mut sorted = values.to_vec();
+    match typ {
+        0 => sorted.sort_by_key(|&word| word as i64),
+        1 => sorted.sort(),
+        _ => sorted.clear(),
+    }
+    match (sorted.first(), sorted.last()) {
+        (Some(&least), Some(&greatest)) => Pair::new(least, greatest),
+        _ => Pair::default(),
+    }
+}
+
 /// Changes, adds or removes an element.
 fn damage_list<T: Copy>(chance: &mut Chance, list: &mut Vec<T>, new: T) {
     let place = chance.below(list.len() + 1);
@@ -205,21 +230,23 @@ fn damage(chance: &mut Chance, s: &mut Sections) {
         7 if chance.once_in(2) => s.alive.iter_mut().for_each(|alive| *alive = word),
         7 => damage_list(chance, &mut s.alive, word),
         8 => damage_list(chance, &mut s.addresses, address),
-        _ => damage_record(chance, s, number),
+        _ => damage_record(chance, s, number, word),
     }
 }
 
 /// Changes a record, and mostly the list that it then announces.
-fn damage_record(chance: &mut Chance, s: &mut Sections, number: u32) {
+fn damage_record(chance: &mut Chance, s: &mut Sections, number: u32, word: u64) {
     if s.records.is_empty() {
         return;
     }
     let place = chance.below(s.records.len());
     let last = place + 1 == s.records.len();
     let record = &mut s.records[place];
-    match chance.below(10) {
+    match chance.below(12) {
         0 => record.typ = chance.one_of(&[0, 1, 2, 3, 4, 5, 6, 7, 8, 255]),
         9 => record.alive_rows = number,
+        10 => record.pair = Pair::new(word, record.pair.greatest()),
+        11 => record.pair = Pair::new(record.pair.least(), word),
         1 => record.kind = chance.below(6) as u32,
         2 => record.rows = number,
         3 => record.flag = chance.below(3) as u32,
@@ -261,6 +288,8 @@ fn consistent(joined: &Joined, segments: usize) {
     assert!(filled.eq(rows.filter(|(_, values)| *values > 0)));
     let values = (0..joined.rows()).flat_map(|row| joined.row(row));
     assert_eq!(values.count(), joined.value_count());
+    let typ = joined.column_type().map_or(255, ColumnType::code);
+    assert_eq!(joined.pair(), pair_of(typ, joined.values()));
     // A column without values is dropped from the next join.
     if !joined.values().is_empty() {
         let again = join(&[Segment::from(joined.clone())], Order::Stacked, None).unwrap();
@@ -273,8 +302,8 @@ fn consistent(joined: &Joined, segments: usize) {
             (joined.ids(), joined.offsets())
         );
         assert_eq!(
-            (again.values(), again.terms()),
-            (joined.values(), joined.terms())
+            (again.values(), again.terms(), again.pair()),
+            (joined.values(), joined.terms(), joined.pair())
         );
     }
 }
@@ -291,6 +320,7 @@ fn answers_are_explained() {
     let mut chance = Chance(0x9e37_79b9_7f4a_7c15);
     let (mut met, mut met_converting) = (BTreeSet::new(), BTreeSet::new());
     let (mut met_with_addresses, mut met_marking) = (BTreeSet::new(), BTreeSet::new());
+    let mut untrue_pairs = 0;
     for _ in 0..20_000 {
         let mut sections = call(&mut chance);
         if chance.once_in(4) {
@@ -299,7 +329,11 @@ fn answers_are_explained() {
         for _ in 0..chance.below(3) {
             damage(&mut chance, &mut sections);
         }
-        // Many damages make the number of alive rows wrong, which hides what comes after 6.
+        // Many damages make a pair or the number of alive rows wrong, which hides what comes after
+        // 5 and 6.
+        if chance.once_in(2) {
+            find_pairs(&mut sections);
+        }
         if !chance.once_in(8) {
             recount(&mut sections);
         }
@@ -309,7 +343,11 @@ fn answers_are_explained() {
         {
             consistent(joined, sections.records.len());
         }
-        let join = agreed(explain::join(&sections), joined.err(), &sections);
+        let found = explain::join(&sections);
+        let text = found.as_ref().map_or("", |fault| &fault.text);
+        let names_pair = ["least value", "greatest value"].map(|name| text.contains(name));
+        untrue_pairs += usize::from(names_pair.contains(&true));
+        let join = agreed(found, joined.err(), &sections);
         let times = sections.time_order().err();
         let times = agreed(explain::time_order(&sections), times, &sections);
         met.extend([join, times]);
@@ -325,6 +363,7 @@ fn answers_are_explained() {
         }
         comes_back(&sections);
     }
+    assert!(untrue_pairs > 100, "{untrue_pairs}");
     // 1 needs 257 segments; 8 and 11 need less space than is ever lent.
     for met in [met, met_with_addresses] {
         assert_eq!(Vec::from_iter(met), [0, 2, 3, 4, 5, 6, 7, 9, 10, 12, 19]);
@@ -378,6 +417,7 @@ fn half(addresses: &Sections, place: usize) -> Sections {
         half.required = 1;
     }
     half.values = half.values.into_iter().skip(place).step_by(2).collect();
+    find_pairs(&mut half);
     half
 }
 

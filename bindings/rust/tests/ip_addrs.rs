@@ -81,7 +81,7 @@ fn each_segment_has_its_own_words() {
     assert_eq!(joined.ids(), [0, 2, 7, 9]);
     assert_eq!(joined.offsets(), [0, 2, 3, 4, 5]);
     assert_eq!(joined.values(), [70, 7, 80, 8, 90, 9, 50, 5, 60, 6]);
-    let mixed = "record 6 1 1 0 0 1 0 0 1 record 1 1 1 0 0 1 0 0 1 values 1 2 9";
+    let mixed = "record 6 1 1 0 0 1 0 0 1 0 0 record 1 1 1 0 0 1 0 0 1 9 9 values 1 2 9";
     let [first, second] = ["segment 0 is IpAddr", "segment 1 is U64"];
     let text = format!("types: {first}, {second}, and these can't be one column");
     assert_eq!(told(mixed), (10, text));
@@ -146,22 +146,22 @@ fn never_coerced() {
 fn lengths_in_words() {
     let name = "words of values (an IpAddr has two)";
     let announced = "the segments up to this one announce";
-    let one = "record 6 1 1 0 0 1 0 0 1 values 3";
+    let one = "record 6 1 1 0 0 1 0 0 1 0 0 values 3";
     let text = format!("segment 0, {name}: {announced} 2, and 1 is there");
     assert_eq!(told(one), (2, text));
-    let three = "record 6 1 1 0 0 1 0 0 1 values 3 4 5";
+    let three = "record 6 1 1 0 0 1 0 0 1 0 0 values 3 4 5";
     let text = format!("{name}: the segments announce 2, and 3 are there");
     assert_eq!(told(three), (2, text));
-    let second = "record 1 1 1 0 0 1 0 0 1 record 6 1 2 0 0 2 0 0 2 values 3 4 5 6";
+    let second = "record 1 1 1 0 0 1 0 0 1 0 0 record 6 1 2 0 0 2 0 0 2 0 0 values 3 4 5 6";
     let text = format!("segment 1, {name}: {announced} 5, and 4 are there");
     assert_eq!(told(second), (2, text));
-    let unknown = |words| answers(&format!("record 8 1 1 0 0 1 0 0 1 values {words}"));
+    let unknown = |words| answers(&format!("record 8 1 1 0 0 1 0 0 1 0 0 values {words}"));
     assert_eq!((unknown("3"), unknown("3 4")), ([3, 3], [2, 2]));
     // So many that 32 bits could not count the words.
-    let many = "record 6 1 1 0 0 4294967295 0 0 1 values 3 4";
+    let many = "record 6 1 1 0 0 4294967295 0 0 1 0 0 values 3 4";
     let text = format!("segment 0, {name}: {announced} 8589934590, and 2 are there");
     assert_eq!(told(many), (2, text));
-    let twice = "record 6 1 1 0 0 2147483649 0 0 1 values 3 4";
+    let twice = "record 6 1 1 0 0 2147483649 0 0 1 0 0 values 3 4";
     assert_eq!(answers(twice), [2, 2]);
 }
 
@@ -335,7 +335,7 @@ fn converted_segments() {
     assert_eq!(mixed.convert(), Ok(()));
     assert_eq!((mixed.ids, mixed.offsets), (vec![1], vec![0, 2]));
     assert_eq!((mixed.records[1].kind, mixed.values), (4, values));
-    let mut short = sections("record 6 3 1 0 2 1 0 0 1 offsets 0 1 values 3");
+    let mut short = sections("record 6 3 1 0 2 1 0 0 1 0 0 offsets 0 1 values 3");
     assert_eq!(short.convert(), Err(Refusal::Lengths));
 }
 
@@ -368,7 +368,7 @@ fn wire_form() {
     sections(call).write_wire(&mut wire).unwrap();
     let words = [
         &[2, 1, 6][..],
-        &[1, 6, 4, 2, 1, 2, 2, 0, 0, 2],
+        &[1, 6, 4, 2, 1, 2, 2, 0, 0, 2, 0, 0],
         &[1, 1],
         &[2, 0, 2],
         &[4, 3, 4, 1, 2],

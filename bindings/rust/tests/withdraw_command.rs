@@ -106,6 +106,20 @@ fn alive_words_and_numbers() {
     assert_eq!(sheet, plays("alive-rows 1 withdrawn 0 2"));
 }
 
+/// A pair that is given stays, in a sheet and in a wire form, true or not.
+#[test]
+fn least_and_greatest_stay() {
+    for pair in ["least 0x1 greatest 3", "greatest 18446744073709551615"] {
+        let sheet = |withdrawn: &str| plays(&format!("withdrawn{withdrawn} {pair}"));
+        let words = ["withdraw", "-", "1", "2", "0"];
+        let (before, after) = (sheet(" 1"), sheet(" 0 1 2"));
+        assert_eq!(marked_sheet(&words, &before).0, after);
+        let [before, after] =
+            [before, after].map(|sheet| jadmirus(&["encode", "-"], sheet.as_bytes()).stdout);
+        assert_eq!(marked(&words, &before).0, after);
+    }
+}
+
 #[test]
 fn wire_forms() {
     let encode = |sheet: &str| jadmirus(&["encode", "-"], sheet.as_bytes()).stdout;
@@ -129,7 +143,7 @@ fn wire_forms() {
 fn refusals() {
     let cases = [
         (
-            "record 255 0 65 0 0 0 0 1 0 alive 0",
+            "record 255 0 65 0 0 0 0 1 0 0 0 alive 0",
             "0 0",
             "2 (lengths): ",
             "segment 0, alive words: the segments up to this one announce 2, and 1 is there",

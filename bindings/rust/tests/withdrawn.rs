@@ -128,7 +128,7 @@ fn rows_of_sections() {
     assert_eq!(after, before);
     assert_eq!(after.withdraw_rows(2, &[0]), Err(Refusal::AliveSet));
     assert_eq!(after.withdraw_rows(3, &[0]), Err(Refusal::NoAliveSet));
-    let mut unfit = sections("record 1 1 2 0 0 2 0 1 2 alive 3");
+    let mut unfit = sections("record 1 1 2 0 0 2 0 1 2 0 0 alive 3");
     assert_eq!(unfit.withdraw_rows(0, &[1]), Ok(1));
     assert_eq!(
         (unfit.records[0].alive_rows, &unfit.alive[..]),
@@ -149,14 +149,14 @@ fn refusals_in_words() {
     let cases: [(u32, &str, usize, &[u32], &str); 10] = [
         (
             2,
-            "record 255 0 65 0 0 0 0 1 0 alive 0",
+            "record 255 0 65 0 0 0 0 1 0 0 0 alive 0",
             0,
             &[70],
             "segment 0, alive words: the segments up to this one announce 2, and 1 is there",
         ),
         (
             2,
-            "record 255 0 3 0 0 0 0 2 3 alive 7",
+            "record 255 0 3 0 0 0 0 2 3 0 0 alive 7",
             0,
             &[1],
             "alive words: the segments announce 0, and 1 is there",
@@ -362,7 +362,10 @@ fn numbers_in_sheets() {
     let stated = sections("segment rows 3 withdrawn 1 alive-rows 2");
     assert!(!text(&stated).contains("alive-rows"));
     assert!(text(&sections(wrong)).contains("\nrows 3\nalive-rows 2\n"));
-    assert!(text(&sections("record 1 1 2 0 0 2 0 0 9")).contains("\nrecord 1 1 2 0 0 2 0 0 9\n"));
+    assert!(
+        text(&sections("record 1 1 2 0 0 2 0 0 9 0 0"))
+            .contains("\nrecord 1 1 2 0 0 2 0 0 9 0 0\n")
+    );
 }
 
 /// The ninth number of a record, 32 bits wide.
@@ -372,7 +375,7 @@ fn numbers_in_wire_forms() {
     let mut wire = Vec::new();
     sections.write_wire(&mut wire).unwrap();
     let word = |place: usize| u64::from_le_bytes(wire[8 * place..][..8].try_into().unwrap());
-    assert_eq!((word(12), word(21)), (4294967295, 1));
+    assert_eq!((word(12), word(23)), (4294967295, 1));
     assert_eq!(Sections::read_wire(&wire[..]).unwrap(), sections);
     wire[8 * 12..][..8].copy_from_slice(&(1u64 << 32).to_le_bytes());
     assert!(matches!(

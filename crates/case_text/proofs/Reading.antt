@@ -1,11 +1,12 @@
 -- What the readers carry on from one turn of their loops to the next. Assumes nothing.
 use mathlib.Core.Path.{_≡_, refl, sym, ap, _∙_}
-use mathlib.Core.List.{List, [], _∷_}
-use Prim.Native.Nat.{ℕ, suc, _+_, _-_, _*_, _≤_, _<_, zero-le}
+use mathlib.Core.List.{List, [], _∷_, _++_, append-nil, append-assoc}
+use Prim.Native.Nat.{ℕ, zero, suc, _+_, _-_, _*_, _≤_, _<_, zero-le}
+use native.Mathlib.Nat.{zero-add}
 use native.Mathlib.Numerals.{add-one}
 use native.Mathlib.Omega.{arith}
-use lib.ListN.{length, drop, getD, set, drop-of-length-le, length-set}
-use lib.Seq.{drop-cons}
+use lib.ListN.{length, take, drop, getD, set, drop-of-length-le, length-set}
+use lib.Seq.{drop-cons, take-length, take-suc-set}
 use borrow.Author.Tests.{eq-eqb, ne-eqb, lt-ltb, le-ltb}
 use Rattle.case_text.specs.Counts.{Counts}
 use Rattle.case_text.specs.Text.{capAt, digitOf, skipFrom, digitsFrom, numberIn, readFrom, placeAfter, fillFrom, cappedIn, rowIn, Listed}
@@ -137,3 +138,27 @@ pub row-more : (text : List ℕ) (at k : ℕ) {x at′ end : ℕ} {xs : List ℕ
 unfolding rowIn readFrom placeAfter
 row-more text at k {x} {at′} {end} {xs} e q =
     ap (λ (p : List ℕ × ℕ). (x ∷ p .0, p .1)) q ∙ ap (λ (p : ℕ × ℕ). (p .0 ∷ rowIn k text (p .1) .0, rowIn k text (p .1) .1)) e
+
+-- a list that is written over whole
+fill-all : {A : Type 0} (i : ℕ) (xs out : List A) → i + length xs ≡ length out → fillFrom i xs out ≡ take i out ++ xs
+unfolding fillFrom
+fill-all i [] out e = sym (append-nil (take i out) ∙ (let k : i ≡ length out = omega arith in ap (λ (n : ℕ). take n out) k ∙ take-length out))
+fill-all i (x ∷ xs) out e =
+    fill-all (suc i) xs (set out i x) (rw (length-set out i x) (omega arith))
+    ∙ ap (λ (l : List _). l ++ xs) (take-suc-set out i x (omega arith))
+    ∙ append-assoc (take i out) (x ∷ []) xs
+
+read-many : {A : Type 0} (f : ℕ → A × ℕ) (n at : ℕ) → length (readFrom f n at) ≡ n
+unfolding readFrom
+read-many f zero at = refl
+read-many f (suc n) at = ap suc (read-many f n (f at .1))
+
+-- a row, from a walk that writes over all of it
+pub reading-row : (n : ℕ) (text : List ℕ) (from : ℕ) (out₀ : List ℕ) → length out₀ ≡ n → {out : List ℕ} {at i : ℕ} → Reading (cappedIn 4294967295 text) n from out₀ out at i → n ≤ i → (out, at) ≡ rowIn n text from
+unfolding rowIn readFrom placeAfter fillFrom
+reading-row n text from out₀ e {out} {at} {i} r h =
+    let f = cappedIn 4294967295 text in
+    let z : n - i ≡ 0 = omega arith in
+    let w = ap (λ (m : ℕ). fillFrom i (readFrom f m at) out) (sym z) ∙ r .written ∙ fill-all 0 (readFrom f n from) out₀ (zero-add (length (readFrom f n from)) ∙ read-many f n from ∙ sym e) in
+    let b = ap (λ (m : ℕ). placeAfter f m at) (sym z) ∙ r .behind in
+    λ j. (w j, b j)

@@ -4,7 +4,7 @@ ghost use mathlib.Core.Path.{_≡_};
 ghost use Rattle.case_text.specs.Counts.{Counts};
 ghost use Rattle.case_text.specs.Text.{capAt, digitOf, skipFrom, numberIn, cappedIn, rowIn, Listed};
 ghost use lib.ListN.{drop};
-ghost use Rattle.definitions.specs.Segment.{recordWidth};
+ghost use Rattle.segment.specs.Records.{rowWidth};
 ghost use Prim.Native.Nat.{_≤_};
 
 // A number, and the place behind it.
@@ -164,38 +164,24 @@ pub fn read_bytes(text: &[u8], from: usize, out: &mut [u8]) -> Part
 }
 
 fn read_record(text: &[u8], from: usize) -> RecordAt
-    ensures { λ r. ⌜ (r .record, r .at) ≡ rowIn recordWidth (now (text .entry)) from ⌝ }
+    ensures { λ r. ⌜ (r .record, r .at) ≡ rowIn rowWidth (now (text .entry)) from ⌝ }
 {
-    let a = number(text, from);
-    let b = number(text, a.at);
-    let c = number(text, b.at);
-    let d = number(text, c.at);
-    let e = number(text, d.at);
-    let f = number(text, e.at);
-    let g = number(text, f.at);
-    let h = number(text, g.at);
-    let i = number(text, h.at);
-    let r = [
-        narrow(a.value),
-        narrow(b.value),
-        narrow(c.value),
-        narrow(d.value),
-        narrow(e.value),
-        narrow(f.value),
-        narrow(g.value),
-        narrow(h.value),
-        narrow(i.value),
-    ];
-    RecordAt {
-        record: r,
-        at: i.at,
+    let mut r = [0u32; segment::WIDTH];
+    let mut at = from;
+    let mut i: usize = 0;
+    while i < segment::WIDTH {
+        let x = number(text, at);
+        r[i] = narrow(x.value);
+        at = x.at;
+        i += 1;
     }
+    RecordAt { record: r, at: at }
 }
 
 // Segment records, counted whole.
 pub fn read_records(text: &[u8], from: usize, out: &mut [segment::RecordNumbers]) -> Part
     ensures { λ r. ⌜ Counts (r .count) (now (out .exit)) ⌝ }
-    ensures { λ r. ⌜ Listed (rowIn recordWidth (now (text .entry))) (now (text .entry)) from (now (out .entry)) (r .count) (r .at) (now (out .exit)) ⌝ }
+    ensures { λ r. ⌜ Listed (rowIn rowWidth (now (text .entry))) (now (text .entry)) from (now (out .entry)) (r .count) (r .at) (now (out .exit)) ⌝ }
 {
     let c = number(text, from);
     let n = capped(c.value, out.len());

@@ -28,6 +28,8 @@ fn put_accepted(n: merge::Numbers) {
     case_lines::put(n.bytes as u64);
     case_lines::put(n.map as u64);
     case_lines::put_named(b", copied", n.copied as u64);
+    case_lines::put_named(b", pair", n.least);
+    case_lines::put(n.greatest);
 }
 
 fn put_answer(a: merge::Answer) {
@@ -56,6 +58,8 @@ fn put_record(name: &[u8], r: segment::Record) {
     case_lines::put(r.terms as u64);
     case_lines::put(r.flag as u64);
     case_lines::put(r.alive as u64);
+    case_lines::put(r.least);
+    case_lines::put(r.greatest);
 }
 
 fn put_converted(a: convert::ConvertAnswer) {

@@ -4,19 +4,18 @@ use native.Mathlib.Nat.{le-refl, le-of-suc-le-suc, not-suc-le-zero}
 use native.Mathlib.Omega.{arith}
 use mathlib.Core.Path.{_≡_, refl, sym, ap, ap₂, _∙_, subst}
 use mathlib.Core.List.{List, [], _∷_, map}
-use mathlib.Core.Bool.{Bool, true, false, cond, not, _&&_, _||_}
+use mathlib.Core.Bool.{Bool, true, false, cond}
 use lib.ListN.{length, getD, drop, length-drop}
-use lib.Dec.{T, eqb, ltb, leb}
-use lib.Ieee.Fits.{and-l, and-r}
-use Rattle.definitions.specs.Lists.{sum, all, concat, filter, isEmpty, termsAscending}
+use lib.Dec.{T}
+use Rattle.definitions.specs.Lists.{sum, concat, filter, termsAscending}
 use Rattle.definitions.specs.Segment.{Segment, cut}
 use Rattle.definitions.specs.Words.{wordsPerValue, valuesIn}
 use Rattle.definitions.specs.Row.{noType, isHeld, asEmpty, effective, heldOf}
-use Rattle.definitions.specs.Types.{hasTerms, BoolType}
 use Rattle.definitions.specs.Class.{classOf, greatestClass}
 use Rattle.definitions.specs.Join.{absent}
 use Rattle.definitions.specs.Answer.{sumOver, greatestSum, indexFits, valuesFit, termsIn, bytesIn}
 use Rattle.definitions.proofs.Cell.{effective-rows, effective-fits}
+use Rattle.definitions.proofs.Fit.{fit-values}
 use Rattle.definitions.proofs.Sections.{cut-length}
 use Rattle.lists.specs.Sums.{sumBelow}
 use Rattle.lists.proofs.Sums.{below-shift, below-same}
@@ -36,12 +35,7 @@ use Rattle.census.proofs.Settled.{settled-length, tally-is}
 
 -- the terms of a segment that has passed check 5
 pub ascends : (s : Segment) → T (valuesFit s) → T (termsAscending (s .terms))
-unfolding valuesFit
-ascends s fit =
-    and-r ((not (eqb (s .type) BoolType) || all (λ w. leb w 1) (s .values)) && (not (hasTerms (s .type)) || all (λ w. ltb w (length (s .terms))) (s .values))) (termsAscending (s .terms))
-    (and-l
-    (((not (eqb (s .type) BoolType) || all (λ w. leb w 1) (s .values)) && (not (hasTerms (s .type)) || all (λ w. ltb w (length (s .terms))) (s .values))) && termsAscending (s .terms))
-    (isEmpty (s .terms) || (hasTerms (s .type) && not (eqb (s .kind) 0))) fit)
+ascends s fit = fit-values s fit .ascending
 
 -- ---- before the segments are settled
 
@@ -77,6 +71,7 @@ kept-stands m w st =
       rows = st .rows;
       flag = st .flag;
       live = st .live;
+      pair = st .pair;
       ids-are = st .ids-are;
       offsets-are = st .offsets-are;
       values-are = st .values-are;
@@ -102,6 +97,7 @@ dropped-stands {p} {ids} {offsets} {values} m w st =
       rows = st .rows;
       flag = st .flag;
       live = st .live;
+      pair = refl;
       ids-are = none-run (p .ids .from) ids;
       offsets-are = none-run (p .offsets .from) offsets;
       values-are = ap (valuesIn noType) (none-run (p .values .from) values);

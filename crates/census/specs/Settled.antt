@@ -38,6 +38,8 @@ kept p m w =
       alive = p .alive;
       map = span m (many (p .terms));
       live = p .live;
+      least = p .least;
+      greatest = p .greatest;
     }
 
 -- one that is not held is Empty and has no runs
@@ -60,6 +62,8 @@ dropped p m w =
       alive = p .alive;
       map = record { from = m; to = m };
       live = p .live;
+      least = 0;
+      greatest = 0;
     }
 
 unfoldable pub settled : Stand → Census → ℕ → Span → Stand

@@ -235,6 +235,8 @@ fn dropped_at(p: Stand, map: usize, text: Span) -> Stand
     q.text.to = text.to;
     q.map.from = map;
     q.map.to = map;
+    q.least = 0;
+    q.greatest = 0;
     q
 }
 

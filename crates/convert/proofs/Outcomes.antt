@@ -9,7 +9,7 @@ use lib.ListN.{length, take}
 use lib.Seq.{length-take-le}
 use lib.Dec.{T, ltb}
 use borrow.Author.Tests.{eq-eqb, ne-eqb, lt-ltb, le-ltb, not-false}
-use Rattle.definitions.specs.Segment.{Sections, firstSegment, recordOf}
+use Rattle.definitions.specs.Segment.{pair, Sections, firstSegment, recordOf}
 use Rattle.definitions.specs.Checks.{check, firstOf, Passed}
 use Rattle.definitions.specs.Answer.{listsFit}
 use Rattle.definitions.specs.Outcome.{written}
@@ -144,6 +144,7 @@ module _ (r : Record) (ids offsets values lengths bytes alive outIds outOffsets 
                 terms = (cut-length (take (r .terms) lengths) bytes ∙ length-take-le (r .terms) lengths (let x = runs .terms in omega arith)) i;
                 flag = r .flag;
                 aliveCount = r .alive;
+                pair = pair (r .least) (r .greatest);
               }
 
           pub converts : {a : Record} {newIds newOffsets : List ℕ} → a ≡ renewedRecord r n → newIds ≡ put 0 (risenIds 0 offsets) outIds → newOffsets ≡ put 0 (0 ∷ risenEnds offsets) outOffsets

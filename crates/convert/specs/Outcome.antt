@@ -22,4 +22,4 @@ outcomeOf a ids offsets = record { answer = answerOf a; ids = ids; offsets = off
 
 -- the record of kind 4 with n ids; all else stays
 abbrev pub renewedRecord : Record → ℕ → Record
-renewedRecord r n = record { typ = r .typ; kind = 4; rows = r .rows; ids = n; offsets = n + 1; values = r .values; terms = r .terms; flag = r .flag; alive = r .alive }
+renewedRecord r n = record { typ = r .typ; kind = 4; rows = r .rows; ids = n; offsets = n + 1; values = r .values; terms = r .terms; flag = r .flag; alive = r .alive; least = r .least; greatest = r .greatest }

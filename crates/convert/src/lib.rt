@@ -260,6 +260,8 @@ fn renewed_record(r: segment::Record, n: usize) -> segment::Record
         terms: r.terms,
         flag: r.flag,
         alive: r.alive,
+        least: r.least,
+        greatest: r.greatest,
     }
 }
 

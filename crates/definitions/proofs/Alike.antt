@@ -6,16 +6,16 @@ use mathlib.Core.Bool.{Bool, true, false, not, cond, _||_, _&&_, false≢true, t
 use lib.ListN.{getD}
 use lib.Dec.{eqb, ltb}
 use Rattle.definitions.specs.Lists.{upTo, all, any, filter, concat, sortTerms}
-use Rattle.definitions.specs.Segment.{Segment, Address}
+use Rattle.definitions.specs.Segment.{Segment, Pair, Address}
 use Rattle.definitions.specs.Row.{isHeld, heldOf, effective, noType}
-use Rattle.definitions.specs.Types.{I64, U64, F64, greatestI64, isNegative, hasType, everyValue, onlyType, numericalType, heldType, typeOf}
+use Rattle.definitions.specs.Types.{I64, U64, F64, greatestI64, isNegative, hasType, everyPair, onlyType, numericalType, heldType, typeOf}
 use Rattle.definitions.specs.Class.{classOf, greatestClass}
 use Rattle.definitions.specs.Join.{absent, stackedFrom, rowOrder, keptTerms, termsOf, ordinalOf, mapOf, cellOf, encode, joinedType, joinedClass, joinedCells, joinedColumn, joinRules}
 
 pub record Alike (s t : Segment) : Type 0 where
   pub type : s .type ≡ t .type
   pub rows : s .rows ≡ t .rows
-  pub values : s .values ≡ t .values
+  pub pair : s .pair ≡ t .pair
   pub terms : s .terms ≡ t .terms
   pub held : isHeld s ≡ isHeld t
   pub class : classOf (effective s) ≡ classOf (effective t)
@@ -24,7 +24,7 @@ pub record Alike (s t : Segment) : Type 0 where
 
 pub alike-self : (s : Segment) → Alike s s
 alike-self s =
-    record { type = refl; rows = refl; values = refl; terms = refl; held = refl; class = refl; kept = refl; cell = λ type terms r. refl }
+    record { type = refl; rows = refl; pair = refl; terms = refl; held = refl; class = refl; kept = refl; cell = λ type terms r. refl }
 
 pub data AllAlike : List Segment → List Segment → Type 0 where
   none : AllAlike [] []
@@ -44,20 +44,20 @@ held-alike (some {s} {t} {ss} {ts} a l) = go (isHeld s) (isHeld t) (a .held) (he
 
 -- ---- the joined type
 
-all-alike : (p : ℕ → List ℕ → Bool) {ss ts : List Segment} → AllAlike ss ts → all (λ s. p (s .type) (s .values)) ss ≡ all (λ s. p (s .type) (s .values)) ts
+all-alike : (p : ℕ → Pair → Bool) {ss ts : List Segment} → AllAlike ss ts → all (λ s. p (s .type) (s .pair)) ss ≡ all (λ s. p (s .type) (s .pair)) ts
 all-alike p none = refl
-all-alike p (some a l) = ap₂ _&&_ (ap₂ p (a .type) (a .values)) (all-alike p l)
+all-alike p (some a l) = ap₂ _&&_ (ap₂ p (a .type) (a .pair)) (all-alike p l)
 
 any-alike : (p : ℕ → Bool) {ss ts : List Segment} → AllAlike ss ts → any (λ s. p (s .type)) ss ≡ any (λ s. p (s .type)) ts
 any-alike p none = refl
 any-alike p (some a l) = ap₂ _||_ (ap p (a .type)) (any-alike p l)
 
 numerical-alike : {ss ts : List Segment} → AllAlike ss ts → numericalType ss ≡ numericalType ts
-unfolding numericalType hasType everyValue
+unfolding numericalType hasType everyPair
 numerical-alike {ss} {ts} l =
     λ i.
-    cond (not (any-alike (λ t. eqb t F64) l i) && all-alike (λ t v. not (eqb t U64) || all (λ w. ltb w greatestI64) v) l i) I64
-    (cond (not (any-alike (λ t. eqb t F64) l i) && all-alike (λ t v. not (eqb t I64) || all (λ w. not (isNegative w)) v) l i) U64 F64)
+    cond (not (any-alike (λ t. eqb t F64) l i) && all-alike (λ t p. not (eqb t U64) || ltb (p .greatest) greatestI64) l i) I64
+    (cond (not (any-alike (λ t. eqb t F64) l i) && all-alike (λ t p. not (eqb t I64) || not (isNegative (p .least))) l i) U64 F64)
 
 type-alike : {ss ts : List Segment} → AllAlike ss ts → heldType ss ≡ heldType ts
 unfolding onlyType
@@ -66,7 +66,7 @@ type-alike (some {s} {t} {ss} {ts} a l) =
     λ i. cond (only (a .type i) i) (a .type i) (numerical-alike (some a l) i)
   where
     only : (u : ℕ) → all (λ s. eqb (s .type) u) ss ≡ all (λ s. eqb (s .type) u) ts
-    only u = all-alike (λ t v. eqb t u) l
+    only u = all-alike (λ t p. eqb t u) l
 
 -- ---- class, terms, map, rows
 

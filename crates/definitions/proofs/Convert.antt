@@ -18,7 +18,7 @@ use Rattle.definitions.specs.Row.{rank, oneAt, between, ifListed, rowVal
 use Rattle.definitions.specs.Types.{isKnownType, hasTerms, BoolType}
 use Rattle.definitions.specs.Class.{rowClass, kindClass, aliveClass, classOf}
 use Rattle.definitions.specs.Join.{idsFrom, totalsFrom, isUsed, keptTerms, newWord, cellOf, joinRules}
-use Rattle.definitions.specs.Answer.{lengthsWrong, codesKnown, isOld, idsFit, offsetsFit, emptyFits, fullFits, optionalFits, oldFits, newFits, listsFit, valuesFit, bitPastRows, aliveSetWrong}
+use Rattle.definitions.specs.Answer.{lengthsWrong, codesKnown, isOld, idsFit, offsetsFit, emptyFits, fullFits, optionalFits, oldFits, newFits, listsFit, pairFits, valuesFit, bitPastRows, aliveSetWrong}
 use Rattle.definitions.specs.Convert.{rowCells, converted, ConvertInput, oldSegment, isConvertible, convertChecks, convertAnswer}
 use Rattle.definitions.proofs.Lists.{and3, and4, up-length, up-at}
 use Rattle.definitions.proofs.Sections.{cut-length, values-many}
@@ -165,13 +165,14 @@ module _ (s : Segment) (old : s .kind ≡ 3) (fit : T (listsFit s)) where
   converted-codes = ap (λ (k : ℕ). isKnownType (s .type) && ltb k 5 && ltb (s .flag) 2) (sym old)
 
   pub converted-values : valuesFit (converted s) ≡ valuesFit s
-  unfolding valuesFit converted
+  unfolding valuesFit pairFits converted
   converted-values =
       ap (λ (k : ℕ).
       (not (eqb (s .type) BoolType) || all (λ w. leb w 1) (s .values))
       && (not (hasTerms (s .type)) || all (λ w. ltb w (length (s .terms))) (s .values))
       && termsAscending (s .terms)
-      && (isEmpty (s .terms) || (hasTerms (s .type) && not (eqb k 0))))
+      && (isEmpty (s .terms) || (hasTerms (s .type) && not (eqb k 0)))
+      && pairFits s)
       (sym old)
 
   pub converted-alive : aliveSetWrong (converted s) ≡ aliveSetWrong s
@@ -233,7 +234,7 @@ module _ (s : Segment) (old : s .kind ≡ 3) (fit : T (listsFit s)) where
       record {
         type = refl;
         rows = refl;
-        values = refl;
+        pair = refl;
         terms = refl;
         held = converted-held;
         class = effective-class;
@@ -359,6 +360,7 @@ left-segment i e =
       terms = terms-again j;
       flag = i .given .flag;
       aliveCount = i .given .aliveCount;
+      pair = i .given .pair;
       alive = take (aliveWords (i .given)) (i .sections .alive);
     })
   where

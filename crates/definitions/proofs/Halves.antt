@@ -12,7 +12,7 @@ use Rattle.definitions.specs.Lists.{upTo, any, all, concat, isEmpty, ele
 use Rattle.definitions.specs.Words.{IpAddr, halves, valueWords}
 use Rattle.definitions.specs.Segment.{Segment, Address, byKind}
 use Rattle.definitions.specs.Row.{rank, oneAt, between, ifListed, rowValues, hasValue, hasAliveSet, isAlive, aliveRows, isPresent, isDropped, isHeld, heldOf, asEmpty, effective, noType}
-use Rattle.definitions.specs.Types.{U64, F64, hasTerms, doubleOf, integerOf, coerced}
+use Rattle.definitions.specs.Types.{U64, F64, hasTerms, pairOf, doubleOf, integerOf, coerced}
 use Rattle.definitions.specs.Class.{kindClass, rowClass, aliveClass, classOf, greatestClass}
 use Rattle.definitions.specs.Join.{Joined, absent, stackedFrom, rowsOf, rowOrder, isUsed, keptTerms, termsOf, ordinalOf, mapOf, newWord, cellOf, cellAt, idsFrom, totalsFrom, encode, joinedType, joinedClass, joinedCells, joinedColumn, joinRules}
 use Rattle.definitions.proofs.Lists.{getD-all}
@@ -22,7 +22,7 @@ use Rattle.definitions.proofs.Summary.{OfType, joined-type}
 abbrev pub halfType : ℕ → ℕ
 halfType t = cond (eqb t noType) noType U64
 
--- the segment of one word of each address
+-- the segment of one word of each address, with the pair of these words
 abbrev pub halfOf : (ℕ → ℕ) → Segment → Segment
 halfOf f s =
     record {
@@ -35,6 +35,7 @@ halfOf f s =
       terms = s .terms;
       flag = s .flag;
       aliveCount = s .aliveCount;
+      pair = pairOf (halfType (s .type)) (map f (s .values));
       alive = s .alive;
     }
 
@@ -51,6 +52,7 @@ halfJoined f j =
             offsets = j .column .offsets;
             values = map f (j .column .values);
             terms = j .column .terms;
+            pair = pairOf (halfType (j .column .type)) (map f (j .column .values));
           };
       map = j .map;
     }
@@ -137,7 +139,7 @@ module _ (f : ℕ → ℕ) where
   held-half s = ap₂ (λ (p d : Bool). p && not d) (present-half s) (dropped-half s)
 
   effective-half : (s : Segment) → effective (halfOf f s) ≡ halfOf f (effective s)
-  unfolding effective asEmpty
+  unfolding effective asEmpty pairOf
   effective-half s = ap (λ (b : Bool). cond b (halfOf f s) (asEmpty s)) (held-half s) ∙ go (isHeld s)
     where
       go : (b : Bool) → cond b (halfOf f s) (asEmpty s) ≡ halfOf f (cond b s (asEmpty s))
@@ -303,6 +305,7 @@ module _ (required : ℕ) (ss : List Segment) (only : T (eqb required noType || 
         ∙ ap (map f) (sym (cell-stays u y s r e h))
 
     at-half : (a : Address) → cellAt (joinedType (halfType required) words) (termsOf words) words a ≡ map f (cellAt type (termsOf ss) ss a)
+    unfolding pairOf
     at-half a =
         (λ i. cellOf (type-half i) (termsOf words) (List·getD-map (halfOf f) ss (a .segment) absent i) (a .row))
         ∙ cell-half type (termsOf words) (termsOf ss) (getD ss (a .segment) absent) (a .row) no-doubles
@@ -343,6 +346,7 @@ module _ (required : ℕ) (ss : List Segment) (only : T (eqb required noType || 
                 offsets = cond (eqb (class-same i) 2) (0 ∷ (ap (totalsFrom 0) e ∙ totals-half f 0 cells) i) [];
                 values = (ap concat e ∙ concat-half f cells) i;
                 terms = (terms-none words (bare-half ss bare) ∙ sym (terms-none ss bare)) i;
+                pair = pairOf (type-half i) ((ap concat e ∙ concat-half f cells) i);
               };
           map = (map-none words (bare-half ss bare) ∙ sym (map-none ss bare)) i;
         }

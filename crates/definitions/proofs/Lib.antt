@@ -3,6 +3,7 @@ pub mod Slices
 pub mod Bits
 pub mod Decode
 pub mod Words
+pub mod Least
 pub mod Sections
 pub mod Outcome
 pub mod Terms
@@ -17,6 +18,7 @@ pub mod Entry
 pub mod Turn
 pub mod Demand
 pub mod Alike
+pub mod Pairs
 pub mod Halves
 pub mod Convert
 pub mod Double

@@ -38,6 +38,7 @@ read-back j b =
       offsets = take-append-seam (j .column .offsets) (drop (length (j .column .offsets)) (b .offsets)) i;
       values = values-first (j .column .type) (j .column .values) (drop (length (valueWords (j .column .type) (j .column .values))) (b .values)) i;
       terms = terms-back (j .column .terms) (b .termLengths) (b .termBytes) i;
+      pair = j .column .pair;
     }
 
 -- its number is the table's

@@ -54,6 +54,7 @@ first-back s ss h =
       terms = terms-first (s .terms) (concat (map (λ (t : Segment). t .terms) ss)) i;
       flag = s .flag;
       aliveCount = s .aliveCount;
+      pair = s .pair;
       alive = take-at (s .alive) (concat (map (λ (t : Segment). t .alive) ss)) (aliveWords (recordOf s)) (alive-length s h) i;
     }
 

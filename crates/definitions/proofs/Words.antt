@@ -10,6 +10,7 @@ use lib.Seq.{slice, take-at, take-nil, drop-nil, getD-drop}
 use lib.Dec.{eqb}
 use borrow.Author.Tests.{eqb-true}
 use Rattle.definitions.specs.Words.{IpAddr, wordsPerValue, ipAddrOf, halves, paired, valueWords, valuesIn}
+use Rattle.definitions.specs.Segment.{Pair}
 use Rattle.definitions.specs.Types.{isNumerical, hasTerms, isCoercible}
 
 -- each is a 64-bit word, as in lent memory
@@ -112,22 +113,22 @@ unseen test blind type ws = go (eqb type IpAddr) refl
     go false e = ap (test type) (values-plain type e ws)
 
 -- nothing but an address becomes one, and it becomes nothing else
-pub address-becomes : (u : ℕ) (vs : List ℕ) → isCoercible IpAddr u vs ≡ eqb IpAddr u
+pub address-becomes : (u : ℕ) (p : Pair) → isCoercible IpAddr u p ≡ eqb IpAddr u
 unfolding isCoercible isNumerical
-address-becomes u vs = simp (and-false, or-false)
+address-becomes u p = simp (and-false, or-false)
 
-pub becomes-alike : (t u : ℕ) (vs : List ℕ) → isCoercible t u vs ≡ true → eqb t IpAddr ≡ eqb u IpAddr
+pub becomes-alike : (t u : ℕ) (r : Pair) → isCoercible t u r ≡ true → eqb t IpAddr ≡ eqb u IpAddr
 unfolding isCoercible
-becomes-alike t u vs h = go (eqb t IpAddr) (eqb u IpAddr) refl refl
+becomes-alike t u r h = go (eqb t IpAddr) (eqb u IpAddr) refl refl
   where
     go : (a b : Bool) → eqb t IpAddr ≡ a → eqb u IpAddr ≡ b → a ≡ b
     go true true p q = refl
     go false false p q = refl
     go true false p q =
-        let e : isCoercible IpAddr u vs ≡ true = subst (λ (n : ℕ). isCoercible n u vs ≡ true) (eqb-true t IpAddr p) h in
-        ap (λ (n : ℕ). eqb n IpAddr) (eqb-true IpAddr u (sym (address-becomes u vs) ∙ e)) ∙ q
+        let e : isCoercible IpAddr u r ≡ true = subst (λ (n : ℕ). isCoercible n u r ≡ true) (eqb-true t IpAddr p) h in
+        ap (λ (n : ℕ). eqb n IpAddr) (eqb-true IpAddr u (sym (address-becomes u r) ∙ e)) ∙ q
     go false true p q =
-        let e : isCoercible t IpAddr vs ≡ true = subst (λ (n : ℕ). isCoercible t n vs ≡ true) (eqb-true u IpAddr q) h in
+        let e : isCoercible t IpAddr r ≡ true = subst (λ (n : ℕ). isCoercible t n r ≡ true) (eqb-true u IpAddr q) h in
         sym p ∙ (simp or-false at e)
 
 either-none : (b : Bool) → cond {A = List ℕ} b [] [] ≡ []

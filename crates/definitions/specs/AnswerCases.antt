@@ -10,7 +10,7 @@ use Rattle.definitions.specs.Segment.{Segment, address as at}
 use Rattle.definitions.specs.Answer.{sumsTooLarge}
 use Rattle.definitions.specs.Outcome.{Buffers, Lent, lentOf, numberOf}
 use Rattle.definitions.specs.Book.{lentTo}
-use Rattle.definitions.specs.Sheet.{plain, withAlive, counted, none, full, one, str, dropped, a, b, five, oldFive, nine, memory, call, stacked, inOrder, lending, outcomeOf}
+use Rattle.definitions.specs.Sheet.{plain, withAlive, counted, none, full, one, str, dropped, a, b, five, oldFive, nine, numbered, memory, call, stacked, inOrder, lending, outcomeOf}
 
 -- ---- how the tables are written
 
@@ -44,7 +44,7 @@ segmentCases-hold = refl
 -- one record, Str kind 4 of 2 rows: 2 ids, 3 offsets, 3 values, 1 term, the flag as given, 2 alive rows; then the sections
 abbrev laid : ℕ → List ℕ → List ℕ → List ℕ → List ℕ → List ℕ → List ℕ → Lent
 laid flag ids offsets values termLengths termBytes alive =
-    lentOf 1 255 ((4 ∷ 4 ∷ 2 ∷ 2 ∷ 3 ∷ 3 ∷ 1 ∷ flag ∷ 2 ∷ []) ∷ []) ids offsets values termLengths termBytes alive ((0 ∷ 0 ∷ []) ∷ (0 ∷ 1 ∷ []) ∷ []) (memory 12 12)
+    lentOf 1 255 (numbered ((4 ∷ 4 ∷ 2 ∷ 2 ∷ 3 ∷ 3 ∷ 1 ∷ flag ∷ 2 ∷ 0 ∷ 0 ∷ []) ∷ [])) ids offsets values termLengths termBytes alive ((0 ∷ 0 ∷ []) ∷ (0 ∷ 1 ∷ []) ∷ []) (memory 12 12)
 
 lengthCases : List AnswerCase
 lengthCases =
@@ -95,7 +95,7 @@ codeCases =
     -- an unknown type, kind and flag, in the second segment
     ∷ gives 3 (stacked 255 (one 1 5 ∷ full 8 [] ∷ []))
     ∷ gives 3 (stacked 255 (one 1 5 ∷ plain 1 5 0 [] (0 ∷ []) [] [] ∷ []))
-    ∷ gives 3 (lentOf 0 255 ((255 ∷ 0 ∷ 1 ∷ 0 ∷ 0 ∷ 0 ∷ 0 ∷ 0 ∷ 1 ∷ []) ∷ (255 ∷ 0 ∷ 1 ∷ 0 ∷ 0 ∷ 0 ∷ 0 ∷ 2 ∷ 1 ∷ []) ∷ []) [] [] [] [] [] [] [] (memory 12 12))
+    ∷ gives 3 (lentOf 0 255 (numbered ((255 ∷ 0 ∷ 1 ∷ 0 ∷ 0 ∷ 0 ∷ 0 ∷ 0 ∷ 1 ∷ 0 ∷ 0 ∷ []) ∷ (255 ∷ 0 ∷ 1 ∷ 0 ∷ 0 ∷ 0 ∷ 0 ∷ 2 ∷ 1 ∷ 0 ∷ 0 ∷ []) ∷ [])) [] [] [] [] [] [] [] (memory 12 12))
     -- type 255 with a kind whose lists fit, and with each of the lists
     ∷ gives 3 (alone (plain 255 1 0 [] [] [] []))
     ∷ gives 3 (alone (plain 255 2 1 [] [] [] []))
@@ -122,7 +122,7 @@ oldCases =
     ∷ gives 19 (alone (plain 1 3 1 [] [] [] []))
     -- 1, 2 and 3 come before it: 257 records of kind 3; a value that is not there; type 9 beside it; type 255; an unknown mode and required type
     ∷ gives 1 (stacked 255 (replicate 257 oldFive))
-    ∷ gives 2 (lentOf 0 255 ((1 ∷ 3 ∷ 1 ∷ 0 ∷ 2 ∷ 1 ∷ 0 ∷ 0 ∷ 1 ∷ []) ∷ []) [] (0 ∷ 1 ∷ []) [] [] [] [] [] (memory 12 12))
+    ∷ gives 2 (lentOf 0 255 (numbered ((1 ∷ 3 ∷ 1 ∷ 0 ∷ 2 ∷ 1 ∷ 0 ∷ 0 ∷ 1 ∷ 0 ∷ 0 ∷ []) ∷ [])) [] (0 ∷ 1 ∷ []) [] [] [] [] [] (memory 12 12))
     ∷ gives 3 (stacked 255 (oldFive ∷ one 9 5 ∷ []))
     ∷ gives 3 (alone (plain 255 3 0 [] [] [] []))
     ∷ gives 3 (lentTo (call [] 2 255 []) (oldFive ∷ []))
@@ -184,7 +184,7 @@ listCases-hold : map (λ c. numberFor (c .lent)) listCases ≡ map (λ c. c .num
 unfolding numberFor listCases
 listCases-hold = refl
 
--- ---- 5: Bool above 1, ordinal not below the terms, terms not strictly ascending, terms on another type or on kind 0
+-- ---- 5: Bool above 1, ordinal not below the terms, terms not strictly ascending, terms on another type or on kind 0 (an untrue pair: PairCases)
 
 valueCases : List AnswerCase
 valueCases =
@@ -450,9 +450,9 @@ spaceCases-hold = refl
 orderCases : List AnswerCase
 orderCases =
     -- 1 and 2: 257 records that announce a value each
-    gives 1 (lentOf 0 255 (replicate 257 (1 ∷ 1 ∷ 1 ∷ 0 ∷ 0 ∷ 1 ∷ 0 ∷ 0 ∷ 1 ∷ [])) [] [] [] [] [] [] [] (memory 12 12))
+    gives 1 (lentOf 0 255 (numbered (replicate 257 (1 ∷ 1 ∷ 1 ∷ 0 ∷ 0 ∷ 1 ∷ 0 ∷ 0 ∷ 1 ∷ 0 ∷ 0 ∷ []))) [] [] [] [] [] [] [] (memory 12 12))
     -- 2 and 3: type 8 with a value that is not there
-    ∷ gives 2 (lentOf 0 255 ((8 ∷ 1 ∷ 1 ∷ 0 ∷ 0 ∷ 1 ∷ 0 ∷ 0 ∷ 1 ∷ []) ∷ []) [] [] [] [] [] [] [] (memory 12 12))
+    ∷ gives 2 (lentOf 0 255 (numbered ((8 ∷ 1 ∷ 1 ∷ 0 ∷ 0 ∷ 1 ∷ 0 ∷ 0 ∷ 1 ∷ 0 ∷ 0 ∷ []) ∷ [])) [] [] [] [] [] [] [] (memory 12 12))
     -- 3 and 4: the first segment has a value too few, and the second has type 8
     ∷ gives 3 (stacked 255 (plain 1 1 2 [] [] (5 ∷ []) [] ∷ one 8 5 ∷ []))
     -- 4 and 5: the first has a Bool above 1, and the second a value too few

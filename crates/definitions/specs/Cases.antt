@@ -5,12 +5,12 @@ use mathlib.Core.Path.{_≡_, refl}
 use mathlib.Core.List.{List, [], _∷_, map}
 use lib.ListN.{replicate}
 use Rattle.definitions.specs.Words.{ipAddrOf}
-use Rattle.definitions.specs.Segment.{Segment, Address, address as at}
+use Rattle.definitions.specs.Segment.{Segment, Pair, pair, noPair, Address, address as at}
 use Rattle.definitions.specs.Join.{kindOf, asSegment}
 use Rattle.definitions.specs.Outcome.{Lent, lentOf, Outcome, accepted, refused}
 use Rattle.definitions.specs.TimeOrder.{sorted, timeNumberOf}
 use Rattle.definitions.specs.Book.{Call, Standing, first, result, Entry, callLent, callOutcome, callAnswer, afterCall, answersOf, standsAfter, firstEntry, oneJoin, standingOf, joinedEntry, bookAnswer, bookAfterCall, bookAnswers, bookAfter}
-use Rattle.definitions.specs.Sheet.{plain, withAlive, none, full, one, str, dropped, a, b, five, oldFive, nine, newKind, memory, call, stacked, inOrder, lending, outcomeOf, sheetOf, timeSheetOf, accepts, refuses, Case, case}
+use Rattle.definitions.specs.Sheet.{plain, withAlive, withPair, none, full, one, str, dropped, a, b, five, oldFive, nine, newKind, numbered, memory, call, stacked, inOrder, lending, outcomeOf, sheetOf, timeSheetOf, accepts, paired, refuses, Case, case}
 
 -- ---- C1 to C12
 
@@ -29,24 +29,24 @@ cases =
     -- C4
     ∷ case (stacked 1 (none 3 ∷ [])) (accepts 1 1 3 [] [] [] [] [])
     -- C5
-    ∷ case (stacked 255 (five ∷ [])) (accepts 1 2 3 (0 ∷ 2 ∷ []) (0 ∷ 2 ∷ 3 ∷ []) (7 ∷ 8 ∷ 9 ∷ []) [] [])
+    ∷ case (stacked 255 (five ∷ [])) (paired 7 9 (accepts 1 2 3 (0 ∷ 2 ∷ []) (0 ∷ 2 ∷ 3 ∷ []) (7 ∷ 8 ∷ 9 ∷ []) [] []))
     -- C6
     ∷ case (inOrder 255 (withAlive (5 ∷ []) five ∷ []) (at 0 2 ∷ at 0 0 ∷ []))
-    (accepts 1 2 2 (0 ∷ 1 ∷ []) (0 ∷ 1 ∷ 3 ∷ []) (9 ∷ 7 ∷ 8 ∷ []) [] [])
+    (paired 7 9 (accepts 1 2 2 (0 ∷ 1 ∷ []) (0 ∷ 1 ∷ 3 ∷ []) (9 ∷ 7 ∷ 8 ∷ []) [] []))
     -- C7
-    ∷ case (inOrder 255 (withAlive (4 ∷ []) five ∷ []) (at 0 2 ∷ [])) (accepts 1 0 1 [] [] (9 ∷ []) [] [])
+    ∷ case (inOrder 255 (withAlive (4 ∷ []) five ∷ []) (at 0 2 ∷ [])) (paired 9 9 (accepts 1 0 1 [] [] (9 ∷ []) [] []))
     -- C8
     ∷ case (inOrder 255 (withAlive (2 ∷ []) five ∷ []) (at 0 1 ∷ [])) (accepts 255 0 1 [] [] [] [] [])
     -- C9, without and with an alive set
-    ∷ case (inOrder 255 (nine ∷ []) (at 0 1 ∷ at 0 0 ∷ [])) (accepts 1 1 2 (0 ∷ 1 ∷ []) [] (6 ∷ 5 ∷ []) [] [])
-    ∷ case (inOrder 255 (withAlive (3 ∷ []) nine ∷ []) (at 0 1 ∷ at 0 0 ∷ [])) (accepts 1 0 2 [] [] (6 ∷ 5 ∷ []) [] [])
+    ∷ case (inOrder 255 (nine ∷ []) (at 0 1 ∷ at 0 0 ∷ [])) (paired 5 6 (accepts 1 1 2 (0 ∷ 1 ∷ []) [] (6 ∷ 5 ∷ []) [] []))
+    ∷ case (inOrder 255 (withAlive (3 ∷ []) nine ∷ []) (at 0 1 ∷ at 0 0 ∷ [])) (paired 5 6 (accepts 1 0 2 [] [] (6 ∷ 5 ∷ []) [] []))
     -- C10
     ∷ case (stacked 255 (one 0 0xffffffffffffffff ∷ one 1 9223372036854775806 ∷ []))
-    (accepts 0 0 2 [] [] (0xffffffffffffffff ∷ 9223372036854775806 ∷ []) [] [])
+    (paired 0xffffffffffffffff 9223372036854775806 (accepts 0 0 2 [] [] (0xffffffffffffffff ∷ 9223372036854775806 ∷ []) [] []))
     ∷ case (stacked 255 (one 0 0xffffffffffffffff ∷ one 1 9223372036854775807 ∷ []))
     (accepts 2 0 2 [] [] (0xbff0000000000000 ∷ 0x43e0000000000000 ∷ []) [] [])
     -- C11
-    ∷ case (stacked 0 (one 1 9223372036854775807 ∷ [])) (accepts 0 0 1 [] [] (9223372036854775807 ∷ []) [] [])
+    ∷ case (stacked 0 (one 1 9223372036854775807 ∷ [])) (paired 9223372036854775807 9223372036854775807 (accepts 0 0 1 [] [] (9223372036854775807 ∷ []) [] []))
     ∷ case (stacked 0 (one 1 9223372036854775808 ∷ [])) (refuses 10)
     -- C12
     ∷ case (inOrder 255 (withAlive (2 ∷ []) (str (0 ∷ 1 ∷ []) (a ∷ b ∷ [])) ∷ []) (at 0 1 ∷ [])) (accepts 4 0 1 [] [] (0 ∷ []) (b ∷ []) (0 ∷ 0 ∷ []))
@@ -70,7 +70,7 @@ slips : List Case
 slips =
     -- the offset of a row without values is not kept: C5's segment, which has one, before one and after one
     case (stacked 255 (five ∷ none 1 ∷ five ∷ []))
-    (accepts 1 2 7 (0 ∷ 2 ∷ 4 ∷ 6 ∷ []) (0 ∷ 2 ∷ 3 ∷ 5 ∷ 6 ∷ []) (7 ∷ 8 ∷ 9 ∷ 7 ∷ 8 ∷ 9 ∷ []) [] [])
+    (paired 7 9 (accepts 1 2 7 (0 ∷ 2 ∷ 4 ∷ 6 ∷ []) (0 ∷ 2 ∷ 3 ∷ 5 ∷ 6 ∷ []) (7 ∷ 8 ∷ 9 ∷ 7 ∷ 8 ∷ 9 ∷ []) [] []))
     -- the value of a withdrawn row counts for the type: a U64 value above all of I64, a negative I64 value, and in the coercion to a required type
     ∷ case (inOrder 255 (withAlive (1 ∷ []) (full 1 (5 ∷ 0xffffffffffffffff ∷ [])) ∷ one 0 0xffffffffffffffff ∷ []) (at 1 0 ∷ at 0 0 ∷ []))
     (accepts 2 0 2 [] [] (0xbff0000000000000 ∷ 0x4014000000000000 ∷ []) [] [])
@@ -78,7 +78,7 @@ slips =
     (accepts 2 0 2 [] [] (0x43e0000000000000 ∷ 0x4014000000000000 ∷ []) [] [])
     ∷ case (inOrder 0 (withAlive (1 ∷ []) (full 1 (5 ∷ 9223372036854775808 ∷ [])) ∷ []) (at 0 0 ∷ [])) (refuses 10)
     -- an Optional segment without an alive set is of class 1, though every row has a value
-    ∷ case (stacked 255 (nine ∷ [])) (accepts 1 1 2 (0 ∷ 1 ∷ []) [] (5 ∷ 6 ∷ []) [] [])
+    ∷ case (stacked 255 (nine ∷ [])) (paired 5 6 (accepts 1 1 2 (0 ∷ 1 ∷ []) [] (5 ∷ 6 ∷ []) [] []))
     -- terms are not compared by their lengths first
     ∷ case (stacked 255 (str (0 ∷ []) (b ∷ []) ∷ str (0 ∷ []) ((97 ∷ 97 ∷ []) ∷ []) ∷ []))
     (accepts 4 0 2 [] [] (1 ∷ 0 ∷ []) ((97 ∷ 97 ∷ []) ∷ b ∷ []) (1 ∷ 0 ∷ []))
@@ -102,7 +102,7 @@ exampleAnswer (orders ss space) = timeNumberOf (timeSheetOf ss space .answer)
 examples : List Example
 examples =
     joins (stacked 255 (replicate 257 (none 0)))
-    ∷ joins (announced ((1 ∷ 1 ∷ 1 ∷ 0 ∷ 0 ∷ 1 ∷ 0 ∷ 0 ∷ 1 ∷ []) ∷ []))
+    ∷ joins (announced ((1 ∷ 1 ∷ 1 ∷ 0 ∷ 0 ∷ 1 ∷ 0 ∷ 0 ∷ 1 ∷ 0 ∷ 0 ∷ []) ∷ []))
     ∷ joins (stacked 255 (one 8 0 ∷ []))
     ∷ joins (stacked 255 (plain 1 2 2 (1 ∷ 1 ∷ []) [] (5 ∷ 6 ∷ []) [] ∷ []))
     ∷ joins (stacked 255 (str (0 ∷ 1 ∷ []) (b ∷ a ∷ []) ∷ []))
@@ -119,7 +119,7 @@ examples =
     ∷ []
   where
     announced : List (List ℕ) → Lent
-    announced records = lentOf 0 255 records [] [] [] [] [] [] [] (memory 9 9)
+    announced records = lentOf 0 255 (numbered records) [] [] [] [] [] [] [] (memory 9 9)
 
 examples-hold : map exampleAnswer examples ≡ (1 ∷ 2 ∷ 3 ∷ 4 ∷ 5 ∷ 6 ∷ 7 ∷ 8 ∷ 9 ∷ 10 ∷ 11 ∷ 12 ∷ 19 ∷ 19 ∷ [])
 unfolding timeSheetOf sheetOf examples
@@ -131,7 +131,7 @@ outcomes : List Outcome
 outcomes =
     -- C1: what stands beyond the lists stays, and the working bytes are zero
     record {
-      answer = accepted (record { type = 4; class = 1; rows = 4; ids = 3; offsets = 0; values = 3; terms = 2; termBytes = 2; map = 3; copied = 2 });
+      answer = accepted (record { type = 4; class = 1; rows = 4; ids = 3; offsets = 0; values = 3; terms = 2; termBytes = 2; map = 3; copied = 2; pair = noPair });
       buffers =
           record {
             ids = 1 ∷ 2 ∷ 3 ∷ 9 ∷ [];
@@ -173,7 +173,7 @@ outcomes =
     }
     -- Bytes: a row of three values between rows of none, terms aaa b c d; then a row of one, terms b e. Each list's number is its own, and no two are the same
     ∷ record {
-      answer = accepted (record { type = 3; class = 2; rows = 4; ids = 2; offsets = 3; values = 4; terms = 5; termBytes = 7; map = 6; copied = 7 });
+      answer = accepted (record { type = 3; class = 2; rows = 4; ids = 2; offsets = 3; values = 4; terms = 5; termBytes = 7; map = 6; copied = 7; pair = noPair });
       buffers =
           record {
             ids = 1 ∷ 3 ∷ replicate 6 9;
@@ -183,6 +183,20 @@ outcomes =
             termBytes = 97 ∷ 97 ∷ 97 ∷ 98 ∷ 99 ∷ 100 ∷ 101 ∷ replicate 1 9;
             map = 0 ∷ 1 ∷ 2 ∷ 3 ∷ 1 ∷ 4 ∷ replicate 2 9;
             working = [];
+          };
+    }
+    -- I64 -1 and 7, and U64 3: the pair comes with the numbers, and no list has it
+    ∷ record {
+      answer = accepted (record { type = 0; class = 0; rows = 3; ids = 0; offsets = 0; values = 3; terms = 0; termBytes = 0; map = 0; copied = 0; pair = pair 0xffffffffffffffff 7 });
+      buffers =
+          record {
+            ids = replicate 4 9;
+            offsets = replicate 4 9;
+            values = 0xffffffffffffffff ∷ 7 ∷ 3 ∷ 9 ∷ [];
+            termLengths = replicate 4 9;
+            termBytes = replicate 4 9;
+            map = replicate 4 9;
+            working = 0 ∷ [];
           };
     }
     ∷ []
@@ -197,6 +211,7 @@ outcomes-hold :
     (plain 3 4 3 (1 ∷ []) (0 ∷ 3 ∷ []) (1 ∷ 0 ∷ 1 ∷ []) ((97 ∷ 97 ∷ 97 ∷ []) ∷ b ∷ (99 ∷ []) ∷ (100 ∷ []) ∷ [])
     ∷ plain 3 1 1 [] [] (0 ∷ []) (b ∷ (101 ∷ []) ∷ [])
     ∷ [])))
+    ∷ outcomeOf (lending (memory 4 1) (stacked 255 (full 0 (0xffffffffffffffff ∷ 7 ∷ []) ∷ one 1 3 ∷ [])))
     ∷ [])
     ≡ outcomes
 unfolding outcomeOf sheetOne outcomes
@@ -238,10 +253,10 @@ record Turn : Type 0 where
 abbrev turn : List Segment → List Call → Turns → Turn
 turn firsts calls expected = record { firsts = firsts; calls = calls; expected = expected }
 
--- type, class, rows, ids, offsets, values, terms
-abbrev gave : ℕ → ℕ → ℕ → List ℕ → List ℕ → List ℕ → List (List ℕ) → Standing
-gave type class rows ids offsets values terms =
-    result (record { type = type; class = class; rows = rows; ids = ids; offsets = offsets; values = values; terms = terms })
+-- type, class, rows, ids, offsets, values, terms, pair
+abbrev gave : ℕ → ℕ → ℕ → List ℕ → List ℕ → List ℕ → List (List ℕ) → Pair → Standing
+gave type class rows ids offsets values terms p =
+    result (record { type = type; class = class; rows = rows; ids = ids; offsets = offsets; values = values; terms = terms; pair = p })
 
 -- ---- joins in turn: the table
 
@@ -255,20 +270,20 @@ turns =
     ∷ call (1 ∷ 0 ∷ []) 0 255 []
     ∷ call (1 ∷ 0 ∷ []) 1 255 (at 0 3 ∷ at 1 0 ∷ at 0 0 ∷ at 0 1 ∷ at 0 2 ∷ [])
     ∷ [])
-    (agree (6 ∷ 0 ∷ 0 ∷ 0 ∷ []) (gave 4 1 5 (0 ∷ 1 ∷ 2 ∷ 3 ∷ []) [] (1 ∷ 1 ∷ 1 ∷ 0 ∷ []) (a ∷ b ∷ []) ∷ []) ((1 ∷ 0 ∷ 2 ∷ []) ∷ [])
+    (agree (6 ∷ 0 ∷ 0 ∷ 0 ∷ []) (gave 4 1 5 (0 ∷ 1 ∷ 2 ∷ 3 ∷ []) [] (1 ∷ 1 ∷ 1 ∷ 0 ∷ []) (a ∷ b ∷ []) noPair ∷ []) ((1 ∷ 0 ∷ 2 ∷ []) ∷ [])
     ((at 0 1 ∷ at 2 1 ∷ at 1 0 ∷ at 1 1 ∷ at 0 0 ∷ []) ∷ []))
     -- a result of class 2 and one of type 255 are handed on: as kinds 4 and 0
     ∷ turn (newKind ∷ dropped 1 2 ∷ one 1 5 ∷ [])
     (call (0 ∷ []) 1 255 (at 0 3 ∷ at 0 1 ∷ at 0 0 ∷ at 0 2 ∷ []) ∷ call (0 ∷ []) 0 255 [] ∷ call (1 ∷ 2 ∷ 0 ∷ []) 0 255 [] ∷ [])
-    (agree (0 ∷ 0 ∷ 0 ∷ []) (gave 1 2 7 (0 ∷ 1 ∷ 6 ∷ []) (0 ∷ 1 ∷ 3 ∷ 4 ∷ []) (9 ∷ 7 ∷ 8 ∷ 5 ∷ []) [] ∷ []) ((0 ∷ 1 ∷ 2 ∷ []) ∷ [])
+    (agree (0 ∷ 0 ∷ 0 ∷ []) (gave 1 2 7 (0 ∷ 1 ∷ 6 ∷ []) (0 ∷ 1 ∷ 3 ∷ 4 ∷ []) (9 ∷ 7 ∷ 8 ∷ 5 ∷ []) [] (pair 5 9) ∷ []) ((0 ∷ 1 ∷ 2 ∷ []) ∷ [])
     ((at 0 3 ∷ at 0 1 ∷ at 0 0 ∷ at 0 2 ∷ at 1 0 ∷ at 1 1 ∷ at 2 0 ∷ []) ∷ []))
     -- a result of class 0 is handed on: as kind 1
     ∷ turn (withAlive (8 ∷ []) newKind ∷ full 1 (5 ∷ 6 ∷ []) ∷ [])
     (call (0 ∷ []) 1 255 (at 0 3 ∷ []) ∷ call (1 ∷ 0 ∷ []) 1 255 (at 1 1 ∷ at 0 0 ∷ at 1 0 ∷ []) ∷ [])
-    (agree (0 ∷ 0 ∷ []) (gave 1 0 3 [] [] (6 ∷ 9 ∷ 5 ∷ []) [] ∷ []) ((0 ∷ 1 ∷ []) ∷ []) ((at 1 1 ∷ at 0 3 ∷ at 1 0 ∷ []) ∷ []))
+    (agree (0 ∷ 0 ∷ []) (gave 1 0 3 [] [] (6 ∷ 9 ∷ 5 ∷ []) [] (pair 5 9) ∷ []) ((0 ∷ 1 ∷ []) ∷ []) ((at 1 1 ∷ at 0 3 ∷ at 1 0 ∷ []) ∷ []))
     -- entries that are not handed over stay, in their sequence, before the result; a join of none has no sources
     ∷ turn (one 1 5 ∷ one 1 6 ∷ one 1 7 ∷ []) (call (1 ∷ []) 0 255 [] ∷ call [] 0 255 [] ∷ [])
-    (agree (0 ∷ 0 ∷ []) (first (one 1 5) ∷ first (one 1 7) ∷ gave 1 0 1 [] [] (6 ∷ []) [] ∷ gave 255 0 0 [] [] [] [] ∷ [])
+    (agree (0 ∷ 0 ∷ []) (first (one 1 5) ∷ first (one 1 7) ∷ gave 1 0 1 [] [] (6 ∷ []) [] (pair 6 6) ∷ gave 255 0 0 [] [] [] [] noPair ∷ [])
     ((0 ∷ []) ∷ (2 ∷ []) ∷ (1 ∷ []) ∷ [] ∷ [])
     ((at 0 0 ∷ []) ∷ (at 2 0 ∷ []) ∷ (at 1 0 ∷ []) ∷ [] ∷ []))
     -- a first segment's origins are all its rows, withdrawn ones too
@@ -276,19 +291,28 @@ turns =
     (agree [] (first (withAlive (2 ∷ []) (full 1 (5 ∷ 6 ∷ []))) ∷ []) ((0 ∷ []) ∷ []) ((at 0 0 ∷ at 0 1 ∷ []) ∷ []))
     -- an old segment stands, and each join that is handed it is refused with 19; the others go on
     ∷ turn (oldFive ∷ one 1 5 ∷ []) (call (1 ∷ 0 ∷ []) 0 255 [] ∷ call (1 ∷ []) 0 255 [] ∷ call (0 ∷ 1 ∷ []) 1 255 [] ∷ [])
-    (agree (19 ∷ 0 ∷ 19 ∷ []) (first oldFive ∷ gave 1 0 1 [] [] (5 ∷ []) [] ∷ []) ((0 ∷ []) ∷ (1 ∷ []) ∷ [])
+    (agree (19 ∷ 0 ∷ 19 ∷ []) (first oldFive ∷ gave 1 0 1 [] [] (5 ∷ []) [] (pair 5 5) ∷ []) ((0 ∷ []) ∷ (1 ∷ []) ∷ [])
     ((at 0 0 ∷ at 0 1 ∷ at 0 2 ∷ []) ∷ (at 1 0 ∷ []) ∷ []))
     -- addresses: two weeks in order, a play of the one withdrawn; an order that lists no row is refused; behind a third week, of kind 4, the result is handed on
     ∷ turn
     (withAlive (2 ∷ []) (full 6 (ipAddrOf 1 2 ∷ ipAddrOf 3 4 ∷ [])) ∷ plain 6 2 2 (1 ∷ []) [] (ipAddrOf 0xffffffffffffffff 0 ∷ []) [] ∷ plain 6 4 1 (0 ∷ []) (0 ∷ 2 ∷ []) (ipAddrOf 7 8 ∷ ipAddrOf 5 6 ∷ []) [] ∷ [])
     (call (1 ∷ 0 ∷ []) 1 255 (at 0 1 ∷ at 1 1 ∷ at 0 0 ∷ []) ∷ call (0 ∷ 1 ∷ []) 1 255 [] ∷ call (0 ∷ 1 ∷ []) 0 255 [] ∷ [])
     (agree (0 ∷ 9 ∷ 0 ∷ [])
-    (gave 6 2 4 (0 ∷ 1 ∷ 2 ∷ []) (0 ∷ 2 ∷ 3 ∷ 4 ∷ []) (ipAddrOf 7 8 ∷ ipAddrOf 5 6 ∷ ipAddrOf 0xffffffffffffffff 0 ∷ ipAddrOf 3 4 ∷ []) [] ∷ [])
+    (gave 6 2 4 (0 ∷ 1 ∷ 2 ∷ []) (0 ∷ 2 ∷ 3 ∷ 4 ∷ []) (ipAddrOf 7 8 ∷ ipAddrOf 5 6 ∷ ipAddrOf 0xffffffffffffffff 0 ∷ ipAddrOf 3 4 ∷ []) [] noPair ∷ [])
     ((2 ∷ 1 ∷ 0 ∷ []) ∷ [])
     ((at 2 0 ∷ at 1 1 ∷ at 0 1 ∷ at 1 0 ∷ []) ∷ []))
+    -- pairs: I64 -1, withdrawn, and 3; -9 and 8; 5. The first one joined alone, its result then behind the last: each joined pair is that of the values that are left
+    ∷ turn (withAlive (2 ∷ []) (full 0 (0xffffffffffffffff ∷ 3 ∷ [])) ∷ full 0 (0xfffffffffffffff7 ∷ 8 ∷ []) ∷ one 0 5 ∷ [])
+    (call (0 ∷ []) 1 255 (at 0 1 ∷ []) ∷ call (1 ∷ 2 ∷ []) 0 255 [] ∷ [])
+    (agree (0 ∷ 0 ∷ []) (first (full 0 (0xfffffffffffffff7 ∷ 8 ∷ [])) ∷ gave 0 0 2 [] [] (5 ∷ 3 ∷ []) [] (pair 3 5) ∷ []) ((1 ∷ []) ∷ (2 ∷ 0 ∷ []) ∷ [])
+    ((at 1 0 ∷ at 1 1 ∷ []) ∷ (at 2 0 ∷ at 0 1 ∷ []) ∷ []))
+    -- a first segment with an untrue pair stands, and each join that is handed it is refused with 5
+    ∷ turn (withPair 4 5 (one 1 5) ∷ one 1 6 ∷ []) (call (0 ∷ 1 ∷ []) 0 255 [] ∷ call (1 ∷ []) 0 255 [] ∷ call (1 ∷ 0 ∷ []) 0 255 [] ∷ [])
+    (agree (5 ∷ 0 ∷ 5 ∷ []) (first (withPair 4 5 (one 1 5)) ∷ gave 1 0 1 [] [] (6 ∷ []) [] (pair 6 6) ∷ []) ((0 ∷ []) ∷ (1 ∷ []) ∷ [])
+    ((at 0 0 ∷ []) ∷ (at 1 0 ∷ []) ∷ []))
     -- both joins require F64; the one join requires it too
     ∷ turn (one 0 5 ∷ one 1 7 ∷ []) (call (0 ∷ []) 0 2 [] ∷ call (1 ∷ 0 ∷ []) 0 2 [] ∷ [])
-    (agree (0 ∷ 0 ∷ []) (gave 2 0 2 [] [] (0x4014000000000000 ∷ 0x401c000000000000 ∷ []) [] ∷ []) ((0 ∷ 1 ∷ []) ∷ []) ((at 0 0 ∷ at 1 0 ∷ []) ∷ []))
+    (agree (0 ∷ 0 ∷ []) (gave 2 0 2 [] [] (0x4014000000000000 ∷ 0x401c000000000000 ∷ []) [] noPair ∷ []) ((0 ∷ 1 ∷ []) ∷ []) ((at 0 0 ∷ at 1 0 ∷ []) ∷ []))
     ∷ []
 
 turns-hold : map (λ t. turnsOf (t .firsts) (t .calls)) turns ≡ map (λ t. t .expected) turns

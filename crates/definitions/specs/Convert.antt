@@ -31,6 +31,7 @@ converted s =
       terms = s .terms;
       flag = s .flag;
       aliveCount = s .aliveCount;
+      pair = s .pair;
       alive = s .alive;
     }
 

@@ -7,7 +7,7 @@ use lib.ListN.{replicate}
 use Rattle.definitions.specs.Words.{ipAddrOf}
 use Rattle.definitions.specs.Segment.{Segment, SegmentRecord, Sections, Address, recordOf, recordFrom, sectionsOf, address as at}
 use Rattle.definitions.specs.Convert.{converted, isConvertible, convertTooShort, convertChecks, convertAnswer, convertedTo, unconverted, ConvertOutcome, convertOutcome}
-use Rattle.definitions.specs.Sheet.{plain, withAlive, counted, a, b, five, oldFive, nine, outcomeOf, accepts}
+use Rattle.definitions.specs.Sheet.{plain, withAlive, counted, withPair, a, b, five, oldFive, nine, outcomeOf, accepts, paired}
 use Rattle.definitions.specs.Join.{Column, joinRules}
 
 -- ---- how the tables are written
@@ -37,32 +37,32 @@ record Case : Type 0 where
 abbrev case : ConvertOutcome → ConvertOutcome → Case
 case call expected = record { call = call; expected = expected }
 
--- ---- what is given: type, kind, rows, ids, offsets, values, terms, flag, alive rows
+-- ---- what is given: type, kind, rows, ids, offsets, values, terms, flag, alive rows, least, greatest
 
 conversions : List Case
 conversions =
     -- C5's segment as it was; what stands beyond the lists stays
-    case (conversion 3 4 oldFive) (gives (1 ∷ 4 ∷ 3 ∷ 2 ∷ 3 ∷ 3 ∷ 0 ∷ 0 ∷ 3 ∷ []) (0 ∷ 2 ∷ 9 ∷ []) (0 ∷ 2 ∷ 3 ∷ 9 ∷ []))
+    case (conversion 3 4 oldFive) (gives (1 ∷ 4 ∷ 3 ∷ 2 ∷ 3 ∷ 3 ∷ 0 ∷ 0 ∷ 3 ∷ 7 ∷ 9 ∷ []) (0 ∷ 2 ∷ 9 ∷ []) (0 ∷ 2 ∷ 3 ∷ 9 ∷ []))
     -- with as much space as the lists need
-    ∷ case (conversion 2 3 oldFive) (gives (1 ∷ 4 ∷ 3 ∷ 2 ∷ 3 ∷ 3 ∷ 0 ∷ 0 ∷ 3 ∷ []) (0 ∷ 2 ∷ []) (0 ∷ 2 ∷ 3 ∷ []))
+    ∷ case (conversion 2 3 oldFive) (gives (1 ∷ 4 ∷ 3 ∷ 2 ∷ 3 ∷ 3 ∷ 0 ∷ 0 ∷ 3 ∷ 7 ∷ 9 ∷ []) (0 ∷ 2 ∷ []) (0 ∷ 2 ∷ 3 ∷ []))
     -- no rows; rows without values
-    ∷ case (conversion 1 1 (plain 1 3 0 [] (0 ∷ []) [] [])) (gives (1 ∷ 4 ∷ 0 ∷ 0 ∷ 1 ∷ 0 ∷ 0 ∷ 0 ∷ 0 ∷ []) (9 ∷ []) (0 ∷ []))
-    ∷ case (conversion 0 1 (plain 1 3 2 [] (0 ∷ 0 ∷ 0 ∷ []) [] [])) (gives (1 ∷ 4 ∷ 2 ∷ 0 ∷ 1 ∷ 0 ∷ 0 ∷ 0 ∷ 2 ∷ []) [] (0 ∷ []))
+    ∷ case (conversion 1 1 (plain 1 3 0 [] (0 ∷ []) [] [])) (gives (1 ∷ 4 ∷ 0 ∷ 0 ∷ 1 ∷ 0 ∷ 0 ∷ 0 ∷ 0 ∷ 0 ∷ 0 ∷ []) (9 ∷ []) (0 ∷ []))
+    ∷ case (conversion 0 1 (plain 1 3 2 [] (0 ∷ 0 ∷ 0 ∷ []) [] [])) (gives (1 ∷ 4 ∷ 2 ∷ 0 ∷ 1 ∷ 0 ∷ 0 ∷ 0 ∷ 2 ∷ 0 ∷ 0 ∷ []) [] (0 ∷ []))
     -- rows without values at the start, in the middle and at the end
     ∷ case (conversion 5 5 (plain 0 3 5 [] (0 ∷ 0 ∷ 1 ∷ 1 ∷ 4 ∷ 4 ∷ []) (7 ∷ 8 ∷ 9 ∷ 6 ∷ []) []))
-    (gives (0 ∷ 4 ∷ 5 ∷ 2 ∷ 3 ∷ 4 ∷ 0 ∷ 0 ∷ 5 ∷ []) (1 ∷ 3 ∷ 9 ∷ 9 ∷ 9 ∷ []) (0 ∷ 1 ∷ 4 ∷ 9 ∷ 9 ∷ []))
+    (gives (0 ∷ 4 ∷ 5 ∷ 2 ∷ 3 ∷ 4 ∷ 0 ∷ 0 ∷ 5 ∷ 6 ∷ 9 ∷ []) (1 ∷ 3 ∷ 9 ∷ 9 ∷ 9 ∷ []) (0 ∷ 1 ∷ 4 ∷ 9 ∷ 9 ∷ []))
     -- every row has a value
-    ∷ case (conversion 2 3 (plain 2 3 2 [] (0 ∷ 1 ∷ 2 ∷ []) (7 ∷ 8 ∷ []) [])) (gives (2 ∷ 4 ∷ 2 ∷ 2 ∷ 3 ∷ 2 ∷ 0 ∷ 0 ∷ 2 ∷ []) (0 ∷ 1 ∷ []) (0 ∷ 1 ∷ 2 ∷ []))
+    ∷ case (conversion 2 3 (plain 2 3 2 [] (0 ∷ 1 ∷ 2 ∷ []) (7 ∷ 8 ∷ []) [])) (gives (2 ∷ 4 ∷ 2 ∷ 2 ∷ 3 ∷ 2 ∷ 0 ∷ 0 ∷ 2 ∷ 0 ∷ 0 ∷ []) (0 ∷ 1 ∷ []) (0 ∷ 1 ∷ 2 ∷ []))
     -- an alive set is no fault, and a withdrawn row's values stay
-    ∷ case (conversion 1 2 (withAlive (2 ∷ []) (plain 1 3 2 [] (0 ∷ 1 ∷ 1 ∷ []) (7 ∷ []) []))) (gives (1 ∷ 4 ∷ 2 ∷ 1 ∷ 2 ∷ 1 ∷ 0 ∷ 1 ∷ 1 ∷ []) (0 ∷ []) (0 ∷ 1 ∷ []))
+    ∷ case (conversion 1 2 (withAlive (2 ∷ []) (plain 1 3 2 [] (0 ∷ 1 ∷ 1 ∷ []) (7 ∷ []) []))) (gives (1 ∷ 4 ∷ 2 ∷ 1 ∷ 2 ∷ 1 ∷ 0 ∷ 1 ∷ 1 ∷ 7 ∷ 7 ∷ []) (0 ∷ []) (0 ∷ 1 ∷ []))
     -- terms
-    ∷ case (conversion 1 2 (plain 4 3 1 [] (0 ∷ 3 ∷ []) (1 ∷ 0 ∷ 1 ∷ []) (a ∷ b ∷ []))) (gives (4 ∷ 4 ∷ 1 ∷ 1 ∷ 2 ∷ 3 ∷ 2 ∷ 0 ∷ 1 ∷ []) (0 ∷ []) (0 ∷ 3 ∷ []))
+    ∷ case (conversion 1 2 (plain 4 3 1 [] (0 ∷ 3 ∷ []) (1 ∷ 0 ∷ 1 ∷ []) (a ∷ b ∷ []))) (gives (4 ∷ 4 ∷ 1 ∷ 1 ∷ 2 ∷ 3 ∷ 2 ∷ 0 ∷ 1 ∷ 0 ∷ 0 ∷ []) (0 ∷ []) (0 ∷ 3 ∷ []))
     -- addresses: the record counts them, and not their words
-    ∷ case (conversion 1 2 (plain 6 3 2 [] (0 ∷ 2 ∷ 2 ∷ []) (ipAddrOf 1 2 ∷ ipAddrOf 3 4 ∷ []) [])) (gives (6 ∷ 4 ∷ 2 ∷ 1 ∷ 2 ∷ 2 ∷ 0 ∷ 0 ∷ 2 ∷ []) (0 ∷ []) (0 ∷ 2 ∷ []))
+    ∷ case (conversion 1 2 (plain 6 3 2 [] (0 ∷ 2 ∷ 2 ∷ []) (ipAddrOf 1 2 ∷ ipAddrOf 3 4 ∷ []) [])) (gives (6 ∷ 4 ∷ 2 ∷ 1 ∷ 2 ∷ 2 ∷ 0 ∷ 0 ∷ 2 ∷ 0 ∷ 0 ∷ []) (0 ∷ []) (0 ∷ 2 ∷ []))
     -- DateTime, Bytes and Bool
-    ∷ case (conversion 1 2 (plain 7 3 1 [] (0 ∷ 1 ∷ []) (5 ∷ []) [])) (gives (7 ∷ 4 ∷ 1 ∷ 1 ∷ 2 ∷ 1 ∷ 0 ∷ 0 ∷ 1 ∷ []) (0 ∷ []) (0 ∷ 1 ∷ []))
-    ∷ case (conversion 1 2 (plain 3 3 1 [] (0 ∷ 1 ∷ []) (0 ∷ []) (a ∷ []))) (gives (3 ∷ 4 ∷ 1 ∷ 1 ∷ 2 ∷ 1 ∷ 1 ∷ 0 ∷ 1 ∷ []) (0 ∷ []) (0 ∷ 1 ∷ []))
-    ∷ case (conversion 1 2 (plain 5 3 1 [] (0 ∷ 1 ∷ []) (1 ∷ []) [])) (gives (5 ∷ 4 ∷ 1 ∷ 1 ∷ 2 ∷ 1 ∷ 0 ∷ 0 ∷ 1 ∷ []) (0 ∷ []) (0 ∷ 1 ∷ []))
+    ∷ case (conversion 1 2 (plain 7 3 1 [] (0 ∷ 1 ∷ []) (5 ∷ []) [])) (gives (7 ∷ 4 ∷ 1 ∷ 1 ∷ 2 ∷ 1 ∷ 0 ∷ 0 ∷ 1 ∷ 0 ∷ 0 ∷ []) (0 ∷ []) (0 ∷ 1 ∷ []))
+    ∷ case (conversion 1 2 (plain 3 3 1 [] (0 ∷ 1 ∷ []) (0 ∷ []) (a ∷ []))) (gives (3 ∷ 4 ∷ 1 ∷ 1 ∷ 2 ∷ 1 ∷ 1 ∷ 0 ∷ 1 ∷ 0 ∷ 0 ∷ []) (0 ∷ []) (0 ∷ 1 ∷ []))
+    ∷ case (conversion 1 2 (plain 5 3 1 [] (0 ∷ 1 ∷ []) (1 ∷ []) [])) (gives (5 ∷ 4 ∷ 1 ∷ 1 ∷ 2 ∷ 1 ∷ 0 ∷ 0 ∷ 1 ∷ 0 ∷ 0 ∷ []) (0 ∷ []) (0 ∷ 1 ∷ []))
     -- space for one id, or for two offsets
     ∷ case (conversion 1 3 oldFive) (refuses 11 1 3)
     ∷ case (conversion 2 2 oldFive) (refuses 11 2 2)
@@ -81,20 +81,20 @@ answers n call = case call (refuses n 9 9)
 -- one record of type 4 with one row, which is alive, as given: flag, numbers of ids, offsets, values and terms; then the sections
 abbrev laid : ℕ → ℕ → ℕ → ℕ → ℕ → List ℕ → List ℕ → List ℕ → List ℕ → List ℕ → List ℕ → ConvertOutcome
 laid flag i o v t ids offsets values termLengths termBytes alive =
-    given 9 9 (recordFrom (4 ∷ 3 ∷ 1 ∷ i ∷ o ∷ v ∷ t ∷ flag ∷ 1 ∷ []))
+    given 9 9 (recordFrom (4 ∷ 3 ∷ 1 ∷ i ∷ o ∷ v ∷ t ∷ flag ∷ 1 ∷ 0 ∷ 0 ∷ []))
     (record { ids = ids; offsets = offsets; values = values; termLengths = termLengths; termBytes = termBytes; alive = alive })
 
 -- one row of the type, with so many values and the last offset; then the words of the values
 abbrev listening : ℕ → ℕ → ℕ → List ℕ → ConvertOutcome
 listening type v end words =
-    given 9 9 (recordFrom (type ∷ 3 ∷ 1 ∷ 0 ∷ 2 ∷ v ∷ 0 ∷ 0 ∷ 1 ∷ []))
+    given 9 9 (recordFrom (type ∷ 3 ∷ 1 ∷ 0 ∷ 2 ∷ v ∷ 0 ∷ 0 ∷ 1 ∷ 0 ∷ 0 ∷ []))
     (record { ids = []; offsets = 0 ∷ end ∷ []; values = words; termLengths = []; termBytes = []; alive = [] })
 
 answerCases : List Case
 answerCases =
     -- 2: as announced; then each section too short or too long
     case (laid 1 0 2 1 1 [] (0 ∷ 1 ∷ []) (0 ∷ []) (1 ∷ []) (97 ∷ []) (1 ∷ []))
-    (gives (4 ∷ 4 ∷ 1 ∷ 1 ∷ 2 ∷ 1 ∷ 1 ∷ 1 ∷ 1 ∷ []) (0 ∷ replicate 8 9) (0 ∷ 1 ∷ replicate 7 9))
+    (gives (4 ∷ 4 ∷ 1 ∷ 1 ∷ 2 ∷ 1 ∷ 1 ∷ 1 ∷ 1 ∷ 0 ∷ 0 ∷ []) (0 ∷ replicate 8 9) (0 ∷ 1 ∷ replicate 7 9))
     ∷ answers 2 (laid 1 0 2 1 1 (0 ∷ []) (0 ∷ 1 ∷ []) (0 ∷ []) (1 ∷ []) (97 ∷ []) (1 ∷ []))
     ∷ answers 2 (laid 1 0 2 1 1 [] (0 ∷ []) (0 ∷ []) (1 ∷ []) (97 ∷ []) (1 ∷ []))
     ∷ answers 2 (laid 1 0 2 1 1 [] (0 ∷ 1 ∷ 1 ∷ []) (0 ∷ []) (1 ∷ []) (97 ∷ []) (1 ∷ []))
@@ -109,7 +109,7 @@ answerCases =
     ∷ answers 2 (laid 1 0 2 1 1 [] (0 ∷ 1 ∷ []) (0 ∷ []) (1 ∷ []) (97 ∷ 97 ∷ []) (1 ∷ []))
     ∷ answers 2 (laid 1 0 2 1 1 [] (0 ∷ 1 ∷ []) (0 ∷ []) (1 ∷ []) (97 ∷ []) (1 ∷ 0 ∷ []))
     -- 2, and 3 after it: kind 1 with a value that is not there
-    ∷ answers 2 (given 9 9 (recordFrom (1 ∷ 1 ∷ 1 ∷ 0 ∷ 0 ∷ 1 ∷ 0 ∷ 0 ∷ 1 ∷ [])) (sectionsOf []))
+    ∷ answers 2 (given 9 9 (recordFrom (1 ∷ 1 ∷ 1 ∷ 0 ∷ 0 ∷ 1 ∷ 0 ∷ 0 ∷ 1 ∷ 5 ∷ 5 ∷ [])) (sectionsOf []))
     -- 2, and 3 after it: flag 2 adds no alive words
     ∷ answers 2 (laid 2 0 2 1 1 [] (0 ∷ 1 ∷ []) (0 ∷ []) (1 ∷ []) (97 ∷ []) (1 ∷ []))
     -- addresses: 2 counts words, one too few and one too many; an unknown type has one a value
@@ -154,6 +154,14 @@ answerCases =
     ∷ answers 5 (conversion 9 9 (plain 1 3 1 [] (0 ∷ 1 ∷ []) (0 ∷ []) (a ∷ [])))
     ∷ answers 5 (conversion 9 9 (plain 6 3 1 [] (0 ∷ 1 ∷ []) (0 ∷ []) (a ∷ [])))
     ∷ answers 5 (conversion 9 9 (withAlive (2 ∷ []) (plain 5 3 1 [] (0 ∷ 1 ∷ []) (2 ∷ []) [])))
+    -- an untrue pair: one that is a bound and not reached, the two exchanged, one of alive rows alone, one of no values, one of DateTime; 4 before it, 6 after it
+    ∷ answers 5 (conversion 9 9 (withPair 6 9 oldFive))
+    ∷ answers 5 (conversion 9 9 (withPair 9 7 oldFive))
+    ∷ answers 5 (conversion 9 9 (withPair 9 9 (withAlive (4 ∷ []) oldFive)))
+    ∷ answers 5 (conversion 9 9 (withPair 0 1 (plain 0 3 1 [] (0 ∷ 0 ∷ []) [] [])))
+    ∷ answers 5 (conversion 9 9 (withPair 5 5 (plain 7 3 1 [] (0 ∷ 1 ∷ []) (5 ∷ []) [])))
+    ∷ answers 4 (conversion 9 9 (withPair 6 9 (plain 1 3 3 [] (0 ∷ 2 ∷ 1 ∷ 3 ∷ []) (7 ∷ 8 ∷ 9 ∷ []) [])))
+    ∷ answers 5 (conversion 9 9 (counted 2 (withPair 6 9 oldFive)))
     -- 6: a bit past the rows; 11 after it
     ∷ case (conversion 0 0 (withAlive (4 ∷ []) (plain 1 3 2 [] (0 ∷ 1 ∷ 1 ∷ []) (7 ∷ []) []))) (refuses 6 0 0)
     ∷ answers 6 (conversion 9 9 (withAlive (0x8000000000000000 ∷ []) (plain 1 3 2 [] (0 ∷ 1 ∷ 1 ∷ []) (7 ∷ []) [])))
@@ -199,9 +207,9 @@ oldJoins-hold :
     ∷ oldJoin 1 (withAlive (4 ∷ []) oldFive ∷ []) (at 0 2 ∷ [])
     ∷ oldJoin 1 (withAlive (2 ∷ []) oldFive ∷ []) (at 0 1 ∷ [])
     ∷ [])
-    ≡ (accepts 1 2 3 (0 ∷ 2 ∷ []) (0 ∷ 2 ∷ 3 ∷ []) (7 ∷ 8 ∷ 9 ∷ []) [] [] .column
-    ∷ accepts 1 2 2 (0 ∷ 1 ∷ []) (0 ∷ 1 ∷ 3 ∷ []) (9 ∷ 7 ∷ 8 ∷ []) [] [] .column
-    ∷ accepts 1 0 1 [] [] (9 ∷ []) [] [] .column
+    ≡ (paired 7 9 (accepts 1 2 3 (0 ∷ 2 ∷ []) (0 ∷ 2 ∷ 3 ∷ []) (7 ∷ 8 ∷ 9 ∷ []) [] []) .column
+    ∷ paired 7 9 (accepts 1 2 2 (0 ∷ 1 ∷ []) (0 ∷ 1 ∷ 3 ∷ []) (9 ∷ 7 ∷ 8 ∷ []) [] []) .column
+    ∷ paired 9 9 (accepts 1 0 1 [] [] (9 ∷ []) [] []) .column
     ∷ accepts 255 0 1 [] [] [] [] [] .column
     ∷ [])
 unfolding oldJoin

@@ -7,7 +7,7 @@ use lib.ListN.{length, take, drop, replicate}
 use lib.Dec.{eqb}
 use Rattle.definitions.specs.Lists.{sum, concat}
 use Rattle.definitions.specs.Words.{wordsPerValue, valueWords, valuesIn}
-use Rattle.definitions.specs.Segment.{SegmentRecord, Sections, Address, Input, Space, recordFrom, addressFrom, cut}
+use Rattle.definitions.specs.Segment.{Pair, SegmentRecord, Sections, Address, Input, Space, addressFrom, cut}
 use Rattle.definitions.specs.Join.{Column, Joined}
 use Rattle.definitions.specs.Answer.{answer, joinOf}
 
@@ -21,7 +21,8 @@ pub record Buffers : Type 0 where
   pub map : List ℕ
   pub working : List ℕ
 
--- the numbers that come with acceptance: type, class and rows, the number of elements of each list, an address being one, and the term bytes copied (document 02, (d))
+-- the numbers that come with acceptance: type, class and rows, the number of elements of each list, an address being one, the term bytes copied (document 02, (d)), and the
+-- joined column's pair (02, (j))
 pub record Numbers : Type 0 where
   pub type : ℕ
   pub class : ℕ
@@ -33,6 +34,7 @@ pub record Numbers : Type 0 where
   pub termBytes : ℕ
   pub map : ℕ
   pub copied : ℕ
+  pub pair : Pair
 
 -- the joiner's answer: 0 with its numbers, or the number of the first check that fails
 pub data Answer : Type 0 where
@@ -70,13 +72,13 @@ pub record Lent : Type 0 where
   pub addresses : List Address
   pub buffers : Buffers
 
--- mode, required type, records as their numbers, the six sections, addresses of two numbers, and the memory
-abbrev pub lentOf : ℕ → ℕ → List (List ℕ) → List ℕ → List ℕ → List ℕ → List ℕ → List ℕ → List ℕ → List (List ℕ) → Buffers → Lent
+-- mode, required type, records, the six sections, addresses of two numbers, and the memory
+abbrev pub lentOf : ℕ → ℕ → List SegmentRecord → List ℕ → List ℕ → List ℕ → List ℕ → List ℕ → List ℕ → List (List ℕ) → Buffers → Lent
 lentOf mode required records ids offsets values termLengths termBytes alive addresses buffers =
     record {
       mode = mode;
       required = required;
-      records = map recordFrom records;
+      records = records;
       sections = record { ids = ids; offsets = offsets; values = values; termLengths = termLengths; termBytes = termBytes; alive = alive };
       addresses = map addressFrom addresses;
       buffers = buffers;
@@ -116,6 +118,7 @@ numbersOf j =
       termBytes = length (concat (j .column .terms));
       map = length (j .map);
       copied = sum (map length (j .column .terms));
+      pair = j .column .pair;
     }
 
 -- a refusal changes no output
@@ -162,4 +165,5 @@ readBack n b =
       offsets = take (n .offsets) (b .offsets);
       values = valuesIn (n .type) (take (n .values * wordsPerValue (n .type)) (b .values));
       terms = cut (take (n .terms) (b .termLengths)) (b .termBytes);
+      pair = n .pair;
     }

@@ -4,22 +4,22 @@ use mathlib.Core.List.{List, [], _∷_, map}
 use lib.ListN.{length, take, replicate}
 use lib.Ieee.{ofInt, toBits}
 use Rattle.definitions.specs.Words.{wordsPerValue, valueWords, valuesIn}
-use Rattle.definitions.specs.Segment.{Segment, Address, aliveWords, recordWords, firstSegment, afterFirst, segmentsOf, recordOf, sectionsOf, address as at}
+use Rattle.definitions.specs.Segment.{Segment, SegmentRecord, Pair, pair, noPair, Address, recordFrom, aliveWords, recordWords, firstSegment, afterFirst, segmentsOf, recordOf, sectionsOf, address as at}
 use Rattle.definitions.specs.Row.{rowValues, bitAt, setBits, isAlive, aliveRows, aliveNumber, isDropped, isHeld, heldOf, asEmpty, effective, noType}
-use Rattle.definitions.specs.Types.{isKnownType, isNumerical, hasTerms, sameCategory, hasType, everyValue, onlyType, numericalType, typeOf, signedOf, integerOf, doubleOf, coerced, isCoercible}
+use Rattle.definitions.specs.Types.{isKnownType, isNumerical, hasTerms, sameCategory, isLess, pairOf, hasType, everyPair, onlyType, numericalType, typeOf, signedOf, integerOf, doubleOf, coerced, isCoercible}
 use Rattle.definitions.specs.Class.{kindClass, aliveClass, classOf, greatestClass}
 use Rattle.definitions.specs.Join.{Column, rowOrder, isUsed, keptTerms, termsOf, ordinalOf, mapOf, newWord, cellOf, encode, joinedType, joinedClass, joinedCells, joinedColumn, joinRules}
-use Rattle.definitions.specs.Answer.{tooManySegments, lengthsWrong, codesKnown, noColumnIsBare, segmentCodesWrong, codesWrong, someOld, idsFit, offsetsFit, emptyFits, fullFits, optionalFits, oldFits, newFits, listsFit, listsWrong, valuesFit, valuesWrong, bitPastRows, aliveSetWrong, aliveWrong, sumsTooLarge, workingTooSmall, isAliveAt, aliveAddresses, listsAliveRows, addressesWrong, presentTypes, oneCategory, allCoercible, typesWrong, outputTooShort, joinChecks, answer}
+use Rattle.definitions.specs.Answer.{tooManySegments, lengthsWrong, codesKnown, noColumnIsBare, segmentCodesWrong, codesWrong, someOld, idsFit, offsetsFit, emptyFits, fullFits, optionalFits, oldFits, newFits, listsFit, listsWrong, pairFits, valuesFit, valuesWrong, bitPastRows, aliveSetWrong, aliveWrong, sumsTooLarge, workingTooSmall, isAliveAt, aliveAddresses, listsAliveRows, addressesWrong, presentTypes, oneCategory, allCoercible, typesWrong, outputTooShort, joinChecks, answer}
 use Rattle.definitions.specs.Outcome.{Buffers, Answer, accepted, refused, Outcome, spaceOf, numbersOf, refusedBuffers, acceptedBuffers, Lent, inputOf, joinOutcome, readBack}
 use Rattle.definitions.specs.TimeOrder.{TimeOutcome, keyOf, isBefore, timeOrder, timesWrong, timeChecks, timeAnswer, timeOutcome}
 use Rattle.definitions.specs.Book.{Call, lentTo}
 
 -- ---- segments
 
--- without an alive set, every row alive: type, kind, rows, ids, offsets, values, terms
+-- without an alive set, every row alive, with the pair of its values: type, kind, rows, ids, offsets, values, terms. (PairCases has pairs that are written by hand.)
 abbrev pub plain : ℕ → ℕ → ℕ → List ℕ → List ℕ → List ℕ → List (List ℕ) → Segment
 plain type kind rows ids offsets values terms =
-    record { type = type; kind = kind; rows = rows; ids = ids; offsets = offsets; values = values; terms = terms; flag = 0; aliveCount = rows; alive = [] }
+    record { type = type; kind = kind; rows = rows; ids = ids; offsets = offsets; values = values; terms = terms; flag = 0; aliveCount = rows; pair = pairOf type values; alive = [] }
 
 -- the same with an alive set of these words, and the number of their set bits
 abbrev pub withAlive : List ℕ → Segment → Segment
@@ -34,6 +34,7 @@ withAlive words s =
       terms = s .terms;
       flag = 1;
       aliveCount = setBits words;
+      pair = s .pair;
       alive = words;
     }
 
@@ -50,6 +51,24 @@ counted n s =
       terms = s .terms;
       flag = s .flag;
       aliveCount = n;
+      pair = s .pair;
+      alive = s .alive;
+    }
+
+-- the same with another pair
+abbrev pub withPair : ℕ → ℕ → Segment → Segment
+withPair least greatest s =
+    record {
+      type = s .type;
+      kind = s .kind;
+      rows = s .rows;
+      ids = s .ids;
+      offsets = s .offsets;
+      values = s .values;
+      terms = s .terms;
+      flag = s .flag;
+      aliveCount = s .aliveCount;
+      pair = pair least greatest;
       alive = s .alive;
     }
 
@@ -96,6 +115,10 @@ nine = plain 1 2 2 (0 ∷ 1 ∷ []) [] (5 ∷ 6 ∷ []) []
 abbrev pub newKind : Segment
 newKind = plain 1 4 4 (1 ∷ 3 ∷ []) (0 ∷ 2 ∷ 3 ∷ []) (7 ∷ 8 ∷ 9 ∷ []) []
 
+-- records by their numbers
+abbrev pub numbered : List (List ℕ) → List SegmentRecord
+numbered rows = map recordFrom rows
+
 -- ---- calls
 
 -- lent memory: so many elements of each output, and so many working bytes. None of it is zero
@@ -132,7 +155,7 @@ lending memory l =
 
 -- What a call gives and leaves. Every definition is opened here, once: what names this helper on its line opens them all
 unfoldable pub outcomeOf : Lent → Outcome
-unfolding ofInt toBits wordsPerValue valueWords valuesIn aliveWords recordWords firstSegment afterFirst segmentsOf recordOf sectionsOf rowValues bitAt setBits isAlive aliveRows aliveNumber isDropped isHeld heldOf asEmpty effective isKnownType isNumerical hasTerms sameCategory hasType everyValue onlyType numericalType typeOf signedOf integerOf doubleOf coerced isCoercible kindClass aliveClass classOf greatestClass rowOrder isUsed keptTerms termsOf ordinalOf mapOf newWord cellOf encode joinedType joinedClass joinedCells joinedColumn joinRules tooManySegments lengthsWrong codesKnown noColumnIsBare segmentCodesWrong codesWrong someOld idsFit offsetsFit emptyFits fullFits optionalFits oldFits newFits listsFit listsWrong valuesFit valuesWrong bitPastRows aliveSetWrong aliveWrong sumsTooLarge workingTooSmall isAliveAt aliveAddresses listsAliveRows addressesWrong presentTypes oneCategory allCoercible typesWrong outputTooShort joinChecks answer spaceOf numbersOf refusedBuffers acceptedBuffers inputOf joinOutcome readBack lentTo
+unfolding ofInt toBits wordsPerValue valueWords valuesIn aliveWords recordWords firstSegment afterFirst segmentsOf recordOf sectionsOf rowValues bitAt setBits isAlive aliveRows aliveNumber isDropped isHeld heldOf asEmpty effective isKnownType isNumerical hasTerms sameCategory isLess pairOf hasType everyPair onlyType numericalType typeOf signedOf integerOf doubleOf coerced isCoercible kindClass aliveClass classOf greatestClass rowOrder isUsed keptTerms termsOf ordinalOf mapOf newWord cellOf encode joinedType joinedClass joinedCells joinedColumn joinRules tooManySegments lengthsWrong codesKnown noColumnIsBare segmentCodesWrong codesWrong someOld idsFit offsetsFit emptyFits fullFits optionalFits oldFits newFits listsFit listsWrong pairFits valuesFit valuesWrong bitPastRows aliveSetWrong aliveWrong sumsTooLarge workingTooSmall isAliveAt aliveAddresses listsAliveRows addressesWrong presentTypes oneCategory allCoercible typesWrong outputTooShort joinChecks answer spaceOf numbersOf refusedBuffers acceptedBuffers inputOf joinOutcome readBack lentTo
 outcomeOf l = joinOutcome l
 
 -- what a listing shows: the answer, and the column and the map as they stand in the outputs
@@ -142,7 +165,7 @@ pub record Sheet : Type 0 where
   pub map : List ℕ
 
 abbrev pub noColumn : Column
-noColumn = record { type = noType; class = 0; rows = 0; ids = []; offsets = []; values = []; terms = [] }
+noColumn = record { type = noType; class = 0; rows = 0; ids = []; offsets = []; values = []; terms = []; pair = noPair }
 
 abbrev pub sheetBy : Buffers → Answer → Sheet
 sheetBy b (accepted n) = record { answer = 0; column = readBack n b; map = take (n .map) (b .map) }
@@ -159,10 +182,29 @@ timeSheetOf ss space = timeOutcome (record { records = map recordOf ss; sections
 
 -- ---- what is expected of them
 
--- type, class, rows, ids, offsets, values, terms, map
+-- type, class, rows, ids, offsets, values, terms, map; the pair is 0 and 0
 abbrev pub accepts : ℕ → ℕ → ℕ → List ℕ → List ℕ → List ℕ → List (List ℕ) → List ℕ → Sheet
 accepts type class rows ids offsets values terms m =
-    record { answer = 0; column = record { type = type; class = class; rows = rows; ids = ids; offsets = offsets; values = values; terms = terms }; map = m }
+    record { answer = 0; column = record { type = type; class = class; rows = rows; ids = ids; offsets = offsets; values = values; terms = terms; pair = noPair }; map = m }
+
+-- the same with this pair
+abbrev pub paired : ℕ → ℕ → Sheet → Sheet
+paired least greatest s =
+    record {
+      answer = s .answer;
+      column =
+          record {
+            type = s .column .type;
+            class = s .column .class;
+            rows = s .column .rows;
+            ids = s .column .ids;
+            offsets = s .column .offsets;
+            values = s .column .values;
+            terms = s .column .terms;
+            pair = pair least greatest;
+          };
+      map = s .map;
+    }
 
 abbrev pub refuses : ℕ → Sheet
 refuses n = record { answer = n; column = noColumn; map = [] }

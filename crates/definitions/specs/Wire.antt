@@ -5,8 +5,8 @@ use mathlib.Core.List.{List, [], _∷_, map}
 use mathlib.Core.Bool.{Bool, _&&_, cond}
 use lib.ListN.{length, getD, take, drop, replicate}
 use lib.Dec.{eqb, leb}
-use Rattle.definitions.specs.Lists.{allBelow}
-use Rattle.definitions.specs.Segment.{recordWidth}
+use Rattle.definitions.specs.Lists.{all, allBelow}
+use Rattle.definitions.specs.Segment.{recordFrom, recordWidth, narrowNumbers}
 use Rattle.definitions.specs.Outcome.{Buffers, Lent, lentOf}
 
 -- ---- words
@@ -49,11 +49,24 @@ endsFrom at (s ∷ ss) = (at + 1 + length s) ∷ endsFrom (at + 1 + length s) ss
 abbrev pub sectionAt : List (List ℕ) → ℕ → List ℕ
 sectionAt ss k = getD ss k []
 
--- no number is too wide: 32 bits, term bytes 8; values and alive words are any words
+-- n elements of e words each
+unfoldable pub grouped : ℕ → ℕ → List ℕ → List (List ℕ)
+grouped e zero words = []
+grouped e (suc n) words = take e words ∷ grouped e n (drop e words)
+
+-- the records' numbers, a word each
+unfoldable pub recordGroups : List (List ℕ) → List (List ℕ)
+recordGroups ss = grouped recordWidth (length (sectionAt ss 1) / recordWidth) (sectionAt ss 1)
+
+-- the first nine numbers of each record have 32 bits
+unfoldable pub recordsNarrow : List (List ℕ) → Bool
+recordsNarrow rs = all (λ (r : List ℕ). allBelow 4294967296 (take narrowNumbers r)) rs
+
+-- no number is too wide: 32 bits, term bytes 8; values, alive words and the records' pairs are any words
 unfoldable pub widthsFit : List (List ℕ) → Bool
 widthsFit ss =
     allBelow 4294967296 (sectionAt ss 0)
-    && (allBelow 4294967296 (sectionAt ss 1)
+    && (recordsNarrow (recordGroups ss)
     && (allBelow 4294967296 (sectionAt ss 2)
     && (allBelow 4294967296 (sectionAt ss 3)
     && (allBelow 4294967296 (sectionAt ss 5)
@@ -82,14 +95,6 @@ bytesFit bytes = wholeWords bytes && wordsFit (wordsOf bytes)
 
 -- ---- the call
 
--- n elements of e words each
-unfoldable pub grouped : ℕ → ℕ → List ℕ → List (List ℕ)
-grouped e zero words = []
-grouped e (suc n) words = take e words ∷ grouped e n (drop e words)
-
-unfoldable pub recordGroups : List (List ℕ) → List (List ℕ)
-recordGroups ss = grouped recordWidth (length (sectionAt ss 1) / recordWidth) (sectionAt ss 1)
-
 unfoldable pub addressGroups : List (List ℕ) → List (List ℕ)
 addressGroups ss = grouped 2 (length (sectionAt ss 8) / 2) (sectionAt ss 8)
 
@@ -112,7 +117,7 @@ lentFrom ss =
     lentOf
     (getD (sectionAt ss 0) 0 0)
     (getD (sectionAt ss 0) 1 0)
-    (recordGroups ss)
+    (map recordFrom (recordGroups ss))
     (sectionAt ss 2)
     (sectionAt ss 3)
     (sectionAt ss 4)

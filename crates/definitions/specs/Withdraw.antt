@@ -16,7 +16,7 @@ pub record AliveSet : Type 0 where
   pub given : SegmentRecord
   pub words : List ℕ
 
--- a segment of that record and alive set; its lists are not looked at
+-- a segment of that record and alive set; its lists and pair are not looked at
 abbrev pub segmentOf : AliveSet → Segment
 segmentOf m =
     record {
@@ -29,6 +29,7 @@ segmentOf m =
       terms = [];
       flag = m .given .flag;
       aliveCount = m .given .aliveCount;
+      pair = m .given .pair;
       alive = m .words;
     }
 
@@ -81,6 +82,7 @@ withCount n r =
       terms = r .terms;
       flag = r .flag;
       aliveCount = n;
+      pair = r .pair;
     }
 
 -- a withdrawn row's bit is set, and one row more is alive

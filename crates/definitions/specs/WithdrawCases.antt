@@ -12,9 +12,9 @@ use Rattle.definitions.specs.Withdraw.{AliveSet, aliveWordsWrong, rowAbs
 
 -- ---- how the tables are written
 
--- rows, flag, alive rows and alive words, in a record whose type and kind a join would refuse, and whose lengths stand for nothing that is lent
+-- rows, flag, alive rows and alive words, in a record whose type and kind a join would refuse, and whose lengths and pair stand for nothing that is lent
 abbrev set : ℕ → ℕ → ℕ → List ℕ → AliveSet
-set rows flag alive words = record { given = recordFrom (9 ∷ 3 ∷ rows ∷ 1 ∷ 2 ∷ 3 ∷ 4 ∷ flag ∷ alive ∷ []); words = words }
+set rows flag alive words = record { given = recordFrom (9 ∷ 3 ∷ rows ∷ 1 ∷ 2 ∷ 3 ∷ 4 ∷ flag ∷ alive ∷ 6 ∷ 5 ∷ []); words = words }
 
 outcome : Marking → AliveSet → MarkOutcome
 unfolding allBelow aliveWords bitAt setBits aliveNumber bitPastRows aliveSetWrong aliveWordsWrong rowAbsent markChecks markNumber reinstated withdrawn markedRow markOutcome

@@ -16,7 +16,7 @@ use Rattle.definitions.specs.Withdraw as Withdraw
 use Rattle.definitions.specs.Withdraw.{markNumberOf}
 use Rattle.segment.specs.Lent.{addressesOf}
 use Rattle.segment.specs.declared.Record.{Record}
-use Rattle.records.specs.Rows.{numbersOf}
+use Rattle.segment.specs.Records.{recordRow, recordIn}
 use Rattle.convert.specs.declared.ConvertAnswer.{ConvertAnswer}
 use Rattle.convert.specs.declared.ConvertAnswer.the-variants as C
 use Rattle.convert.specs.Outcome as converted
@@ -63,7 +63,7 @@ module _ {a : ConvertAnswer} {ids offsets : List ℕ} {o : Convert.ConvertOutcom
       let r = sym (ap converted.answerOf q) ∙ ap (λ (x : Convert.ConvertOutcome). x .answer) e in
       (ap convertNumberOf r, (ap (λ (x : Convert.ConvertOutcome). x .ids) e, (ap (λ (x : Convert.ConvertOutcome). x .offsets) e, ap (λ (x : Convert.ConvertAnswer). recordAfter x old) r)))
 
-  pub told-converted : {r : Record} {new : List ℕ} → a ≡ C.Converted r → new ≡ numbersOf r → ToldConverted o ids offsets old 0 new
+  pub told-converted : {r : Record} {new : List ℕ} → a ≡ C.Converted r → new ≡ recordRow (recordIn r) → ToldConverted o ids offsets old 0 new
   told-converted q l =
       let r = sym (ap converted.answerOf q) ∙ ap (λ (x : Convert.ConvertOutcome). x .answer) e in
       (ap convertNumberOf r, (ap (λ (x : Convert.ConvertOutcome). x .ids) e, (ap (λ (x : Convert.ConvertOutcome). x .offsets) e, l ∙ ap (λ (x : Convert.ConvertAnswer). recordAfter x old) r)))

@@ -3,20 +3,21 @@ ghost use mathlib.Core.Path.{_≡_};
 ghost use mathlib.Core.List.{[], _∷_};
 ghost use lib.ListN.{length};
 ghost use Rattle.definitions.specs.Outcome.{numberOf, joinOutcome, lentOf};
-ghost use Rattle.definitions.specs.Segment.{recordFrom};
+ghost use Rattle.definitions.specs.Types.{pairOf};
 ghost use Rattle.definitions.specs.TimeOrder.{timeNumberOf, timeOutcome};
 ghost use Rattle.definitions.specs.Convert.{convertNumberOf, convertOutcome};
 ghost use Rattle.definitions.specs.Withdraw.{withdrawing, reinstating, markNumberOf, markOutcome};
 ghost use Rattle.merge.specs.Whole.{buffersOf};
+ghost use Rattle.segment.specs.Records.{rowRecord, recordsOf};
 ghost use Rattle.segment.specs.Lent.{addressesOf};
 ghost use Rattle.time_checks.specs.Lent.{lentTimes};
 ghost use Rattle.time_order.specs.Outcome.{outputOf};
 ghost use Rattle.convert.specs.Outcome.{lentConvert};
 ghost use Rattle.withdraw.specs.Lent.{lentSet, answerOf, recordLeft};
-ghost use Rattle.jadmirus.specs.Told.{listOf, numbersAfter, countAfter, recordAfter, changesAfter};
+ghost use Rattle.jadmirus.specs.Told.{pairListed, listOf, numbersAfter, countAfter, recordAfter, changesAfter};
 
-// The ten numbers of an acceptance in their order.
-fn numbers_of(n: merge::Numbers) -> [u64; 10]
+// The twelve numbers of an acceptance in their order.
+fn numbers_of(n: merge::Numbers) -> [u64; 12]
     ensures { λ r. ⌜ r ≡ listOf n ⌝ }
 {
     [
@@ -30,6 +31,8 @@ fn numbers_of(n: merge::Numbers) -> [u64; 10]
         n.bytes as u64,
         n.map as u64,
         n.copied as u64,
+        n.least,
+        n.greatest,
     ]
 }
 
@@ -53,11 +56,11 @@ pub extern "C" fn jadmirus_join(
     out_lengths: &mut [u32],
     out_bytes: &mut [u8],
     out_map: &mut [u32],
-    out_numbers: &mut [u64; 10],
+    out_numbers: &mut [u64; 12],
 ) -> u32
-    ensures { λ r. ⌜ r ≡ numberOf (joinOutcome (lentOf mode required (now (records .entry)) (now (ids .entry)) (now (offsets .entry)) (now (values .entry)) (now (lengths .entry)) (now (bytes .entry)) (now (alive .entry)) (now (addresses .entry)) (buffersOf (now («out_ids» .entry)) (now («out_offsets» .entry)) (now («out_values» .entry)) (now («out_lengths» .entry)) (now («out_bytes» .entry)) (now («out_map» .entry)) (now (work .entry)))) .answer) ⌝ }
-    ensures { λ _. ⌜ buffersOf (now («out_ids» .exit)) (now («out_offsets» .exit)) (now («out_values» .exit)) (now («out_lengths» .exit)) (now («out_bytes» .exit)) (now («out_map» .exit)) (now (work .exit)) ≡ joinOutcome (lentOf mode required (now (records .entry)) (now (ids .entry)) (now (offsets .entry)) (now (values .entry)) (now (lengths .entry)) (now (bytes .entry)) (now (alive .entry)) (now (addresses .entry)) (buffersOf (now («out_ids» .entry)) (now («out_offsets» .entry)) (now («out_values» .entry)) (now («out_lengths» .entry)) (now («out_bytes» .entry)) (now («out_map» .entry)) (now (work .entry)))) .buffers ⌝ }
-    ensures { λ _. ⌜ now («out_numbers» .exit) ≡ numbersAfter (joinOutcome (lentOf mode required (now (records .entry)) (now (ids .entry)) (now (offsets .entry)) (now (values .entry)) (now (lengths .entry)) (now (bytes .entry)) (now (alive .entry)) (now (addresses .entry)) (buffersOf (now («out_ids» .entry)) (now («out_offsets» .entry)) (now («out_values» .entry)) (now («out_lengths» .entry)) (now («out_bytes» .entry)) (now («out_map» .entry)) (now (work .entry)))) .answer) (now («out_numbers» .entry)) ⌝ }
+    ensures { λ r. ⌜ r ≡ numberOf (joinOutcome (lentOf mode required (recordsOf (now (records .entry))) (now (ids .entry)) (now (offsets .entry)) (now (values .entry)) (now (lengths .entry)) (now (bytes .entry)) (now (alive .entry)) (now (addresses .entry)) (buffersOf (now («out_ids» .entry)) (now («out_offsets» .entry)) (now («out_values» .entry)) (now («out_lengths» .entry)) (now («out_bytes» .entry)) (now («out_map» .entry)) (now (work .entry)))) .answer) ⌝ }
+    ensures { λ _. ⌜ buffersOf (now («out_ids» .exit)) (now («out_offsets» .exit)) (now («out_values» .exit)) (now («out_lengths» .exit)) (now («out_bytes» .exit)) (now («out_map» .exit)) (now (work .exit)) ≡ joinOutcome (lentOf mode required (recordsOf (now (records .entry))) (now (ids .entry)) (now (offsets .entry)) (now (values .entry)) (now (lengths .entry)) (now (bytes .entry)) (now (alive .entry)) (now (addresses .entry)) (buffersOf (now («out_ids» .entry)) (now («out_offsets» .entry)) (now («out_values» .entry)) (now («out_lengths» .entry)) (now («out_bytes» .entry)) (now («out_map» .entry)) (now (work .entry)))) .buffers ⌝ }
+    ensures { λ _. ⌜ now («out_numbers» .exit) ≡ numbersAfter (joinOutcome (lentOf mode required (recordsOf (now (records .entry))) (now (ids .entry)) (now (offsets .entry)) (now (values .entry)) (now (lengths .entry)) (now (bytes .entry)) (now (alive .entry)) (now (addresses .entry)) (buffersOf (now («out_ids» .entry)) (now («out_offsets» .entry)) (now («out_values» .entry)) (now («out_lengths» .entry)) (now («out_bytes» .entry)) (now («out_map» .entry)) (now (work .entry)))) .answer) (now («out_numbers» .entry)) ⌝ }
 {
     let a = merge::join(
         mode,
@@ -138,10 +141,10 @@ pub extern "C" fn jadmirus_convert(
     out_offsets: &mut [u32],
     out_record: &mut segment::RecordNumbers,
 ) -> u32
-    ensures { λ r. ⌜ r ≡ convertNumberOf (convertOutcome (lentConvert (recordFrom (now («record» .entry))) (now (ids .entry)) (now (offsets .entry)) (now (values .entry)) (now (lengths .entry)) (now (bytes .entry)) (now (alive .entry)) (length (now («out_ids» .entry))) (length (now («out_offsets» .entry)))) (now («out_ids» .entry)) (now («out_offsets» .entry)) .answer) ⌝ }
-    ensures { λ _. ⌜ now («out_ids» .exit) ≡ convertOutcome (lentConvert (recordFrom (now («record» .entry))) (now (ids .entry)) (now (offsets .entry)) (now (values .entry)) (now (lengths .entry)) (now (bytes .entry)) (now (alive .entry)) (length (now («out_ids» .entry))) (length (now («out_offsets» .entry)))) (now («out_ids» .entry)) (now («out_offsets» .entry)) .ids ⌝ }
-    ensures { λ _. ⌜ now («out_offsets» .exit) ≡ convertOutcome (lentConvert (recordFrom (now («record» .entry))) (now (ids .entry)) (now (offsets .entry)) (now (values .entry)) (now (lengths .entry)) (now (bytes .entry)) (now (alive .entry)) (length (now («out_ids» .entry))) (length (now («out_offsets» .entry)))) (now («out_ids» .entry)) (now («out_offsets» .entry)) .offsets ⌝ }
-    ensures { λ _. ⌜ now («out_record» .exit) ≡ recordAfter (convertOutcome (lentConvert (recordFrom (now («record» .entry))) (now (ids .entry)) (now (offsets .entry)) (now (values .entry)) (now (lengths .entry)) (now (bytes .entry)) (now (alive .entry)) (length (now («out_ids» .entry))) (length (now («out_offsets» .entry)))) (now («out_ids» .entry)) (now («out_offsets» .entry)) .answer) (now («out_record» .entry)) ⌝ }
+    ensures { λ r. ⌜ r ≡ convertNumberOf (convertOutcome (lentConvert (rowRecord (now («record» .entry))) (now (ids .entry)) (now (offsets .entry)) (now (values .entry)) (now (lengths .entry)) (now (bytes .entry)) (now (alive .entry)) (length (now («out_ids» .entry))) (length (now («out_offsets» .entry)))) (now («out_ids» .entry)) (now («out_offsets» .entry)) .answer) ⌝ }
+    ensures { λ _. ⌜ now («out_ids» .exit) ≡ convertOutcome (lentConvert (rowRecord (now («record» .entry))) (now (ids .entry)) (now (offsets .entry)) (now (values .entry)) (now (lengths .entry)) (now (bytes .entry)) (now (alive .entry)) (length (now («out_ids» .entry))) (length (now («out_offsets» .entry)))) (now («out_ids» .entry)) (now («out_offsets» .entry)) .ids ⌝ }
+    ensures { λ _. ⌜ now («out_offsets» .exit) ≡ convertOutcome (lentConvert (rowRecord (now («record» .entry))) (now (ids .entry)) (now (offsets .entry)) (now (values .entry)) (now (lengths .entry)) (now (bytes .entry)) (now (alive .entry)) (length (now («out_ids» .entry))) (length (now («out_offsets» .entry)))) (now («out_ids» .entry)) (now («out_offsets» .entry)) .offsets ⌝ }
+    ensures { λ _. ⌜ now («out_record» .exit) ≡ recordAfter (convertOutcome (lentConvert (rowRecord (now («record» .entry))) (now (ids .entry)) (now (offsets .entry)) (now (values .entry)) (now (lengths .entry)) (now (bytes .entry)) (now (alive .entry)) (length (now («out_ids» .entry))) (length (now («out_offsets» .entry)))) (now («out_ids» .entry)) (now («out_offsets» .entry)) .answer) (now («out_record» .entry)) ⌝ }
 {
     let r = segment::record_of(*record);
     let a = convert::convert(
@@ -158,7 +161,7 @@ pub extern "C" fn jadmirus_convert(
     match a {
         convert::ConvertAnswer::Refused(k) => k,
         convert::ConvertAnswer::Converted(n) => {
-            *out_record = records::numbers_of(n);
+            *out_record = segment::numbers_of(n);
             0
         }
     }
@@ -244,4 +247,13 @@ pub extern "C" fn jadmirus_reinstate_rows(
 {
     let a = withdraw::reinstate_rows(record, alive, rows);
     tell(a, out_changed)
+}
+
+// The least and the greatest of a column's values, as its record holds them: for callers that make a record.
+#[no_mangle]
+pub extern "C" fn jadmirus_pair(typ: u32, values: &[u64], out_pair: &mut [u64; 2])
+    ensures { λ _. ⌜ now («out_pair» .exit) ≡ pairListed (pairOf typ (now (values .entry))) ⌝ }
+{
+    let p: min_max::Range = min_max::pair_of(typ, values);
+    *out_pair = [p.least, p.greatest];
 }

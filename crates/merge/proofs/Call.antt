@@ -4,6 +4,7 @@ use mathlib.Core.Path.{_≡_, sym, ap, _∙_}
 use mathlib.Core.List.{List}
 use lib.ListN.{length, replicate, length-replicate}
 use Rattle.definitions.specs.Outcome.{Lent, refused, spaceOf, inputOf, refusedBuffers, acceptedBuffers, joinOutcome, lentOf}
+use Rattle.segment.specs.Records.{recordsOf}
 use Rattle.segment.specs.Lent.{lentInput}
 use Rattle.verdict.specs.Nine.{answerToNine}
 use Rattle.runs.proofs.Zeros.{zero-again}
@@ -13,7 +14,7 @@ use Rattle.merge_checked.proofs.Leaves.{left-refused, early}
 
 module _ (mode required : ℕ) (records : List (List ℕ)) (ids offsets values lengths bytes words : List ℕ) (addresses : List (List ℕ)) (outIds outOffsets outValues lens outs ords work : List ℕ) where
   abbrev lent : List ℕ → Lent
-  lent w = lentOf mode required records ids offsets values lengths bytes words addresses (buffersOf outIds outOffsets outValues lens outs ords w)
+  lent w = lentOf mode required (recordsOf records) ids offsets values lengths bytes words addresses (buffersOf outIds outOffsets outValues lens outs ords w)
 
   abbrev nine : ℕ → ℕ
   nine n = answerToNine (lentInput mode required records ids offsets values lengths bytes words addresses n)

@@ -2,18 +2,18 @@
 -- holds of them by computation, and with it what the theorem says. Assumes nothing.
 use Prim.Native.Nat.{ℕ, suc}
 use mathlib.Core.Path.{_≡_, refl}
-use mathlib.Core.List.{List, [], _∷_, map}
+use mathlib.Core.List.{List, [], _∷_, _++_, map}
 use mathlib.Core.Bool.{Bool, true, false, cond}
 use native.Mathlib.Omega.{arith}
 use lib.ListN.{replicate}
 use lib.Dec.{eqb}
 use Rattle.definitions.specs.Words.{wordsPerValue, valueWords, valuesIn}
-use Rattle.definitions.specs.Segment.{Segment, Address, aliveWords, recordWords, firstSegment, afterFirst, segmentsOf, recordOf, sectionsOf, address as at}
+use Rattle.definitions.specs.Segment.{Segment, noPair, Address, aliveWords, recordWords, firstSegment, afterFirst, segmentsOf, recordOf, sectionsOf, address as at}
 use Rattle.definitions.specs.Row.{rowValues, bitAt, setBits, isAlive, aliveRows, aliveNumber, isDropped, isHeld, heldOf, asEmpty, effective}
-use Rattle.definitions.specs.Types.{isKnownType, isNumerical, hasTerms, sameCategory, hasType, everyValue, onlyType, numericalType, typeOf, coerced, isCoercible}
+use Rattle.definitions.specs.Types.{isKnownType, isNumerical, hasTerms, sameCategory, hasType, pairOf, everyPair, onlyType, numericalType, typeOf, coerced, isCoercible}
 use Rattle.definitions.specs.Class.{kindClass, aliveClass, classOf, greatestClass}
 use Rattle.definitions.specs.Join.{rowOrder, isUsed, keptTerms, termsOf, ordinalOf, mapOf, newWord, cellOf, encode, joinedType, joinedClass, joinedCells, joinedColumn, joinRules, kindOf, asSegment}
-use Rattle.definitions.specs.Answer.{tooManySegments, lengthsWrong, codesKnown, noColumnIsBare, segmentCodesWrong, codesWrong, someOld, idsFit, offsetsFit, emptyFits, fullFits, optionalFits, oldFits, newFits, listsFit, listsWrong, valuesFit, valuesWrong, bitPastRows, aliveSetWrong, aliveWrong, sumsTooLarge, workingTooSmall, isAliveAt, aliveAddresses, listsAliveRows, addressesWrong, presentTypes, oneCategory, allCoercible, typesWrong, outputTooShort, joinChecks, answer}
+use Rattle.definitions.specs.Answer.{tooManySegments, lengthsWrong, codesKnown, noColumnIsBare, segmentCodesWrong, codesWrong, someOld, idsFit, offsetsFit, emptyFits, fullFits, optionalFits, oldFits, newFits, listsFit, listsWrong, pairFits, valuesFit, valuesWrong, bitPastRows, aliveSetWrong, aliveWrong, sumsTooLarge, workingTooSmall, isAliveAt, aliveAddresses, listsAliveRows, addressesWrong, presentTypes, oneCategory, allCoercible, typesWrong, outputTooShort, joinChecks, answer}
 use Rattle.definitions.specs.Outcome.{Buffers, spaceOf, numbersOf, refusedBuffers, acceptedBuffers, inputOf, joinOutcome, readBack}
 use Rattle.definitions.specs.Book.{Call, first, Entry, lentTo, callLent, callOutcome, callAnswer, afterCall, firstEntry, oneJoin, joinedEntry, standingOf, bookAnswer, bookAfterCall, isSegment, requiredTypes, isUniform, IsSequenceOf, ResultStands, CallsOneJoin}
 use Rattle.merge_checked.specs.declared.Numbers.{Numbers}
@@ -27,7 +27,7 @@ use Rattle.merge.proofs.InTurn.{runs-in-turn-agree}
 -- kind, ids, values, terms, flag, alive rows and alive words
 abbrev week : ℕ → List ℕ → List ℕ → List (List ℕ) → ℕ → ℕ → List ℕ → Segment
 week kind ids values terms flag count alive =
-    record { type = 4; kind = kind; rows = 2; ids = ids; offsets = []; values = values; terms = terms; flag = flag; aliveCount = count; alive = alive }
+    record { type = 4; kind = kind; rows = 2; ids = ids; offsets = []; values = values; terms = terms; flag = flag; aliveCount = count; pair = noPair; alive = alive }
 
 abbrev a : List ℕ
 a = 97 ∷ []
@@ -60,12 +60,16 @@ abbrev leaves : List ℕ → List ℕ → List ℕ → List ℕ → List ℕ →
 leaves ids values lengths bytes m =
     record { ids = ids; offsets = nines 12; values = values; termLengths = lengths; termBytes = bytes; map = m; working = replicate 12 0 }
 
+-- a record's numbers as lent: a Str column has no pair
+abbrev row : List ℕ → List ℕ
+row numbers = numbers ++ (0 ∷ 0 ∷ 0 ∷ 0 ∷ [])
+
 -- the segment with the withdrawn play and the first one, stacked: an alive set is refused there
 abbrev refusedRun : Run
 refusedRun =
     record {
       call = call (2 ∷ 0 ∷ []) 0 [];
-      records = (4 ∷ 1 ∷ 2 ∷ 0 ∷ 0 ∷ 2 ∷ 2 ∷ 1 ∷ 1 ∷ []) ∷ (4 ∷ 2 ∷ 2 ∷ 1 ∷ 0 ∷ 1 ∷ 1 ∷ 0 ∷ 2 ∷ []) ∷ [];
+      records = row (4 ∷ 1 ∷ 2 ∷ 0 ∷ 0 ∷ 2 ∷ 2 ∷ 1 ∷ 1 ∷ []) ∷ row (4 ∷ 2 ∷ 2 ∷ 1 ∷ 0 ∷ 1 ∷ 1 ∷ 0 ∷ 2 ∷ []) ∷ [];
       ids = 1 ∷ [];
       offsets = [];
       values = 0 ∷ 1 ∷ 0 ∷ [];
@@ -82,7 +86,7 @@ abbrev aliveRun : Run
 aliveRun =
     record {
       call = call (2 ∷ []) 1 (at 0 1 ∷ []);
-      records = (4 ∷ 1 ∷ 2 ∷ 0 ∷ 0 ∷ 2 ∷ 2 ∷ 1 ∷ 1 ∷ []) ∷ [];
+      records = row (4 ∷ 1 ∷ 2 ∷ 0 ∷ 0 ∷ 2 ∷ 2 ∷ 1 ∷ 1 ∷ []) ∷ [];
       ids = [];
       offsets = [];
       values = 0 ∷ 1 ∷ [];
@@ -90,7 +94,7 @@ aliveRun =
       bytes = 97 ∷ 98 ∷ [];
       alive = 2 ∷ [];
       addresses = (0 ∷ 1 ∷ []) ∷ [];
-      gave = A.Accepted (record { typ = 4; class = 0; rows = 1; ids = 0; offsets = 0; values = 1; terms = 1; bytes = 1; map = 2; copied = 1 });
+      gave = A.Accepted (record { typ = 4; class = 0; rows = 1; ids = 0; offsets = 0; values = 1; terms = 1; bytes = 1; map = 2; copied = 1; least = 0; greatest = 0 });
       left = leaves (nines 12) (0 ∷ nines 11) (1 ∷ nines 11) (98 ∷ nines 11) (0 ∷ 0 ∷ nines 10);
     }
 
@@ -99,7 +103,7 @@ abbrev stackedRun : Run
 stackedRun =
     record {
       call = call (1 ∷ 0 ∷ []) 0 [];
-      records = (4 ∷ 1 ∷ 2 ∷ 0 ∷ 0 ∷ 2 ∷ 2 ∷ 0 ∷ 2 ∷ []) ∷ (4 ∷ 2 ∷ 2 ∷ 1 ∷ 0 ∷ 1 ∷ 1 ∷ 0 ∷ 2 ∷ []) ∷ [];
+      records = row (4 ∷ 1 ∷ 2 ∷ 0 ∷ 0 ∷ 2 ∷ 2 ∷ 0 ∷ 2 ∷ []) ∷ row (4 ∷ 2 ∷ 2 ∷ 1 ∷ 0 ∷ 1 ∷ 1 ∷ 0 ∷ 2 ∷ []) ∷ [];
       ids = 1 ∷ [];
       offsets = [];
       values = 1 ∷ 0 ∷ 0 ∷ [];
@@ -107,7 +111,7 @@ stackedRun =
       bytes = 97 ∷ 98 ∷ 98 ∷ [];
       alive = [];
       addresses = [];
-      gave = A.Accepted (record { typ = 4; class = 1; rows = 4; ids = 3; offsets = 0; values = 3; terms = 2; bytes = 2; map = 3; copied = 2 });
+      gave = A.Accepted (record { typ = 4; class = 1; rows = 4; ids = 3; offsets = 0; values = 3; terms = 2; bytes = 2; map = 3; copied = 2; least = 0; greatest = 0 });
       left = leaves (0 ∷ 1 ∷ 3 ∷ nines 9) (1 ∷ 0 ∷ 1 ∷ nines 9) (1 ∷ 1 ∷ nines 10) (97 ∷ 98 ∷ nines 10) (0 ∷ 1 ∷ 1 ∷ nines 9);
     }
 
@@ -116,7 +120,7 @@ abbrev orderedRun : Run
 orderedRun =
     record {
       call = call (1 ∷ 0 ∷ []) 1 (at 0 3 ∷ at 1 0 ∷ at 0 0 ∷ at 0 1 ∷ at 0 2 ∷ []);
-      records = (4 ∷ 2 ∷ 4 ∷ 3 ∷ 0 ∷ 3 ∷ 2 ∷ 0 ∷ 4 ∷ []) ∷ (4 ∷ 1 ∷ 1 ∷ 0 ∷ 0 ∷ 1 ∷ 1 ∷ 0 ∷ 1 ∷ []) ∷ [];
+      records = row (4 ∷ 2 ∷ 4 ∷ 3 ∷ 0 ∷ 3 ∷ 2 ∷ 0 ∷ 4 ∷ []) ∷ row (4 ∷ 1 ∷ 1 ∷ 0 ∷ 0 ∷ 1 ∷ 1 ∷ 0 ∷ 1 ∷ []) ∷ [];
       ids = 0 ∷ 1 ∷ 3 ∷ [];
       offsets = [];
       values = 1 ∷ 0 ∷ 1 ∷ 0 ∷ [];
@@ -124,7 +128,7 @@ orderedRun =
       bytes = 97 ∷ 98 ∷ 98 ∷ [];
       alive = [];
       addresses = (0 ∷ 3 ∷ []) ∷ (1 ∷ 0 ∷ []) ∷ (0 ∷ 0 ∷ []) ∷ (0 ∷ 1 ∷ []) ∷ (0 ∷ 2 ∷ []) ∷ [];
-      gave = A.Accepted (record { typ = 4; class = 1; rows = 5; ids = 4; offsets = 0; values = 4; terms = 2; bytes = 2; map = 3; copied = 2 });
+      gave = A.Accepted (record { typ = 4; class = 1; rows = 5; ids = 4; offsets = 0; values = 4; terms = 2; bytes = 2; map = 3; copied = 2; least = 0; greatest = 0 });
       left = leaves (0 ∷ 1 ∷ 2 ∷ 3 ∷ nines 8) (1 ∷ 1 ∷ 1 ∷ 0 ∷ nines 8) (1 ∷ 1 ∷ nines 10) (97 ∷ 98 ∷ nines 10) (0 ∷ 1 ∷ 1 ∷ nines 9);
     }
 
@@ -133,13 +137,13 @@ runs = refusedRun ∷ aliveRun ∷ stackedRun ∷ orderedRun ∷ []
 
 -- the one join: the first segments in their own sequence, ordered by the origins of the result
 abbrev oneNumbers : Numbers
-oneNumbers = record { typ = 4; class = 1; rows = 5; ids = 4; offsets = 0; values = 4; terms = 2; bytes = 2; map = 5; copied = 2 }
+oneNumbers = record { typ = 4; class = 1; rows = 5; ids = 4; offsets = 0; values = 4; terms = 2; bytes = 2; map = 5; copied = 2; least = 0; greatest = 0 }
 
 abbrev oneRun : Run
 oneRun =
     record {
       call = call (0 ∷ 1 ∷ 2 ∷ []) 1 (at 0 1 ∷ at 2 1 ∷ at 1 0 ∷ at 1 1 ∷ at 0 0 ∷ []);
-      records = (4 ∷ 2 ∷ 2 ∷ 1 ∷ 0 ∷ 1 ∷ 1 ∷ 0 ∷ 2 ∷ []) ∷ (4 ∷ 1 ∷ 2 ∷ 0 ∷ 0 ∷ 2 ∷ 2 ∷ 0 ∷ 2 ∷ []) ∷ (4 ∷ 1 ∷ 2 ∷ 0 ∷ 0 ∷ 2 ∷ 2 ∷ 1 ∷ 1 ∷ []) ∷ [];
+      records = row (4 ∷ 2 ∷ 2 ∷ 1 ∷ 0 ∷ 1 ∷ 1 ∷ 0 ∷ 2 ∷ []) ∷ row (4 ∷ 1 ∷ 2 ∷ 0 ∷ 0 ∷ 2 ∷ 2 ∷ 0 ∷ 2 ∷ []) ∷ row (4 ∷ 1 ∷ 2 ∷ 0 ∷ 0 ∷ 2 ∷ 2 ∷ 1 ∷ 1 ∷ []) ∷ [];
       ids = 1 ∷ [];
       offsets = [];
       values = 0 ∷ 1 ∷ 0 ∷ 0 ∷ 1 ∷ [];
@@ -155,7 +159,7 @@ oneRun =
 
 -- what was lent is what the calls hand over, and each answer and all that was left are the definition's; every definition is opened here, once
 ran : RanFrom runs (map first weeks)
-unfolding kindOf asSegment lentTo callLent callOutcome callAnswer afterCall firstEntry oneJoin joinedEntry standingOf bookAnswer bookAfterCall isSegment requiredTypes isUniform wordsPerValue valueWords valuesIn aliveWords recordWords firstSegment afterFirst segmentsOf recordOf sectionsOf rowValues bitAt setBits isAlive aliveRows aliveNumber isDropped isHeld heldOf asEmpty effective isKnownType isNumerical hasTerms sameCategory hasType everyValue onlyType numericalType typeOf coerced isCoercible kindClass aliveClass classOf greatestClass rowOrder isUsed keptTerms termsOf ordinalOf mapOf newWord cellOf encode joinedType joinedClass joinedCells joinedColumn joinRules tooManySegments lengthsWrong codesKnown noColumnIsBare segmentCodesWrong codesWrong someOld idsFit offsetsFit emptyFits fullFits optionalFits oldFits newFits listsFit listsWrong valuesFit valuesWrong bitPastRows aliveSetWrong aliveWrong sumsTooLarge workingTooSmall isAliveAt aliveAddresses listsAliveRows addressesWrong presentTypes oneCategory allCoercible typesWrong outputTooShort joinChecks answer spaceOf numbersOf refusedBuffers acceptedBuffers inputOf joinOutcome readBack
+unfolding kindOf asSegment lentTo callLent callOutcome callAnswer afterCall firstEntry oneJoin joinedEntry standingOf bookAnswer bookAfterCall isSegment requiredTypes isUniform wordsPerValue valueWords valuesIn aliveWords recordWords firstSegment afterFirst segmentsOf recordOf sectionsOf rowValues bitAt setBits isAlive aliveRows aliveNumber isDropped isHeld heldOf asEmpty effective isKnownType isNumerical hasTerms sameCategory hasType pairOf everyPair onlyType numericalType typeOf coerced isCoercible kindClass aliveClass classOf greatestClass rowOrder isUsed keptTerms termsOf ordinalOf mapOf newWord cellOf encode joinedType joinedClass joinedCells joinedColumn joinRules tooManySegments lengthsWrong codesKnown noColumnIsBare segmentCodesWrong codesWrong someOld idsFit offsetsFit emptyFits fullFits optionalFits oldFits newFits listsFit listsWrong pairFits valuesFit valuesWrong bitPastRows aliveSetWrong aliveWrong sumsTooLarge workingTooSmall isAliveAt aliveAddresses listsAliveRows addressesWrong presentTypes oneCategory allCoercible typesWrong outputTooShort joinChecks answer spaceOf numbersOf refusedBuffers acceptedBuffers inputOf joinOutcome readBack
 ran = (record { laid = refl; kept = refl }, (record { laid = refl; kept = refl }, (record { laid = refl; kept = refl }, (record { laid = refl; kept = refl }, tt))))
 
 one-ran : Ran oneRun (map first weeks)

@@ -8,6 +8,7 @@ use Rattle.definitions.specs.Segment.{Segment}
 use Rattle.definitions.specs.Join.{absent}
 use Rattle.definitions.specs.Outcome.{Buffers, Lent, numberOf, lentOf, readBack}
 use Rattle.definitions.specs.Book.{Call, Standing, first, result, callLent, afterAnswer, Entry, oneJoin, bookAnswers, bookAfter, standingOf, handsOnlyStanding, acceptsOnlySegments, isUniform, IsSequenceOf, ResultStands, CallsOneJoin}
+use Rattle.segment.specs.Records.{recordsOf}
 use Rattle.merge_checked.specs.declared.Numbers.{Numbers}
 use Rattle.merge_checked.specs.declared.Answer.{Answer}
 use Rattle.merge_checked.specs.declared.Answer.the-variants as A
@@ -28,7 +29,7 @@ pub record Run : Type 0 where
   pub left : Buffers
 
 abbrev pub lentIn : Run → Lent
-lentIn x = lentOf (x .call .mode) (x .call .required) (x .records) (x .ids) (x .offsets) (x .values) (x .lengths) (x .bytes) (x .alive) (x .addresses) (x .call .buffers)
+lentIn x = lentOf (x .call .mode) (x .call .required) (recordsOf (x .records)) (x .ids) (x .offsets) (x .values) (x .lengths) (x .bytes) (x .alive) (x .addresses) (x .call .buffers)
 
 -- what was lent is what the book's call hands over, and `join` has kept its contract
 pub record Ran (x : Run) (standing : List Standing) : Type 0 where

@@ -1,5 +1,6 @@
 // The joiner: columnar/merge/mod.rs (`merge_columnar` for one column name).
 ghost use Rattle.definitions.specs.Outcome.{lentOf};
+ghost use Rattle.segment.specs.Records.{recordsOf};
 ghost use Rattle.merge.specs.Whole.{JoinKept, buffersOf};
 pub use merge_checked::Answer;
 pub use merge_checked::Numbers;
@@ -25,7 +26,7 @@ pub fn join(
     out_bytes: &mut [u8],
     out_map: &mut [u32],
 ) -> Answer
-    ensures { λ r. ⌜ JoinKept (lentOf mode required (now (records .entry)) (now (ids .entry)) (now (offsets .entry)) (now (values .entry)) (now (lengths .entry)) (now (bytes .entry)) (now (alive .entry)) (now (addresses .entry)) (buffersOf (now («out_ids» .entry)) (now («out_offsets» .entry)) (now («out_values» .entry)) (now («out_lengths» .entry)) (now («out_bytes» .entry)) (now («out_map» .entry)) (now (work .entry)))) r (buffersOf (now («out_ids» .exit)) (now («out_offsets» .exit)) (now («out_values» .exit)) (now («out_lengths» .exit)) (now («out_bytes» .exit)) (now («out_map» .exit)) (now (work .exit))) ⌝ }
+    ensures { λ r. ⌜ JoinKept (lentOf mode required (recordsOf (now (records .entry))) (now (ids .entry)) (now (offsets .entry)) (now (values .entry)) (now (lengths .entry)) (now (bytes .entry)) (now (alive .entry)) (now (addresses .entry)) (buffersOf (now («out_ids» .entry)) (now («out_offsets» .entry)) (now («out_values» .entry)) (now («out_lengths» .entry)) (now («out_bytes» .entry)) (now («out_map» .entry)) (now (work .entry)))) r (buffersOf (now («out_ids» .exit)) (now («out_offsets» .exit)) (now («out_values» .exit)) (now («out_lengths» .exit)) (now («out_bytes» .exit)) (now («out_map» .exit)) (now (work .exit))) ⌝ }
 {
     let first = verdict::verdict(
         mode,

@@ -4,11 +4,12 @@ use native.Mathlib.Omega.{arith}
 use mathlib.Core.Path.{_≡_, refl, sym, ap, _∙_, subst}
 use mathlib.Core.List.{List, [], _∷_, map}
 use mathlib.Core.Bool.{Bool, true, false, not, cond, _||_, false≢true}
-use lib.ListN.{length}
+use lib.ListN.{length, take}
+use lib.Seq.{take-at, length-take-le}
 use lib.Dec.{eqb, ltb}
 use borrow.Author.Tests.{ltb-false}
 use Rattle.definitions.specs.Words.{valueWords}
-use Rattle.definitions.specs.Segment.{Segment, segmentsOf}
+use Rattle.definitions.specs.Segment.{Segment, pair, segmentsOf}
 use Rattle.definitions.specs.Lists.{filter}
 use Rattle.definitions.specs.Row.{isHeld, heldOf}
 use Rattle.definitions.specs.Join.{Column, rowOrder, encode, termsOf, mapOf, joinedColumn, joinRules}
@@ -19,18 +20,19 @@ use Rattle.definitions.proofs.Words.{AllWords}
 use Rattle.runs.specs.Put.{put, putIf}
 use Rattle.stands.specs.Width.{idsOf, totalsOf}
 use Rattle.merge_column.proofs.Map.{alike}
+use Rattle.merge_column.proofs.Pair.{pair-joined}
 use Rattle.merge_column.proofs.Joined.{mapped, filling, ids-are, offsets-are, values-are}
 use Rattle.merge_column.specs.declared.Shape.{Shape}
 use Rattle.merge_column.specs.declared.Plan.{Plan}
 use Rattle.merge_column.specs.declared.Plan.the-variants.{Refused, Column as Planned}
 use Rattle.census.specs.declared.Tally.{Tally}
-use Rattle.merge_column.specs.Plan.{widthsFor, joinedWords, planFor, Filling}
+use Rattle.merge_column.specs.Plan.{widthsFor, joinedWords, planFor, pairFor, Filling}
 use Rattle.merge_column.specs.Mapped.{Mapped}
 use Rattle.term_walk.specs.Walk.{Merged}
 use Rattle.merge_dict_column.specs.Dict.{Dictionary}
 use Rattle.merge_dict_column.specs.Fill.{marksOf, DictionaryGiven}
 use Rattle.merge_dict_column.proofs.Given.{joins}
-use Rattle.segment.specs.Records.{segmentsIn}
+use Rattle.segment.specs.Records.{segmentsIn, recordsOf}
 use Rattle.segment.specs.Lent.{addressesOf}
 use Rattle.merge_checked.specs.declared.Answer.the-variants as A
 use Rattle.merge_checked.specs.Call.{AfterNine, outcomeOf, buffersOf}
@@ -122,11 +124,11 @@ module _ {mode required : ℕ} {records : List (List ℕ)} {ids offsets values l
   b = buffersOf outIds outOffsets outValues lens outs ords work
 
   abbrev l : Lent
-  l = lentOf mode required records ids offsets values lengths bytes words addresses b
+  l = lentOf mode required (recordsOf records) ids offsets values lengths bytes words addresses b
 
   abbrev plan : Plan
   plan =
-      planFor mode required stands values (length addresses) tally
+      planFor mode required stands (length addresses) tally
       (record { ids = length outIds; offsets = length outOffsets; values = length outValues; lengths = length lens; bytes = length outs; map = length ords })
 
   -- ---- a refusal
@@ -147,6 +149,14 @@ module _ {mode required : ℕ} {records : List (List ℕ)} {ids offsets values l
         (length (col .ids)) (length (col .offsets)) (length (valueWords (col .type) (col .values))) (sumOver termsIn (heldOf ss)) (sumOver bytesIn (heldOf ss)) (sumOver termsIn (heldOf ss))
     unfolding outputTooShort inputOf spaceOf segmentsOf joinRules
     room = six _ _ _ _ _ _ _ _ _ _ _ _ (c .short)
+
+    -- the words that `fill_rows` writes stand at the start of the output
+    pub words-in : (values′ : List ℕ) → length values′ ≡ length outValues → x .words ≤ length values′
+    unfolding shape
+    words-in values′ e = subst (λ (n : ℕ). x .words ≤ n) (sym e) (subst (λ (s : Shape). s .words ≤ length outValues) (sym (c .is)) (room .values))
+
+    pub words-long : (values′ : List ℕ) → length values′ ≡ length outValues → x .words ≡ length (take (x .words) values′)
+    words-long values′ e = sym (length-take-le (x .words) values′ (words-in values′ e))
 
     pub dictionary-given : DictionaryGiven mode stands ids offsets values lengths bytes words work lens outs ords
     dictionary-given =
@@ -181,17 +191,20 @@ module _ {mode required : ℕ} {records : List (List ℕ)} {ids offsets values l
           → offsets′ ≡ putIf (eqb (x .class) 2) 0 (0 ∷ totalsOf 0 (widthsFor mode addresses stands ids offsets)) outOffsets
           → values′ ≡ put 0 (joinedWords mode (x .typ) addresses stands ids offsets values ords′) outValues
           → work′ ≡ work
+          → (least greatest : ℕ) → pair least greatest ≡ pairFor (x .typ) stands (take (x .words) values′)
           → outcomeOf
           (A.Accepted
-          (record { typ = x .typ; class = x .class; rows = x .rows; ids = x .ids; offsets = x .offsets; values = x .values; terms = n; bytes = m; map = x .map; copied = k }))
+          (record { typ = x .typ; class = x .class; rows = x .rows; ids = x .ids; offsets = x .offsets; values = x .values; terms = n; bytes = m; map = x .map; copied = k; least = least; greatest = greatest }))
           (buffersOf ids′ offsets′ values′ lens′ outs′ ords′ work′)
           ≡ joinOutcome l
       unfolding numbersOf acceptedBuffers inputOf segmentsOf joinRules shape joinedColumn encode
-      accepted-end ids′ offsets′ values′ work′ ei eo ev ew =
+      accepted-end ids′ offsets′ values′ work′ ei eo ev ew least greatest ep =
           let z : answer (inputOf l) ≡ 0 =
           late mode required records ids offsets values lengths bytes words addresses b (p .nine)
           ∙ ap (λ (t : Bool). cond t 10 (cond (outputTooShort (inputOf l)) 11 0)) (c .types)
           ∙ ap (λ (o : Bool). cond o 11 0) (c .short) in
+          let vs = ev ∙ ap (λ (s : Shape). put 0 (joinedWords mode (s .typ) addresses stands ids offsets values ords′) outValues) (c .is) ∙ values-are (table p r) (rows p r) required map-stands all (alike required ss (c .types)) outValues in
+          let front = ap (take (length (valueWords (col .type) (col .values)))) vs ∙ take-at (valueWords (col .type) (col .values)) _ _ refl in
           (λ j.
           record {
             answer =
@@ -207,12 +220,13 @@ module _ {mode required : ℕ} {records : List (List ℕ)} {ids offsets values l
                   termBytes = d .used j;
                   map = (ap (λ (s : Shape). s .map) (c .is) ∙ sym (map-count ss)) j;
                   copied = d .copied j;
+                  pair = (ep ∙ ap (λ (s : Shape). pairFor (s .typ) stands (take (s .words) values′)) (c .is) ∙ pair-joined (table p r) (rows p r) required (c .types) front) j;
                 });
             buffers =
                 buffersOf
                 ((ei ∙ ap (λ (s : Shape). putIf (not (eqb (s .class) 0)) 0 (idsOf 0 (widthsFor mode addresses stands ids offsets)) outIds) (c .is) ∙ ids-are (table p r) (rows p r) required outIds) j)
                 ((eo ∙ ap (λ (s : Shape). putIf (eqb (s .class) 2) 0 (0 ∷ totalsOf 0 (widthsFor mode addresses stands ids offsets)) outOffsets) (c .is) ∙ offsets-are (table p r) (rows p r) required outOffsets) j)
-                ((ev ∙ ap (λ (s : Shape). put 0 (joinedWords mode (s .typ) addresses stands ids offsets values ords′) outValues) (c .is) ∙ values-are (table p r) (rows p r) required map-stands all (alike required ss (c .types)) outValues) j)
+                (vs j)
                 (d .lengths-out j)
                 (d .texts-out j)
                 (d .map-out j)

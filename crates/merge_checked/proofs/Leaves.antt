@@ -10,7 +10,7 @@ use Rattle.definitions.specs.Segment.{segmentsOf}
 use Rattle.definitions.specs.Answer.{answer, joinOf, typesWrong, outputTooShort}
 use Rattle.definitions.specs.Outcome.{Buffers, Lent, accepted, refused, spaceOf, inputOf, numbersOf, refusedBuffers, acceptedBuffers, joinOutcome, lentOf}
 use Rattle.segment.specs.Lent.{lentInput}
-use Rattle.segment.specs.Records.{segmentsIn}
+use Rattle.segment.specs.Records.{segmentsIn, recordsOf}
 use Rattle.verdict.specs.Nine.{answerToNine}
 use Rattle.verdict.proofs.Answer.{answer-nine, answer-rest, nine-space}
 
@@ -30,7 +30,7 @@ left-accepted l e = let z : eqb (answer (inputOf l)) 0 ≡ true = eq-eqb (answer
 
 module _ (mode required : ℕ) (records : List (List ℕ)) (ids offsets values lengths bytes words : List ℕ) (addresses : List (List ℕ)) (b : Buffers) where
   abbrev l : Lent
-  l = lentOf mode required records ids offsets values lengths bytes words addresses b
+  l = lentOf mode required (recordsOf records) ids offsets values lengths bytes words addresses b
 
   -- of the space the checks up to 9 read the working bytes alone
   nine-is : answerToNine (inputOf l) ≡ answerToNine (lentInput mode required records ids offsets values lengths bytes words addresses (length (b .working)))

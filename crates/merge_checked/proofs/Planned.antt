@@ -4,24 +4,21 @@ use native.Mathlib.Omega.{arith}
 use mathlib.Core.Path.{_≡_, refl, sym, ap, ap₂, _∙_, subst}
 use mathlib.Core.List.{List, [], _∷_, _++_, map}
 use mathlib.Core.Bool.{Bool, true, false, not, cond, _||_}
-use lib.ListN.{length, getD, take, drop, length-map, length-append}
+use lib.ListN.{length, take, drop, length-map, length-append}
 use lib.Dec.{eqb, ltb}
 use lib.Seq.{take-at, length-take-le}
 use Rattle.definitions.specs.Lists.{sum, concat}
-use Rattle.definitions.specs.Words.{wordsPerValue, valueWords, valuesIn}
+use Rattle.definitions.specs.Words.{wordsPerValue, valueWords}
 use Rattle.definitions.specs.Segment.{Segment, Input, segmentsOf}
 use Rattle.definitions.specs.Row.{noType, heldOf}
-use Rattle.definitions.specs.Join.{Column, absent, stackedFrom, rowOrder, cellAt, termsOf, ordinalOf, mapOf, joinedType, joinedClass, joinedCells, encode, joinedColumn, joinRules}
+use Rattle.definitions.specs.Join.{Column, stackedFrom, rowOrder, cellAt, termsOf, ordinalOf, mapOf, joinedType, joinedClass, joinedCells, encode, joinedColumn, joinRules}
 use Rattle.definitions.specs.Answer.{sumOver, termsIn, bytesIn, typesWrong, outputTooShort}
 use Rattle.definitions.specs.Outcome.{Buffers, spaceOf, inputOf, lentOf}
-use Rattle.definitions.proofs.Group.{effective-held}
 use Rattle.definitions.proofs.Words.{length-words}
-use Rattle.segment.specs.Records.{segmentsIn}
+use Rattle.segment.specs.Records.{segmentsIn, recordsOf}
 use Rattle.segment.specs.Lent.{addressesOf}
 use Rattle.lists.proofs.Numbers.{not-ltb}
 use Rattle.stands.specs.Width.{idsOf}
-use Rattle.stands.specs.Stand.{standAt}
-use Rattle.stands.specs.Look.{valuesAt}
 use Rattle.census.specs.declared.Tally.{Tally}
 use Rattle.census.specs.Settled.{noTally, tallyFrom}
 use Rattle.census.specs.Table.{Table}
@@ -31,10 +28,11 @@ use Rattle.census.proofs.Rows.{count-sum, count-is}
 use Rattle.census.proofs.Table.{Tallied, tallied}
 use Rattle.merge_type.specs.declared.TypeAnswer.{TypeAnswer}
 use Rattle.merge_type.specs.declared.TypeAnswer.the-variants.{Wrong, Joined}
-use Rattle.merge_type.specs.Parts.{Lent, typeAnswer, partsIn}
+use Rattle.merge_type.specs.Parts.{Coded, typeAnswer}
 use Rattle.merge_type.proofs.Rules.{answer-is}
 use Rattle.merge_column.proofs.Index.{stacked-length}
 use Rattle.merge_column.proofs.Stand.{table-of}
+use Rattle.merge_column.proofs.Pair.{typed}
 use Rattle.merge_column.proofs.Joined.{Rows, few-values, ids-number, offsets-number, values-count}
 use Rattle.merge_column.specs.declared.Shape.{Shape}
 use Rattle.merge_column.specs.declared.Space as Place
@@ -105,22 +103,11 @@ module _ {mode required : ℕ} {records : List (List ℕ)} {ids offsets values l
   col = joinedColumn required ss (rowOrder mode ss (addressesOf addresses))
 
   -- what `measure` asks
-  pub types-lent : Lent stands values
-  types-lent =
-      record {
-        codes = record { each = λ k h. table .small k (subst (λ (n : ℕ). k < n) (table .size) h) };
-        lie = λ k h. table .each k (subst (λ (n : ℕ). k < n) (table .size) h) .values-lie;
-      }
+  pub types-coded : Coded stands
+  types-coded = record { each = λ k h. table .small k (subst (λ (n : ℕ). k < n) (table .size) h) }
 
-  type-is : typeAnswer required (partsIn stands values) ≡ cond (typesWrong required ss) Wrong (Joined (joinedType required ss))
-  type-is =
-      answer-is required
-      (record {
-        many = table .size;
-        type = table .type;
-        held = table .held;
-        values-are = λ k h e. subst (λ (s : Segment). valuesIn (s .type) (valuesAt (standAt stands k) values) ≡ s .values) (effective-held (getD ss k absent) e) (table .each k h .values-are);
-      })
+  type-is : typeAnswer required stands ≡ cond (typesWrong required ss) Wrong (Joined (joinedType required ss))
+  type-is = answer-is required (typed table)
 
   sums : Tallied tally ss
   sums = subst (λ (y : Tally). Tallied y ss) (sym (q .tally-is)) (tallied table)
@@ -194,7 +181,7 @@ module _ {mode required : ℕ} {records : List (List ℕ)} {ids offsets values l
 
   module _ (b : Buffers) where
     abbrev i : Input
-    i = inputOf (lentOf mode required records ids offsets values lengths bytes words addresses b)
+    i = inputOf (lentOf mode required (recordsOf records) ids offsets values lengths bytes words addresses b)
 
     abbrev space : Place.Space
     space =
@@ -220,7 +207,7 @@ module _ {mode required : ℕ} {records : List (List ℕ)} {ids offsets values l
         ∙ six-or (ltb (length (b .ids)) (length (col .ids))) (ltb (length (b .offsets)) (length (col .offsets))) (ltb (length (b .values)) (length (valueWords (col .type) (col .values))))
         (ltb (length (b .termLengths)) (sumOver termsIn (heldOf ss))) (ltb (length (b .termBytes)) (sumOver bytesIn (heldOf ss))) (ltb (length (b .map)) (sumOver termsIn (heldOf ss)))
 
-    pub plan-is : planFor mode required stands values (length addresses) tally space
+    pub plan-is : planFor mode required stands (length addresses) tally space
         ≡ cond (typesWrong required ss) (Refused 10) (cond (outputTooShort i) (Refused 11) (Planned shape))
     unfolding planFor planOf
     plan-is =

@@ -3,6 +3,7 @@ use Prim.Native.Nat.{ℕ}
 use mathlib.Core.Path.{_≡_}
 use mathlib.Core.List.{List}
 use lib.ListN.{length, replicate}
+use Rattle.definitions.specs.Segment.{pair}
 use Rattle.definitions.specs.Outcome as Outcome
 use Rattle.definitions.specs.Outcome.{Buffers, accepted, refused}
 use Rattle.segment.specs.Lent.{lentInput}
@@ -26,6 +27,7 @@ numbersIn n =
       termBytes = n .bytes;
       map = n .map;
       copied = n .copied;
+      pair = pair (n .least) (n .greatest);
     }
 
 -- the paper's number for each case is that of the definitions' answer

@@ -1,9 +1,11 @@
 // The join of an input that has passed the checks up to 9 (columnar/merge/mod.rs, `merge_column`).
 ghost use mathlib.Core.Path.{_≡_};
 ghost use Rattle.definitions.specs.Outcome.{lentOf, joinOutcome};
+ghost use Rattle.segment.specs.Records.{recordsOf};
 ghost use Rattle.merge_checked.specs.Call.{outcomeOf, buffersOf, AfterNine};
 
-// What comes with acceptance: type, class and rows, the number of elements of each list, an address being one, and how many term bytes were copied.
+// What comes with acceptance: type, class and rows, the number of elements of each list, an address being one, how many term bytes were copied, and the joined
+// column's least and greatest value.
 pub struct Numbers {
     pub typ: u32,
     pub class: u32,
@@ -15,6 +17,8 @@ pub struct Numbers {
     pub bytes: usize,
     pub map: usize,
     pub copied: usize,
+    pub least: u64,
+    pub greatest: u64,
 }
 
 pub enum Answer {
@@ -43,7 +47,7 @@ pub fn join_checked(
     out_map: &mut [u32],
 ) -> Answer
     requires { ⌜ AfterNine mode required (now records) (now ids) (now offsets) (now values) (now lengths) (now bytes) (now alive) (now addresses) (now work) ⌝ }
-    ensures { λ r. ⌜ outcomeOf r (buffersOf (now («out_ids» .exit)) (now («out_offsets» .exit)) (now («out_values» .exit)) (now («out_lengths» .exit)) (now («out_bytes» .exit)) (now («out_map» .exit)) (now (work .exit))) ≡ joinOutcome (lentOf mode required (now (records .entry)) (now (ids .entry)) (now (offsets .entry)) (now (values .entry)) (now (lengths .entry)) (now (bytes .entry)) (now (alive .entry)) (now (addresses .entry)) (buffersOf (now («out_ids» .entry)) (now («out_offsets» .entry)) (now («out_values» .entry)) (now («out_lengths» .entry)) (now («out_bytes» .entry)) (now («out_map» .entry)) (now (work .entry)))) ⌝ }
+    ensures { λ r. ⌜ outcomeOf r (buffersOf (now («out_ids» .exit)) (now («out_offsets» .exit)) (now («out_values» .exit)) (now («out_lengths» .exit)) (now («out_bytes» .exit)) (now («out_map» .exit)) (now (work .exit))) ≡ joinOutcome (lentOf mode required (recordsOf (now (records .entry))) (now (ids .entry)) (now (offsets .entry)) (now (values .entry)) (now (lengths .entry)) (now (bytes .entry)) (now (alive .entry)) (now (addresses .entry)) (buffersOf (now («out_ids» .entry)) (now («out_offsets» .entry)) (now («out_values» .entry)) (now («out_lengths» .entry)) (now («out_bytes» .entry)) (now («out_map» .entry)) (now (work .entry)))) ⌝ }
 {
     let n = records.len();
     let mut stands = [[0usize; stands::NUMBERS]; 256];
@@ -56,15 +60,7 @@ pub fn join_checked(
         bytes: out_bytes.len(),
         map: out_map.len(),
     };
-    let p = merge_column::measure(
-        mode,
-        required,
-        &stands[..n],
-        values,
-        addresses.len(),
-        t,
-        space,
-    );
+    let p = merge_column::measure(mode, required, &stands[..n], addresses.len(), t, space);
     match p {
         merge_column::Plan::Refused(k) => Answer::Refused(k),
         merge_column::Plan::Column(x) => {
@@ -97,6 +93,11 @@ pub fn join_checked(
                 out_offsets,
                 out_values,
             );
+            let pair: min_max::Range = merge_column::joined_pair(
+                x.typ,
+                &stands[..n],
+                &out_values[..x.words],
+            );
             Answer::Accepted(Numbers {
                 typ: x.typ,
                 class: x.class,
@@ -108,6 +109,8 @@ pub fn join_checked(
                 bytes: c.bytes,
                 map: x.map,
                 copied: c.copied,
+                least: pair.least,
+                greatest: pair.greatest,
             })
         }
     }

@@ -8,6 +8,7 @@ use lib.ListN.{length, replicate}
 use lib.Dec.{eqb}
 use borrow.Author.Tests.{not-true, not-false}
 use Rattle.definitions.specs.Words.{wordsPerValue}
+use Rattle.definitions.specs.Types.{pairOf}
 use Rattle.runs.specs.Put.{put, putIf, RoomIf}
 use Rattle.stands.specs.Width.{idsOf, totalsOf}
 use Rattle.runs.proofs.Laws.{put-whole}
@@ -20,12 +21,12 @@ use Rattle.column_index_shuffled.specs.Order.{orderedWords}
 use Rattle.census.specs.declared.Tally.{Tally}
 use Rattle.merge_type.specs.declared.TypeAnswer.{TypeAnswer}
 use Rattle.merge_type.specs.declared.TypeAnswer.the-variants.{Wrong, Joined}
-use Rattle.merge_type.specs.Parts.{partsIn, typeAnswer}
+use Rattle.merge_type.specs.Parts.{typeAnswer, heldPair, anyThinned}
 use Rattle.merge_column.specs.declared.Shape.{Shape}
 use Rattle.merge_column.specs.declared.Space.{Space}
 use Rattle.merge_column.specs.declared.Plan.{Plan}
 use Rattle.merge_column.specs.declared.Plan.the-variants.{Refused, Column}
-use Rattle.merge_column.specs.Plan.{classFor, idsFor, offsetsFor, shapeOf, enoughFor, planOf, planBy, planFor, widthsFor, joinedWords, leftFor, Filling}
+use Rattle.merge_column.specs.Plan.{classFor, idsFor, offsetsFor, shapeOf, enoughFor, planOf, planBy, planFor, pairFor, widthsFor, joinedWords, leftFor, Filling}
 use Rattle.lists.proofs.Tests.{at-code, past-code}
 
 -- ---- the table of all records
@@ -114,12 +115,12 @@ module _ (typ rows : ℕ) (t : Tally) (space : Space) {class ids offsets : ℕ} 
 
 -- ---- the plan
 
-module _ (mode required : ℕ) (stands : List (List ℕ)) (values : List ℕ) (addresses : ℕ) (t : Tally) (space : Space) {x : TypeAnswer} (e : x ≡ typeAnswer required (partsIn stands values)) where
-  pub planned-wrong : x ≡ Wrong → Refused 10 ≡ planFor mode required stands values addresses t space
+module _ (mode required : ℕ) (stands : List (List ℕ)) (addresses : ℕ) (t : Tally) (space : Space) {x : TypeAnswer} (e : x ≡ typeAnswer required stands) where
+  pub planned-wrong : x ≡ Wrong → Refused 10 ≡ planFor mode required stands addresses t space
   unfolding planFor
   planned-wrong q = sym (ap (λ (y : TypeAnswer). planBy y (cond (eqb mode 0) (t .rows) addresses) t space) (sym e ∙ q))
 
-  pub planned-column : {typ : ℕ} → x ≡ Joined typ → {r : Plan} {rows : ℕ} → rows ≡ cond (eqb mode 0) (t .rows) addresses → r ≡ planOf typ rows t space → r ≡ planFor mode required stands values addresses t space
+  pub planned-column : {typ : ℕ} → x ≡ Joined typ → {r : Plan} {rows : ℕ} → rows ≡ cond (eqb mode 0) (t .rows) addresses → r ≡ planOf typ rows t space → r ≡ planFor mode required stands addresses t space
   unfolding planFor
   planned-column {typ} q we re =
       re ∙ ap (λ (n : ℕ). planOf typ n t space) we ∙ sym (ap (λ (y : TypeAnswer). planBy y (cond (eqb mode 0) (t .rows) addresses) t space) (sym e ∙ q))
@@ -156,3 +157,14 @@ left-clean mode work before after z e f = f ∙ go (eqb mode 0) ∙ e
     go : (b : Bool) → cond b before (replicate (length before) 0) ≡ before
     go true = refl
     go false = zero-still
+
+-- ---- the joined pair, case by case
+
+module _ (to : ℕ) (stands : List (List ℕ)) (words : List ℕ) {b : Bool} (e : b ≡ anyThinned stands) where
+  pub pair-written : b ≡ true → pairOf to words ≡ pairFor to stands words
+  unfolding pairFor
+  pair-written h = rw (← e, h)
+
+  pub pair-held : b ≡ false → heldPair to stands ≡ pairFor to stands words
+  unfolding pairFor
+  pair-held h = rw (← e, h)

@@ -5,3 +5,4 @@ pub mod Map
 pub mod Values
 pub mod Counted
 pub mod Joined
+pub mod Pair

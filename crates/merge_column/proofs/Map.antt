@@ -4,24 +4,25 @@ use native.Mathlib.Nat.{le-of-suc-le-suc, not-suc-le-zero, le-of-lt, add-sub-can
 use native.Mathlib.Omega.{arith}
 use mathlib.Core.Path.{_≡_, refl, sym, ap, ap₂, _∙_, subst}
 use mathlib.Core.List.{List, [], _∷_, _++_, map, map-id}
-use mathlib.Core.Bool.{Bool, true, false, _&&_, _||_, not, cond, false≢true}
+use mathlib.Core.Bool.{Bool, true, false, _&&_, cond, false≢true}
 use lib.ListN.{length, getD, take, drop, length-map, length-append}
 use lib.Seq.{take-at, take-take, drop-append-add, slice}
-use lib.Dec.{T, eqb, leb, ltb, ltb→lt}
+use lib.Dec.{T, eqb, ltb, ltb→lt}
 use lib.Ieee.Fits.{and-r}
 use lib.Ieee.Bits.{is-true}
 use borrow.Author.Tests.{eqb-true}
-use Rattle.definitions.specs.Lists.{sum, all, filter, concat, isEmpty, termsAscending}
+use Rattle.definitions.specs.Lists.{sum, all, filter, concat}
 use Rattle.definitions.specs.Words.{IpAddr, wordsPerValue, valueWords, valuesIn}
 use Rattle.definitions.specs.Segment.{Segment}
 use Rattle.definitions.specs.Row.{isHeld, asEmpty, effective, heldOf}
-use Rattle.definitions.specs.Types.{hasTerms, coerced, isCoercible, BoolType}
+use Rattle.definitions.specs.Types.{hasTerms, coerced, isCoercible}
 use Rattle.definitions.specs.Join.{absent, termsOf, ordinalOf, mapOf, newWord, joinedType}
-use Rattle.definitions.specs.Answer.{valuesFit, presentTypes, oneCategory, allCoercible, typesWrong}
+use Rattle.definitions.specs.Answer.{presentTypes, oneCategory, allCoercible, typesWrong}
+use Rattle.definitions.proofs.Fit.{fit-values}
 use Rattle.definitions.proofs.Group.{effective-held, effective-not}
 use Rattle.definitions.proofs.Decode.{slice-nil}
 use Rattle.definitions.proofs.Accept.{not-false}
-use Rattle.definitions.proofs.Lists.{and4, getD-in, all-mem, map-mem, mem-at, mem-filter}
+use Rattle.definitions.proofs.Lists.{getD-in, all-mem, map-mem, mem-at, mem-filter}
 use Rattle.definitions.proofs.Words.{AllWords, words-plain, values-plain, terms-plain, becomes-alike, values-back, values-none, words-none}
 use Rattle.numerical.proofs.Laws as one
 use Rattle.lists.proofs.Parts.{drop-take}
@@ -113,8 +114,8 @@ alike required ss w =
           let to = joinedType required ss in
           let c = and-r (oneCategory (presentTypes required ss)) (allCoercible required ss) (not-false (oneCategory (presentTypes required ss) && allCoercible required ss) w) in
           let s = getD ss k absent in
-          becomes-alike (s .type) to (s .values)
-          (is-true (isCoercible (s .type) to (s .values)) (all-mem (λ s. isCoercible (s .type) to (s .values)) (filter isHeld ss) c (mem-filter isHeld ss q (mem-at ss k absent h))));
+          becomes-alike (s .type) to (s .pair)
+          (is-true (isCoercible (s .type) to (s .pair)) (all-mem (λ s. isCoercible (s .type) to (s .pair)) (filter isHeld ss) c (mem-filter isHeld ss q (mem-at ss k absent h))));
     }
 
 -- ---- what a run of the segment's words is known to be
@@ -182,11 +183,7 @@ module _ {stands : List (List ℕ)} {ids offsets values lengths bytes words : Li
     map-lies = subst (λ (w : Span). Lies w map′) (sym (t .map k h)) (record { rises = omega arith; ends = let a = part-fits in let b = m .room in omega arith })
 
     ordinals-at : hasTerms (getD ss k absent .type) ≡ true → Below (length (getD ss k absent .terms)) (getD ss k absent .values)
-    unfolding valuesFit
-    ordinals-at e =
-        let s = getD ss k absent in
-        let p = and4 (not (eqb (s .type) BoolType) || all (λ w. leb w 1) (s .values)) (not (hasTerms (s .type)) || all (λ w. ltb w (length (s .terms))) (s .values)) (termsAscending (s .terms)) (isEmpty (s .terms) || (hasTerms (s .type) && not (eqb (s .kind) 0))) (t .worded k h) .1 in
-        all-below (length (s .terms)) (s .values) (subst (λ (b : Bool). T (not b || all (λ w. ltb w (length (s .terms))) (s .values))) e p)
+    ordinals-at e = all-below (length (getD ss k absent .terms)) (getD ss k absent .values) (fit-values (getD ss k absent) (t .worded k h) .ordinals e)
 
     own-counted : Own (getD ss k absent) (counted ss k .values)
     unfolding asEmpty

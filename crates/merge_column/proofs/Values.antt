@@ -39,7 +39,7 @@ concat-map f g [] = refl
 concat-map f g (r ∷ rs) = ap (λ (x : List ℕ). map f (g r) ++ x) (concat-map f g rs) ∙ sym (map-append f (g r) (concat (map g rs)))
 
 -- all rows of a segment, one after another, are its values
-all-rows : (s : Segment) → T (indexFits s) → concat (map (rowValues s) (upTo (s .rows))) ≡ s .values
+pub all-rows : (s : Segment) → T (indexFits s) → concat (map (rowValues s) (upTo (s .rows))) ≡ s .values
 all-rows s fit =
     ap concat (map-mem (rowValues s) (λ r. slice (startOf (s .kind) (s .ids) (s .offsets) r) (endOf (s .kind) (s .ids) (s .offsets) r) (s .values)) (upTo (s .rows)) (λ r m. row-slice s r (not-old s fit)))
     ∙ walk-values (s .values) (fits-sound s fit)

@@ -6,7 +6,9 @@ use mathlib.Core.Bool.{Bool, false, cond, not}
 use lib.Dec.{eqb, ltb, leb}
 use lib.ListN.{length, replicate}
 use Rattle.definitions.specs.Words.{wordsPerValue}
+use Rattle.definitions.specs.Segment.{Pair}
 use Rattle.definitions.specs.Row.{noType}
+use Rattle.definitions.specs.Types.{pairOf}
 use Rattle.runs.specs.Put.{RoomIf}
 use Rattle.stands.specs.Width.{idsOf, totalsOf}
 use Rattle.stands.specs.Stand.{standsIn}
@@ -16,7 +18,7 @@ use Rattle.census.specs.declared.Tally.{Tally}
 use Rattle.census.specs.Settled.{settledFrom, AllReady}
 use Rattle.merge_type.specs.declared.TypeAnswer.{TypeAnswer}
 use Rattle.merge_type.specs.declared.TypeAnswer.the-variants.{Wrong, Joined}
-use Rattle.merge_type.specs.Parts.{partsIn, typeAnswer}
+use Rattle.merge_type.specs.Parts.{typeAnswer, heldPair, anyThinned}
 use Rattle.column_values_merge.specs.Stack.{stackedWords}
 use Rattle.column_index_stacked.specs.Stacked.{Stacked}
 use Rattle.column_index_shuffled.specs.Order.{orderedWords, Ordered}
@@ -79,8 +81,8 @@ planBy Wrong rows t space = Refused 10
 planBy (Joined typ) rows t space = planOf typ rows t space
 
 -- 10 where the types are wrong, else by the sums; a stacked join has all rows, an ordered one those that are addressed
-unfoldable pub planFor : ℕ → ℕ → List (List ℕ) → List ℕ → ℕ → Tally → Space → Plan
-planFor mode required stands values addresses t space = planBy (typeAnswer required (partsIn stands values)) (cond (eqb mode 0) (t .rows) addresses) t space
+unfoldable pub planFor : ℕ → ℕ → List (List ℕ) → ℕ → Tally → Space → Plan
+planFor mode required stands addresses t space = planBy (typeAnswer required stands) (cond (eqb mode 0) (t .rows) addresses) t space
 
 -- ---- the fills
 
@@ -102,3 +104,9 @@ pub record Filling (mode class to : ℕ) (addresses stands : List (List ℕ)) (i
   pub ids-room : RoomIf (not (eqb class 0)) 0 (length (idsOf 0 (widthsFor mode addresses stands ids offsets))) (length outIds)
   pub offsets-room : RoomIf (eqb class 2) 0 (length (0 ∷ totalsOf 0 (widthsFor mode addresses stands ids offsets))) (length outOffsets)
   pub values-room : length (joinedWords mode to addresses stands ids offsets values map) ≤ length outValues
+
+-- ---- the joined pair
+
+-- the held columns' own, put together, where none of them has an alive set; else that of the words written
+unfoldable pub pairFor : ℕ → List (List ℕ) → List ℕ → Pair
+pairFor to stands words = cond (anyThinned stands) (pairOf to words) (heldPair to stands)

@@ -8,8 +8,9 @@ ghost use lib.Dec.{eqb};
 ghost use Rattle.runs.specs.Put.{put, putIf};
 ghost use Rattle.stands.specs.Width.{idsOf, totalsOf};
 ghost use Rattle.census.specs.Settled.{noTally, tallyFrom};
-ghost use Rattle.merge_type.specs.Parts.{Lent};
-ghost use Rattle.merge_column.specs.Plan.{Preparing, settledOf, classFor, offsetsFor, enoughFor, planOf, planFor, widthsFor, joinedWords, leftFor, Filling};
+ghost use Rattle.min_max.specs.Keys.{pairIn};
+ghost use Rattle.merge_type.specs.Parts.{Coded};
+ghost use Rattle.merge_column.specs.Plan.{Preparing, settledOf, classFor, offsetsFor, enoughFor, planOf, planFor, widthsFor, joinedWords, leftFor, Filling, pairFor};
 use census::Tally;
 use stands::StandNumbers;
 
@@ -137,18 +138,16 @@ pub fn measure(
     mode: u32,
     required: u32,
     stands: &[StandNumbers],
-    values: &[u64],
     addresses: usize,
     t: Tally,
     space: Space,
 ) -> Plan
-    requires { ⌜ Lent (now stands) (now values) ⌝ }
+    requires { ⌜ Coded (now stands) ⌝ }
     requires { ⌜ t .listed < 18446744073709551615 ⌝ }
     requires { ⌜ t .values ≤ 4294967294 ⌝ }
-    ensures { λ r. ⌜ r ≡ planFor mode required (now (stands .entry)) (now (values .entry)) addresses t space ⌝ }
+    ensures { λ r. ⌜ r ≡ planFor mode required (now (stands .entry)) addresses t space ⌝ }
 {
-    let merge_type::TypeAnswer::Joined(typ) = merge_type::check_types(required, stands, values)
-    else {
+    let merge_type::TypeAnswer::Joined(typ) = merge_type::check_types(required, stands) else {
         return Plan::Refused(10);
     };
     let rows = rows_of(mode, t.rows, addresses);
@@ -206,4 +205,14 @@ pub fn fill_rows(
         out_offsets,
         out_values,
     );
+}
+
+// The least and the greatest of the joined words: the held columns' own where none of them has an alive set, so that all their values are joined.
+pub fn joined_pair(to: u32, stands: &[StandNumbers], words: &[u64]) -> min_max::Range
+    ensures { λ r. ⌜ pairIn r ≡ pairFor to (now (stands .entry)) (now (words .entry)) ⌝ }
+{
+    if merge_type::any_thinned(stands) {
+        return min_max::pair_of(to, words);
+    }
+    merge_type::held_pair(to, stands)
 }

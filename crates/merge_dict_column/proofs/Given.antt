@@ -11,9 +11,9 @@ use borrow.Author.Tests.{eqb-true, eqb-false}
 use Rattle.definitions.specs.Lists.{termsAscending}
 use Rattle.definitions.specs.Segment.{Segment}
 use Rattle.definitions.specs.Row.{isHeld, asEmpty, effective, hasAliveSet}
-use Rattle.definitions.specs.Types.{hasTerms}
+use Rattle.definitions.specs.Types.{hasTerms, pairOf}
 use Rattle.definitions.specs.Join.{absent, isUsed, termsOf, mapOf}
-use Rattle.definitions.specs.Answer.{valuesFit}
+use Rattle.definitions.specs.Answer.{valuesFit, pairFits}
 use Rattle.definitions.proofs.Cell.{effective-rows, effective-fits}
 use Rattle.definitions.proofs.Group.{effective-held}
 use Rattle.lists.proofs.Tests.{at-code, past-code}
@@ -35,7 +35,7 @@ use Rattle.merge_dict_column.proofs.Bridge.{Marked, terms-are, map-is, 
 -- ---- a segment as it counts
 
 counted-worded : (s : Segment) → T (valuesFit s) → T (valuesFit (effective s))
-unfolding effective asEmpty valuesFit hasTerms
+unfolding effective asEmpty valuesFit hasTerms pairFits pairOf
 counted-worded s fit = go (isHeld s)
   where
     go : (b : Bool) → T (valuesFit (cond b s (asEmpty s)))

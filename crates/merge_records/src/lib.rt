@@ -2,7 +2,8 @@
 ghost use lib.ListN.{take};
 ghost use Rattle.definitions.specs.Outcome.{lentOf};
 ghost use Rattle.merge.specs.Whole.{JoinKept, buffersOf};
-ghost use Rattle.records.specs.Rows.{rowsOf, countOf};
+ghost use Rattle.segment.specs.Records.{recordsOf};
+ghost use Rattle.records.specs.Rows.{recordsIn, countOf};
 
 // The join of the first rows of a table.
 fn join_rows(
@@ -25,7 +26,7 @@ fn join_rows(
     out_bytes: &mut [u8],
     out_map: &mut [u32],
 ) -> merge::Answer
-    ensures { λ r. ⌜ JoinKept (lentOf mode required (take (countOf n) table) (now (ids .entry)) (now (offsets .entry)) (now (values .entry)) (now (lengths .entry)) (now (bytes .entry)) (now (alive .entry)) (now (addresses .entry)) (buffersOf (now («out_ids» .entry)) (now («out_offsets» .entry)) (now («out_values» .entry)) (now («out_lengths» .entry)) (now («out_bytes» .entry)) (now («out_map» .entry)) (now (work .entry)))) r (buffersOf (now («out_ids» .exit)) (now («out_offsets» .exit)) (now («out_values» .exit)) (now («out_lengths» .exit)) (now («out_bytes» .exit)) (now («out_map» .exit)) (now (work .exit))) ⌝ }
+    ensures { λ r. ⌜ JoinKept (lentOf mode required (recordsOf (take (countOf n) table)) (now (ids .entry)) (now (offsets .entry)) (now (values .entry)) (now (lengths .entry)) (now (bytes .entry)) (now (alive .entry)) (now (addresses .entry)) (buffersOf (now («out_ids» .entry)) (now («out_offsets» .entry)) (now («out_values» .entry)) (now («out_lengths» .entry)) (now («out_bytes» .entry)) (now («out_map» .entry)) (now (work .entry)))) r (buffersOf (now («out_ids» .exit)) (now («out_offsets» .exit)) (now («out_values» .exit)) (now («out_lengths» .exit)) (now («out_bytes» .exit)) (now («out_map» .exit)) (now (work .exit))) ⌝ }
 {
     let m = records::count_of(n);
     merge::join(
@@ -69,7 +70,7 @@ pub fn join_records(
     out_bytes: &mut [u8],
     out_map: &mut [u32],
 ) -> merge::Answer
-    ensures { λ r. ⌜ JoinKept (lentOf mode required (rowsOf (now (records .entry))) (now (ids .entry)) (now (offsets .entry)) (now (values .entry)) (now (lengths .entry)) (now (bytes .entry)) (now (alive .entry)) (now (addresses .entry)) (buffersOf (now («out_ids» .entry)) (now («out_offsets» .entry)) (now («out_values» .entry)) (now («out_lengths» .entry)) (now («out_bytes» .entry)) (now («out_map» .entry)) (now (work .entry)))) r (buffersOf (now («out_ids» .exit)) (now («out_offsets» .exit)) (now («out_values» .exit)) (now («out_lengths» .exit)) (now («out_bytes» .exit)) (now («out_map» .exit)) (now (work .exit))) ⌝ }
+    ensures { λ r. ⌜ JoinKept (lentOf mode required (recordsIn (now (records .entry))) (now (ids .entry)) (now (offsets .entry)) (now (values .entry)) (now (lengths .entry)) (now (bytes .entry)) (now (alive .entry)) (now (addresses .entry)) (buffersOf (now («out_ids» .entry)) (now («out_offsets» .entry)) (now («out_values» .entry)) (now («out_lengths» .entry)) (now («out_bytes» .entry)) (now («out_map» .entry)) (now (work .entry)))) r (buffersOf (now («out_ids» .exit)) (now («out_offsets» .exit)) (now («out_values» .exit)) (now («out_lengths» .exit)) (now («out_bytes» .exit)) (now («out_map» .exit)) (now (work .exit))) ⌝ }
 {
     join_rows(
         mode,

@@ -1,83 +1,80 @@
--- What check 10 and the joined type read of the segments: each column's type, its stored values, and whether it is held. Assumes nothing.
+-- What check 10, the joined type and the joined pair read of the columns where they stand: each one's type, its least and greatest value, and whether it is held. Assumes nothing.
 use Prim.Native.Nat.{ℕ, _<_}
 use mathlib.Core.List.{List, [], _∷_, map}
 use mathlib.Core.Bool.{Bool, true, _&&_, _||_, cond, not}
 use lib.Dec.{eqb}
 use lib.ListN.{length}
-use Rattle.definitions.specs.Lists.{all, filter}
-use Rattle.definitions.specs.Segment.{Segment}
+use Rattle.definitions.specs.Lists.{all, any, filter}
+use Rattle.definitions.specs.Segment.{Segment, Pair}
 use Rattle.definitions.specs.Row.{noType}
 use Rattle.definitions.specs.Types.{isCoercible, typeOf}
 use Rattle.definitions.specs.Answer.{oneCategory}
 use Rattle.column_type.specs.Codes.{category}
+use Rattle.min_max.specs.Pairs.{pairsTogether}
 use Rattle.numerical.specs.declared.Compatible.{Compatible}
 use Rattle.numerical.specs.Seen.{firstOf, accepted}
 use Rattle.stands.specs.declared.Stand.{Stand}
-use Rattle.stands.specs.Stand.{Lies, standOf, standAt}
-use Rattle.stands.specs.Look.{valuesAt}
+use Rattle.stands.specs.Stand.{standOf, standAt}
+use Rattle.stands.specs.Look.{pairAt}
 use Rattle.merge_type.specs.declared.TypeAnswer.{TypeAnswer}
 use Rattle.merge_type.specs.declared.TypeAnswer.the-variants.{Wrong, Joined}
-
-pub record Part : Type 0 where
-  pub type : ℕ
-  pub values : List ℕ
-  pub held : Bool
 
 -- marked as held, and present
 unfoldable pub isPart : Stand → Bool
 isPart p = eqb (p .held) 1 && not (eqb (p .typ) noType)
 
-abbrev pub partOf : List ℕ → Stand → Part
-partOf values p = record { type = p .typ; values = valuesAt p values; held = isPart p }
-
-unfoldable pub partsIn : List (List ℕ) → List ℕ → List Part
-partsIn stands values = map (λ r. partOf values (standOf r)) stands
-
-unfoldable pub typesIn : List (List ℕ) → List ℕ
-typesIn stands = map (λ r. standOf r .typ) stands
-
 -- each type is a u32
 pub record Coded (stands : List (List ℕ)) : Type 0 where
   pub each : (k : ℕ) → k < length stands → standAt stands k .typ < 4294967296
 
--- and the runs lie within the section
-pub record Lent (stands : List (List ℕ)) (values : List ℕ) : Type 0 where
-  pub codes : Coded stands
-  pub lie : (k : ℕ) → k < length stands → Lies (standAt stands k .values) values
+-- ---- one column
 
--- ---- one part
+unfoldable pub seenWith : Compatible → Stand → Compatible
+seenWith seen p = cond (isPart p) (accepted seen (p .typ) (pairAt p)) seen
 
-unfoldable pub seenWith : Compatible → Part → Compatible
-seenWith seen q = cond (q .held) (accepted seen (q .type) (q .values)) seen
+unfoldable pub becomes : ℕ → Stand → Bool
+becomes u p = not (isPart p) || isCoercible (p .typ) u (pairAt p)
 
-unfoldable pub becomes : ℕ → Part → Bool
-becomes u q = not (q .held) || isCoercible (q .type) u (q .values)
+-- ---- the columns
 
--- ---- the rules, on parts
+-- a segment of which only type and pair are read
+abbrev pub columnOf : ℕ → Pair → Segment
+columnOf type pair = record { type = type; kind = 0; rows = 0; ids = []; offsets = []; values = []; terms = []; flag = 0; aliveCount = 0; pair = pair; alive = [] }
 
--- a part as a segment of which only type and values are read
-abbrev pub asColumn : Part → Segment
-asColumn p = record { type = p .type; kind = 0; rows = 0; ids = []; offsets = []; values = p .values; terms = []; flag = 0; aliveCount = 0; alive = [] }
+-- the one that stands here, if it is held
+abbrev pub heldAt : Stand → List Segment → List Segment
+heldAt p hs = cond (isPart p) (columnOf (p .typ) (pairAt p) ∷ hs) hs
 
-unfoldable pub heldColumns : List Part → List Segment
-heldColumns ps = map asColumn (filter (λ (p : Part). p .held) ps)
+unfoldable pub heldIn : List (List ℕ) → List Segment
+heldIn [] = []
+heldIn (r ∷ rs) = heldAt (standOf r) (heldIn rs)
 
-unfoldable pub typesOf : List Part → List ℕ
-typesOf ps = map (λ (p : Part). p .type) ps
+unfoldable pub typesIn : List (List ℕ) → List ℕ
+typesIn stands = map (λ r. standOf r .typ) stands
+
+-- ---- the rules
 
 unfoldable pub oneAmong : ℕ → List ℕ → Bool
 oneAmong required ts = oneCategory (filter (λ (t : ℕ). not (eqb t noType)) (required ∷ ts))
 
-unfoldable pub typeOfParts : ℕ → List Part → ℕ
-typeOfParts required ps = typeOf required (heldColumns ps)
+-- every one of the columns becomes type u
+unfoldable pub allBecome : ℕ → List Segment → Bool
+allBecome u hs = all (λ (s : Segment). isCoercible (s .type) u (s .pair)) hs
 
--- every held part becomes type u
-unfoldable pub allBecome : ℕ → List Part → Bool
-allBecome u ps = all (λ (s : Segment). isCoercible (s .type) u (s .values)) (heldColumns ps)
+unfoldable pub typeAnswer : ℕ → List (List ℕ) → TypeAnswer
+typeAnswer required stands =
+    cond (oneAmong required (typesIn stands) && allBecome (typeOf required (heldIn stands)) (heldIn stands)) (Joined (typeOf required (heldIn stands))) Wrong
 
-unfoldable pub typeAnswer : ℕ → List Part → TypeAnswer
-typeAnswer required ps =
-    cond (oneAmong required (typesOf ps) && allBecome (typeOfParts required ps) ps) (Joined (typeOfParts required ps)) Wrong
+-- the pairs of the held columns put together, by type u
+unfoldable pub heldPair : ℕ → List (List ℕ) → Pair
+heldPair u stands = pairsTogether u (map (λ (s : Segment). s .pair) (heldIn stands))
+
+-- held, and with an alive set
+unfoldable pub isThinned : Stand → Bool
+isThinned p = eqb (p .flag) 1 && isPart p
+
+unfoldable pub anyThinned : List (List ℕ) → Bool
+anyThinned stands = any (λ r. isThinned (standOf r)) stands
 
 -- ---- one type after another
 

@@ -10,13 +10,14 @@ use lib.ListN.{length, take, getD, set, replicate, length-set, length-replicate,
 use lib.Seq.{take-suc, take-suc-set, take-length, length-take-le}
 use borrow.Author.Tests.{ltb-true, ltb-false}
 use Rattle.segment.specs.declared.Record.{Record}
-use Rattle.segment.specs.Records.{structOf}
+use Rattle.segment.specs.Records.{rowWidth, structIn, structOf, recordIn}
+use Rattle.segment.proofs.Rows as Rows
 use Rattle.records.specs.Rows.{none, numbersOf, rowsOf, countOf, blank, laidTo}
 use Rattle.definitions.proofs.Lists.{getD-in}
 
 -- the row of a record stands for it
 pub row-back : (r : Record) → structOf (numbersOf r) ≡ r
-row-back r = refl
+row-back r = ap structIn (Rows.row-back (recordIn r))
 
 pub count-is : (n : ℕ) (P : ℕ → Type 0) → (n < 257 → P n) → (257 ≤ n → P 257) → P (countOf n)
 unfolding countOf
@@ -44,7 +45,7 @@ laid-more rs i = let e : i + 1 ≡ suc i = omega arith in ap (laidTo rs) (sym e)
 
 laid-size : (rs : List Record) (i : ℕ) → length (laidTo rs i) ≡ 257
 unfolding laidTo
-laid-size rs zero = length-replicate 257 (replicate {A = ℕ} 8 0)
+laid-size rs zero = length-replicate 257 (replicate {A = ℕ} rowWidth 0)
 laid-size rs (suc i) = length-set (laidTo rs i) i (numbersOf (getD rs i none)) ∙ laid-size rs i
 
 pub rows-size : (rs : List Record) → length (rowsOf rs) ≡ length rs

@@ -23,29 +23,12 @@ pub fn codes_fit_at(records: &[segment::Record], i: usize) -> bool
     segment_fit::codes_fit(records[i])
 }
 
-// A record's numbers in their order.
-pub fn numbers_of(r: segment::Record) -> segment::RecordNumbers
-    ensures { λ x. ⌜ x ≡ numbersOf r ⌝ }
-{
-    [
-        r.typ,
-        r.kind,
-        r.rows,
-        r.ids,
-        r.offsets,
-        r.values,
-        r.terms,
-        r.flag,
-        r.alive,
-    ]
-}
-
 // Record i as a row of numbers.
 pub fn row_of(records: &[segment::Record], i: usize) -> segment::RecordNumbers
     requires { ⌜ i < length (now records) ⌝ }
     ensures { λ x. ⌜ x ≡ numbersOf (getD (now (records .entry)) i none) ⌝ }
 {
-    numbers_of(records[i])
+    segment::numbers_of(records[i])
 }
 
 // How many records a table of 257 rows takes: one more than may be joined, so that too many are seen.

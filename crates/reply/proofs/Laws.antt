@@ -9,6 +9,7 @@ use Rattle.definitions.specs.Listing.{reply}
 use Rattle.definitions.proofs.Reading.{read-enough}
 use Rattle.runs.specs.Put.{put}
 use Rattle.definitions.specs.Outcome.{lentOf}
+use Rattle.segment.specs.Records.{recordsOf}
 use Rattle.merge.specs.Whole.{buffersOf}
 use Rattle.reply.specs.Input.{zeros, Answers}
 
@@ -17,8 +18,8 @@ counted out r h = (h, sym (length-take-le r out h))
 
 -- what is lent is what the program lends
 pub lent-program : (mode required : ℕ) (records : List (List ℕ)) (ids offsets values lengths bytes alive : List ℕ) (addresses : List (List ℕ))
-    → lentOf mode required records ids offsets values lengths bytes alive addresses (buffersOf (replicate 8192 0) (replicate 8192 0) (replicate 8192 0) (replicate 8192 0) (replicate 8192 0) (replicate 8192 0) (replicate 65536 0))
-    ≡ lentOf mode required records ids offsets values lengths bytes alive addresses programBuffers
+    → lentOf mode required (recordsOf records) ids offsets values lengths bytes alive addresses (buffersOf (replicate 8192 0) (replicate 8192 0) (replicate 8192 0) (replicate 8192 0) (replicate 8192 0) (replicate 8192 0) (replicate 65536 0))
+    ≡ lentOf mode required (recordsOf records) ids offsets values lengths bytes alive addresses programBuffers
 unfolding programBuffers
 lent-program mode required records ids offsets values lengths bytes alive addresses = refl
 

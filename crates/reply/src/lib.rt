@@ -3,6 +3,7 @@ ghost use mathlib.Core.Path.{_≡_};
 ghost use Prim.Native.Nat.{suc, _≤_};
 ghost use lib.ListN.{length, take};
 ghost use Rattle.definitions.specs.Outcome.{accepted, joinOutcome, lentOf};
+ghost use Rattle.segment.specs.Records.{recordsOf};
 ghost use Rattle.definitions.specs.Wire.{mostBytes, wordSections, lentFrom, programBuffers};
 ghost use Rattle.definitions.specs.Listing.{answerText, listing, reply as Listing·reply};
 ghost use Rattle.io.specs.Counts.{Counts};
@@ -89,8 +90,8 @@ fn answer_lists(
 ) -> usize
     requires { ⌜ 786432 ≤ length (now out) ⌝ }
     ensures { λ r. ⌜ r ≤ 786432 ⌝ }
-    ensures { λ r. ⌜ r ≡ length (listing (joinOutcome (lentOf mode required (now (records .entry)) (now (ids .entry)) (now (offsets .entry)) (now (values .entry)) (now (lengths .entry)) (now (bytes .entry)) (now (alive .entry)) (now (addresses .entry)) programBuffers))) ⌝ }
-    ensures { λ _. ⌜ now (out .exit) ≡ put 0 (listing (joinOutcome (lentOf mode required (now (records .entry)) (now (ids .entry)) (now (offsets .entry)) (now (values .entry)) (now (lengths .entry)) (now (bytes .entry)) (now (alive .entry)) (now (addresses .entry)) programBuffers))) (now (out .entry)) ⌝ }
+    ensures { λ r. ⌜ r ≡ length (listing (joinOutcome (lentOf mode required (recordsOf (now (records .entry))) (now (ids .entry)) (now (offsets .entry)) (now (values .entry)) (now (lengths .entry)) (now (bytes .entry)) (now (alive .entry)) (now (addresses .entry)) programBuffers))) ⌝ }
+    ensures { λ _. ⌜ now (out .exit) ≡ put 0 (listing (joinOutcome (lentOf mode required (recordsOf (now (records .entry))) (now (ids .entry)) (now (offsets .entry)) (now (values .entry)) (now (lengths .entry)) (now (bytes .entry)) (now (alive .entry)) (now (addresses .entry)) programBuffers))) (now (out .entry)) ⌝ }
 {
     let mut i = [0u32; 8192];
     let mut o = [0u32; 8192];

@@ -6,19 +6,19 @@ use native.Mathlib.Numerals.{add-one}
 use lib.ListN.{length, drop, getD, drop-of-length-le, length-map, List·getD-map}
 use lib.Seq.{drop-cons}
 use borrow.Author.Tests.{eq-eqb, ne-eqb}
-use Rattle.definitions.specs.Segment.{SegmentRecord, aliveWords, recordFrom}
+use Rattle.definitions.specs.Segment.{SegmentRecord, aliveWords}
 use Rattle.definitions.specs.Answer.{total}
 use Rattle.segment.specs.declared.Record.{Record}
-use Rattle.segment.specs.Records.{structOf, recordIn, recordsOf}
+use Rattle.segment.specs.Records.{rowRecord, structOf, recordIn, recordsOf}
 use native.Mathlib.Omega.{arith}
 
 -- ---- records
 
 pub records-long : (records : List (List ℕ)) → length (recordsOf records) ≡ length records
-records-long records = length-map records recordFrom
+records-long records = length-map records rowRecord
 
-pub record-is : (records : List (List ℕ)) (k : ℕ) {r : Record} → r ≡ structOf (getD records k []) → getD (recordsOf records) k (recordFrom []) ≡ recordIn r
-record-is records k e = List·getD-map recordFrom records k [] ∙ ap recordIn (sym e)
+pub record-is : (records : List (List ℕ)) (k : ℕ) {r : Record} → r ≡ structOf (getD records k []) → getD (recordsOf records) k (rowRecord []) ≡ recordIn r
+record-is records k e = List·getD-map rowRecord records k [] ∙ ap recordIn (sym e)
 
 pub records-end : (records : List (List ℕ)) (s : ℕ) → length records ≤ s → recordsOf (drop s records) ≡ []
 records-end records s h = rw (drop-of-length-le records h)

@@ -1,12 +1,15 @@
 // One segment's record by value, and how long its runs are (columnar/merge/mod.rs: `Vec<Option<..>>` of columns is a lent run of records).
 ghost use mathlib.Core.Path.{_≡_};
 ghost use mathlib.Core.List.{[]};
+ghost use mathlib.Core.Bool.{true};
 ghost use Prim.Native.Nat.{_<_, _≤_};
-ghost use lib.ListN.{length, getD};
-ghost use Rattle.definitions.specs.Segment.{aliveWords, recordWords};
-ghost use Rattle.segment.specs.Records.{structOf, recordIn};
+ghost use lib.ListN.{length, getD, take};
+ghost use Rattle.definitions.specs.Lists.{allBelow};
+ghost use Rattle.definitions.specs.Segment.{recordWidth, narrowNumbers, aliveWords, recordWords};
+ghost use Rattle.segment.specs.Records.{whole, lowHalf, highHalf, rowOf, recordRow, structOf, recordIn};
 
-// The last number is that of the alive rows: the set bits, or the rows where the flag is 0.
+// `alive` is the number of alive rows: the set bits, or the rows where the flag is 0. `least` and `greatest` are those of all stored values of I64, which is signed, and U64, else
+// 0 and 0.
 pub struct Record {
     pub typ: u32,
     pub kind: u32,
@@ -17,15 +20,41 @@ pub struct Record {
     pub terms: u32,
     pub flag: u32,
     pub alive: u32,
+    pub least: u64,
+    pub greatest: u64,
 }
 
-// How many numbers a record has.
-pub const WIDTH: usize = 9;
+// How many numbers a record has, and how many of them, the first ones, have 32 bits; the others have 64.
+pub const NUMBERS: usize = 11;
 
-// A record's numbers, as they are lent.
+pub const NARROW: usize = 9;
+
+// How many numbers a row has: those of 32 bits, then the low and the high half of each of the others.
+pub const WIDTH: usize = 13;
+
+// A record as it is lent.
 pub type RecordNumbers = [u32; WIDTH];
 
-// The only function that knows the order of a record's numbers.
+// The number of 64 bits of two halves.
+fn whole(low: u32, high: u32) -> u64
+    ensures { λ r. ⌜ r ≡ whole low high ⌝ }
+{
+    low as u64 + (high as u64) * 4294967296
+}
+
+pub fn low_half(w: u64) -> u32
+    ensures { λ r. ⌜ r ≡ lowHalf w ⌝ }
+{
+    (w % 4294967296) as u32
+}
+
+pub fn high_half(w: u64) -> u32
+    ensures { λ r. ⌜ r ≡ highHalf w ⌝ }
+{
+    (w / 4294967296) as u32
+}
+
+// This function and `numbers_of` alone know the order of a record's numbers.
 pub fn record_of(r: RecordNumbers) -> Record
     ensures { λ x. ⌜ x ≡ structOf r ⌝ }
 {
@@ -39,7 +68,60 @@ pub fn record_of(r: RecordNumbers) -> Record
         terms: r[6],
         flag: r[7],
         alive: r[8],
+        least: whole(r[9], r[10]),
+        greatest: whole(r[11], r[12]),
     }
+}
+
+pub fn numbers_of(r: Record) -> RecordNumbers
+    ensures { λ x. ⌜ x ≡ recordRow (recordIn r) ⌝ }
+{
+    [
+        r.typ,
+        r.kind,
+        r.rows,
+        r.ids,
+        r.offsets,
+        r.values,
+        r.terms,
+        r.flag,
+        r.alive,
+        low_half(r.least),
+        high_half(r.least),
+        low_half(r.greatest),
+        high_half(r.greatest),
+    ]
+}
+
+// A number that is narrow enough.
+pub fn narrow(x: u64) -> u32
+    requires { ⌜ x < 4294967296 ⌝ }
+    ensures { λ r. ⌜ r ≡ x ⌝ }
+{
+    x as u32
+}
+
+// The row of a record's numbers, the first of which are narrow enough.
+pub fn row_of(n: &[u64]) -> RecordNumbers
+    requires { ⌜ length (now n) ≡ recordWidth ⌝ }
+    requires { ⌜ allBelow 4294967296 (take narrowNumbers (now n)) ≡ true ⌝ }
+    ensures { λ r. ⌜ r ≡ rowOf (now (n .entry)) ⌝ }
+{
+    [
+        narrow(n[0]),
+        narrow(n[1]),
+        narrow(n[2]),
+        narrow(n[3]),
+        narrow(n[4]),
+        narrow(n[5]),
+        narrow(n[6]),
+        narrow(n[7]),
+        narrow(n[8]),
+        low_half(n[9]),
+        high_half(n[9]),
+        low_half(n[10]),
+        high_half(n[10]),
+    ]
 }
 
 // The record of segment i.

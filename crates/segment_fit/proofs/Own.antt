@@ -12,8 +12,8 @@ use Rattle.definitions.specs.Lists.{upTo, all, any, isEmpty, last, ascending, t
 use Rattle.definitions.specs.Words.{valuesIn}
 use Rattle.definitions.specs.Segment.{SegmentRecord, Sections, cut, aliveWords, recordWords, firstSegment}
 use Rattle.definitions.specs.Row.{bitAt, setBits, hasAliveSet, aliveNumber, noType}
-use Rattle.definitions.specs.Types.{isKnownType, hasTerms, BoolType}
-use Rattle.definitions.specs.Answer.{codesKnown, noColumnIsBare, idsFit, offsetsFit, emptyFits, fullFits, optionalFits, oldFits, newFits, listsFit, valuesFit, bitPastRows, aliveSetWrong}
+use Rattle.definitions.specs.Types.{isKnownType, hasTerms, pairOf, BoolType}
+use Rattle.definitions.specs.Answer.{codesKnown, noColumnIsBare, idsFit, offsetsFit, emptyFits, fullFits, optionalFits, oldFits, newFits, listsFit, pairFits, valuesFit, bitPastRows, aliveSetWrong}
 use Rattle.definitions.specs.Withdraw.{segmentOf}
 use Rattle.lists.proofs.Numbers.{leb-suc}
 use Rattle.lists.proofs.Lists.{empty-length, all-ext}
@@ -22,7 +22,7 @@ use Rattle.definitions.proofs.Sections.{cut-length, values-many}
 use Rattle.segment.specs.Kind.{byIndex}
 use Rattle.segment.proofs.Kind.{by-index}
 use Rattle.term_reader.specs.Read.{termsRise}
-use Rattle.segment_fit.specs.Fits.{rises, lastOf, bareCounts, fitsCodes, fitsIds, fitsOffsets, fitsEmpty, fitsFull, fitsOptional, fitsNew, fitsLists, fitsWords, fitsTerms, fitsValues, pastRows, fitsNumber, fitsSet}
+use Rattle.segment_fit.specs.Fits.{rises, lastOf, bareCounts, fitsCodes, fitsIds, fitsOffsets, fitsEmpty, fitsFull, fitsOptional, fitsNew, fitsLists, fitsWords, fitsTerms, fitsPair, fitsValues, pastRows, fitsNumber, fitsSet}
 
 -- ---- lists
 
@@ -139,14 +139,23 @@ terms-is t k (n ∷ ns) bs = rw (eqb·suc-zero (length ns)) (swap (termsAscendin
     swap : (a b c : Bool) → a && (b && c) ≡ b && (c && a)
     swap a b c = sym (and-assoc a b c) ∙ rotate3 a b c
 
+pair-first : (r : SegmentRecord) (s : Sections) → pairFits (firstSegment r s) ≡ fitsPair r (take (recordWords r) (s .values))
+unfolding firstSegment pairFits fitsPair pairOf
+pair-first r s =
+    unseen (λ t vs. eqb (r .pair .least) (pairOf t vs .least) && eqb (r .pair .greatest) (pairOf t vs .greatest)) (λ vs ws. refl) (r .type) (take (recordWords r) (s .values))
+
 pub values-first : (r : SegmentRecord) (s : Sections) → valuesFit (firstSegment r s) ≡ fitsValues r (take (recordWords r) (s .values)) (take (r .terms) (s .termLengths)) (s .termBytes)
 unfolding firstSegment fitsValues valuesFit
 values-first r s =
     let ls = take (r .terms) (s .termLengths) in
-    let vs = valuesIn (r .type) (take (recordWords r) (s .values)) in
+    let ws = take (recordWords r) (s .values) in
+    let vs = valuesIn (r .type) ws in
+    let words = (not (eqb (r .type) BoolType) || all (λ w. leb w 1) vs) && (not (hasTerms (r .type)) || all (λ w. ltb w (length ls)) vs) in
+    let typed = isEmpty (cut ls (s .termBytes)) || (hasTerms (r .type) && not (eqb (r .kind) 0)) in
     rw (cut-length ls (s .termBytes))
-    (and-assoc ((not (eqb (r .type) BoolType) || all (λ w. leb w 1) vs) && (not (hasTerms (r .type)) || all (λ w. ltb w (length ls)) vs)) (termsAscending (cut ls (s .termBytes))) (isEmpty (cut ls (s .termBytes)) || (hasTerms (r .type) && not (eqb (r .kind) 0)))
-    ∙ ap₂ (λ (a b : Bool). a && b) (words-is (r .type) (length ls) vs ∙ words-same (r .type) (length ls) (take (recordWords r) (s .values))) (terms-is (r .type) (r .kind) ls (s .termBytes)))
+    (ap (λ (b : Bool). b && pairFits (firstSegment r s)) (and-assoc words (termsAscending (cut ls (s .termBytes))) typed)
+    ∙ and-assoc words (termsAscending (cut ls (s .termBytes)) && typed) (pairFits (firstSegment r s))
+    ∙ (λ i. (words-is (r .type) (length ls) vs ∙ words-same (r .type) (length ls) ws) i && (terms-is (r .type) (r .kind) ls (s .termBytes) i && pair-first r s i)))
 
 -- ---- 6
 

@@ -8,7 +8,7 @@ use lib.Dec.{eqb, ltb, leb}
 use Rattle.definitions.specs.Lists.{any, allBelow, ascending, ascendingFrom, last, upTo}
 use Rattle.definitions.specs.Segment.{SegmentRecord}
 use Rattle.definitions.specs.Row.{bitAt, setBits, noType}
-use Rattle.definitions.specs.Types.{isKnownType, hasTerms, BoolType}
+use Rattle.definitions.specs.Types.{isKnownType, hasTerms, BoolType, pairOf}
 use Rattle.segment.specs.Kind.{byIndex}
 use Rattle.term_reader.specs.Read.{termsRise}
 
@@ -66,8 +66,12 @@ fitsWords type terms values = cond (eqb type BoolType) (allBelow 2 values) (cond
 unfoldable pub fitsTerms : ℕ → ℕ → List ℕ → List ℕ → Bool
 fitsTerms type kind lengths bytes = cond (eqb (length lengths) 0) true (hasTerms type && (not (eqb kind 0) && termsRise lengths bytes))
 
+-- no test looks into an address, so words do for values
+unfoldable pub fitsPair : SegmentRecord → List ℕ → Bool
+fitsPair r values = eqb (r .pair .least) (pairOf (r .type) values .least) && eqb (r .pair .greatest) (pairOf (r .type) values .greatest)
+
 unfoldable pub fitsValues : SegmentRecord → List ℕ → List ℕ → List ℕ → Bool
-fitsValues r values lengths bytes = fitsWords (r .type) (length lengths) values && fitsTerms (r .type) (r .kind) lengths bytes
+fitsValues r values lengths bytes = fitsWords (r .type) (length lengths) values && (fitsTerms (r .type) (r .kind) lengths bytes && fitsPair r values)
 
 -- ---- 6
 

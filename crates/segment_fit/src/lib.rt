@@ -7,7 +7,7 @@ ghost use lib.ListN.{length};
 ghost use lib.Dec.{eqb};
 ghost use Rattle.definitions.specs.Lists.{sum};
 ghost use Rattle.segment.specs.Records.{recordIn};
-ghost use Rattle.segment_fit.specs.Fits.{rises, lastOf, fitsCodes, bareCounts, fitsIds, fitsOffsets, fitsEmpty, fitsFull, fitsOptional, fitsNew, fitsLists, fitsWords, fitsTerms, fitsValues, pastRows, fitsNumber, fitsSet, fitsAlive};
+ghost use Rattle.segment_fit.specs.Fits.{rises, lastOf, fitsCodes, bareCounts, fitsIds, fitsOffsets, fitsEmpty, fitsFull, fitsOptional, fitsNew, fitsLists, fitsWords, fitsTerms, fitsPair, fitsValues, pastRows, fitsNumber, fitsSet, fitsAlive};
 
 // ---- scans
 
@@ -207,6 +207,17 @@ fn terms_fit(t: u32, kind: u32, lengths: &[u32], bytes: &[u8]) -> bool
     term_reader::terms_rise(lengths, bytes)
 }
 
+// The pair is that of all stored values.
+fn pair_fits(r: segment::Record, values: &[u64]) -> bool
+    ensures { λ x. ⌜ x ≡ fitsPair (recordIn r) (now (values .entry)) ⌝ }
+{
+    let p = min_max::pair_of(r.typ, values);
+    if r.least != p.least {
+        return false;
+    }
+    r.greatest == p.greatest
+}
+
 // Check 5 of one segment.
 pub fn values_fit(r: segment::Record, values: &[u64], lengths: &[u32], bytes: &[u8]) -> bool
     requires { ⌜ sum (now lengths) ≤ length (now bytes) ⌝ }
@@ -215,7 +226,10 @@ pub fn values_fit(r: segment::Record, values: &[u64], lengths: &[u32], bytes: &[
     if !words_fit(r.typ, lengths.len(), values) {
         return false;
     }
-    terms_fit(r.typ, r.kind, lengths, bytes)
+    if !terms_fit(r.typ, r.kind, lengths, bytes) {
+        return false;
+    }
+    pair_fits(r, values)
 }
 
 // ---- 6

@@ -71,6 +71,8 @@ next-is {records} {s} e =
       alive = record { from = e .alive i; to = e .alive i + aliveWords (recordAt records s) };
       map = record { from = 0; to = 0 };
       live = recordAt records s .aliveCount;
+      least = recordAt records s .pair .least;
+      greatest = recordAt records s .pair .greatest;
     }
 
 ends-suc : (records : List (List ℕ)) (s : ℕ) → Ends records (suc s) (standIn records s)

@@ -54,6 +54,7 @@ module _ (records : List (List ℕ)) (ids offsets values lengths bytes words : L
         rows = refl;
         flag = refl;
         live = refl;
+        pair = refl;
         ids-are = run-there (λ r. r .ids) records ids (u .ids) k h;
         offsets-are = run-there (λ r. r .offsets) records offsets (u .offsets) k h;
         values-are = ap (valuesIn (recordAt records k .type)) (run-there recordWords records values (u .values) k h);

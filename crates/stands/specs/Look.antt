@@ -5,7 +5,7 @@ use mathlib.Core.List.{List, [], _∷_}
 use lib.ListN.{length, getD}
 use lib.Seq.{slice}
 use Rattle.definitions.specs.Words.{wordsPerValue, valuesIn}
-use Rattle.definitions.specs.Segment.{Segment}
+use Rattle.definitions.specs.Segment.{Segment, Pair, pair}
 use Rattle.column_index.specs.Lookup.{startOf, endOf, Readable}
 use Rattle.stands.specs.declared.Span.{Span}
 use Rattle.stands.specs.declared.Stand.{Stand}
@@ -20,6 +20,10 @@ offsetsAt p offsets = part (p .offsets) offsets
 -- the words of its values
 abbrev pub valuesAt : Stand → List ℕ → List ℕ
 valuesAt p values = part (p .values) values
+
+-- the least and the greatest of its values
+abbrev pub pairAt : Stand → Pair
+pairAt p = pair (p .least) (p .greatest)
 
 abbrev pub aliveSetAt : Stand → List ℕ → List ℕ
 aliveSetAt p words = part (p .alive) words
@@ -76,6 +80,7 @@ pub record Stands (p : Stand) (ids offsets values words : List ℕ) (s : Segment
   pub rows : p .rows ≡ s .rows
   pub flag : p .flag ≡ s .flag
   pub live : p .live ≡ s .aliveCount
+  pub pair : pairAt p ≡ s .pair
   pub ids-are : idsAt p ids ≡ s .ids
   pub offsets-are : offsetsAt p offsets ≡ s .offsets
   pub values-are : valuesIn (s .type) (valuesAt p values) ≡ s .values

@@ -56,6 +56,8 @@ standOf r =
       alive = record { from = getD r 18 0; to = getD r 19 0 };
       map = record { from = getD r 20 0; to = getD r 21 0 };
       live = getD r 22 0;
+      least = getD r 23 0;
+      greatest = getD r 24 0;
     }
 
 abbrev pub numbersOf : Stand → List ℕ
@@ -83,6 +85,8 @@ numbersOf p =
     ∷ p .map .from
     ∷ p .map .to
     ∷ p .live
+    ∷ p .least
+    ∷ p .greatest
     ∷ []
 
 abbrev pub standAt : List (List ℕ) → ℕ → Stand
@@ -114,6 +118,8 @@ standIn records k =
       alive = span (startAt aliveWords records k) (aliveWords (recordAt records k));
       map = span 0 0;
       live = recordAt records k .aliveCount;
+      least = recordAt records k .pair .least;
+      greatest = recordAt records k .pair .greatest;
     }
 
 abbrev pub standsIn : List (List ℕ) → List (List ℕ)
@@ -143,6 +149,8 @@ nextStand p r =
       alive = span (p .alive .to) (aliveWords r);
       map = span 0 0;
       live = r .aliveCount;
+      least = r .pair .least;
+      greatest = r .pair .greatest;
     }
 
 -- no run ends after n

@@ -16,7 +16,7 @@ pub struct Span {
 }
 
 // Where a segment stands: the codes and rows of its record, whether it is held, its first byte where there is a working byte for each row, how many values it has
-// and how many words each of them has, its runs, that of values in words, and how many of its rows are alive.
+// and how many words each of them has, its runs, that of values in words, how many of its rows are alive, and the least and the greatest of its values.
 pub struct Stand {
     pub typ: usize,
     pub kind: usize,
@@ -34,10 +34,12 @@ pub struct Stand {
     pub alive: Span,
     pub map: Span,
     pub live: usize,
+    pub least: usize,
+    pub greatest: usize,
 }
 
 // How many numbers a stand has.
-pub const NUMBERS: usize = 23;
+pub const NUMBERS: usize = 25;
 
 // A stand's numbers, as a table has them.
 pub type StandNumbers = [usize; NUMBERS];
@@ -91,6 +93,8 @@ pub fn stand_of(r: StandNumbers) -> Stand
         alive: alive,
         map: map,
         live: r[22],
+        least: r[23],
+        greatest: r[24],
     }
 }
 
@@ -130,6 +134,8 @@ pub fn numbers_of(p: Stand) -> StandNumbers
         p.map.from,
         p.map.to,
         p.live,
+        p.least,
+        p.greatest,
     ]
 }
 
@@ -182,6 +188,8 @@ fn next(p: Stand, r: segment::Record) -> Stand
         alive: alive,
         map: none,
         live: segment::wide(r.alive),
+        least: r.least as usize,
+        greatest: r.greatest as usize,
     }
 }
 

@@ -5,23 +5,22 @@ use mathlib.Core.List.{List, [], _∷_}
 use Prim.Native.Nat.{ℕ, zero, suc, _+_, _≤_, _<_, suc-le-suc, zero-le}
 use native.Mathlib.Nat.{le-of-suc-le-suc}
 use native.Mathlib.Omega.{arith}
-use lib.Dec.{T, eqb, ltb, leb, ltb→lt}
-use lib.Ieee.Fits.{and-l, and-r}
-use lib.Ieee.Bits.{is-true}
+use lib.Dec.{T, eqb, ltb, ltb→lt}
 use lib.ListN.{length, getD, replicate}
-use Rattle.definitions.specs.Lists.{all, isEmpty, termsAscending}
+use Rattle.definitions.specs.Lists.{isEmpty}
 use Rattle.definitions.specs.Words.{IpAddr}
 use Rattle.definitions.specs.Segment.{Segment}
 use Rattle.definitions.specs.Row.{rowValues, hasAliveSet, isAlive, aliveRows}
-use Rattle.definitions.specs.Types.{hasTerms, BoolType}
+use Rattle.definitions.specs.Types.{hasTerms}
 use Rattle.definitions.specs.Join.{isUsed}
 use Rattle.definitions.specs.Answer.{indexFits, valuesFit}
+use Rattle.definitions.proofs.Fit.{fit-values}
 use Rattle.definitions.proofs.Words.{values-plain, terms-plain}
 use Rattle.runs.specs.Put.{Below}
 use Rattle.column_index.proofs.Walk.{fits-sound}
 use Rattle.stands.specs.declared.Stand.{Stand}
 use Rattle.stands.specs.Stand.{many, Lies, standOf, standAt}
-use Rattle.stands.specs.Look.{idsAt, offsetsAt, valuesAt, aliveSetAt}
+use Rattle.stands.specs.Look.{idsAt, offsetsAt, valuesAt, pairAt, aliveSetAt}
 use Rattle.stands.proofs.Bridge.{Stands}
 use Rattle.term_cursors.specs.Cursors.{unmarkedAt}
 use Rattle.term_marks.specs.Marks.{columnAt, bit, isKept, markedIn, markedAll, Marking, Usable, Columns, Apart}
@@ -85,31 +84,29 @@ module _ (ids offsets values alive : List ℕ) where
 
 -- ---- what check 5 says of a segment that has terms
 
--- its type is one that has them, and its values are ordinals
-terms-hold : (a b c d o : Bool) (ts : List (List ℕ)) → 0 < length ts → T (a && (not b || o) && c && (isEmpty ts || (b && d))) → T (b && o)
-terms-hold a true c d o ts z h = and-r a o (and-l (a && o) c (and-l (a && o && c) (isEmpty ts || d) h))
-terms-hold a false c d o [] z h = absurd (omega arith)
-terms-hold a false c d o (t ∷ ts) z h = absurd (and-r (a && true && c) false h)
+-- its type is one that has them
+of-terms : (s : Segment) → T (valuesFit s) → 0 < length (s .terms) → hasTerms (s .type) ≡ true
+of-terms s fit pos = go (s .terms) (hasTerms (s .type)) pos (fit-values s fit .typed)
+  where
+    go : (ts : List (List ℕ)) (b : Bool) → 0 < length ts → T (isEmpty ts || (b && not (eqb (s .kind) 0))) → b ≡ true
+    go [] b z h = absurd (omega arith)
+    go (t ∷ ts) true z h = refl
+    go (t ∷ ts) false z h = absurd h
 
-of-terms : (s : Segment) → T (valuesFit s) → 0 < length (s .terms) → T (hasTerms (s .type) && all (λ w. ltb w (length (s .terms))) (s .values))
-unfolding valuesFit
-of-terms s fit pos =
-    terms-hold (not (eqb (s .type) BoolType) || all (λ w. leb w 1) (s .values)) (hasTerms (s .type)) (termsAscending (s .terms)) (not (eqb (s .kind) 0)) (all (λ w. ltb w (length (s .terms))) (s .values)) (s .terms) pos fit
-
+-- its values are ordinals
 ordinals-below : (s : Segment) → T (valuesFit s) → 0 < length (s .terms) → Below (length (s .terms)) (s .values)
 ordinals-below s fit pos k h =
     ltb→lt (getD (s .values) k 0) (length (s .terms))
-    (all-at (λ w. ltb w (length (s .terms))) (s .values) k 0 (and-r (hasTerms (s .type)) (all (λ w. ltb w (length (s .terms))) (s .values)) (of-terms s fit pos)) h)
+    (all-at (λ w. ltb w (length (s .terms))) (s .values) k 0 (fit-values s fit .ordinals (of-terms s fit pos)) h)
 
 -- its values have one word each
 pub words-single : (s : Segment) → T (valuesFit s) → 0 < length (s .terms) → eqb (s .type) IpAddr ≡ false
-words-single s fit pos =
-    terms-plain (s .type) (is-true (hasTerms (s .type)) (and-l (hasTerms (s .type)) (all (λ w. ltb w (length (s .terms))) (s .values)) (of-terms s fit pos)))
+words-single s fit pos = terms-plain (s .type) (of-terms s fit pos)
 
 -- ---- the segment that stands there
 
 module _ {p : Stand} {ids offsets values words : List ℕ} {s : Segment} (st : Stands p ids offsets values words s) (plain : eqb (s .type) IpAddr ≡ false) where
-  column-is : record { type = s .type; kind = p .kind; rows = p .rows; ids = idsAt p ids; offsets = offsetsAt p offsets; values = valuesAt p values; terms = s .terms; flag = p .flag; aliveCount = p .live; alive = aliveSetAt p words } ≡ s
+  column-is : record { type = s .type; kind = p .kind; rows = p .rows; ids = idsAt p ids; offsets = offsetsAt p offsets; values = valuesAt p values; terms = s .terms; flag = p .flag; aliveCount = p .live; pair = pairAt p; alive = aliveSetAt p words } ≡ s
   column-is =
       λ i.
       record {
@@ -122,6 +119,7 @@ module _ {p : Stand} {ids offsets values words : List ℕ} {s : Segment} (st : S
         terms = s .terms;
         flag = st .flag i;
         aliveCount = st .live i;
+        pair = st .pair i;
         alive = st .alive-are i;
       }
 

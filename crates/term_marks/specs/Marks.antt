@@ -13,7 +13,7 @@ use Rattle.runs.specs.Put.{put, Below}
 use Rattle.column_index.specs.Lookup.{startOf, endOf, Sound}
 use Rattle.stands.specs.declared.Stand.{Stand}
 use Rattle.stands.specs.Stand.{part, many, Lies, standOf, standAt}
-use Rattle.stands.specs.Look.{idsAt, offsetsAt, valuesAt, aliveSetAt}
+use Rattle.stands.specs.Look.{idsAt, offsetsAt, valuesAt, pairAt, aliveSetAt}
 
 -- ---- a segment's term
 
@@ -30,6 +30,7 @@ columnAt p ids offsets values alive =
       terms = [];
       flag = p .flag;
       aliveCount = p .live;
+      pair = pairAt p;
       alive = aliveSetAt p alive;
     }
 

@@ -6,7 +6,7 @@ use mathlib.Core.List.{List, [], _∷_}
 use mathlib.Core.Bool.{Bool, true, cond}
 use lib.ListN.{length, getD}
 use lib.Dec.{eqb, ltb}
-use Rattle.definitions.specs.Segment.{Segment}
+use Rattle.definitions.specs.Segment.{Segment, noPair}
 use Rattle.segment.specs.Kind.{byIndex}
 use Rattle.definitions.specs.Row.{bitAt}
 use Rattle.definitions.specs.TimeOrder.{timeOf}
@@ -67,7 +67,7 @@ firstFrom s from = cursorAt s (nextRow (s .flag) (s .alive) (s .rows) from)
 abbrev pub timeKind : ℕ → ℕ
 timeKind kind = byIndex kind 0 1 2 2
 
--- the segment that stands there, without its type, offsets and terms
+-- the segment that stands there, without its type, offsets, terms and pair
 unfoldable pub segmentIn : Stand → List ℕ → List ℕ → List ℕ → Segment
 segmentIn p ids values alive =
     record {
@@ -80,6 +80,7 @@ segmentIn p ids values alive =
       terms = [];
       flag = p .flag;
       aliveCount = p .live;
+      pair = noPair;
       alive = aliveSetAt p alive;
     }
 

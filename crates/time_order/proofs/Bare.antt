@@ -7,7 +7,7 @@ use lib.ListN.{length, getD, length-map}
 use lib.Seq.{slice}
 use lib.Dec.{T, eqb, ltb}
 use Rattle.definitions.specs.Lists.{filter, upTo, notFalling}
-use Rattle.definitions.specs.Segment.{Segment, Address}
+use Rattle.definitions.specs.Segment.{Segment, noPair, Address}
 use Rattle.definitions.specs.Row.{rowValues, isAlive}
 use Rattle.definitions.specs.Join.{absent, rowsOf, stackedFrom}
 use Rattle.definitions.specs.Answer.{indexFits, isAliveAt, aliveAddresses}
@@ -22,9 +22,9 @@ use Rattle.time_cursors.specs.Cursors.{timeKind}
 use Rattle.time_cursors.proofs.Keys.{key-grows}
 use Rattle.time_order.proofs.Single.{time-sound, start-same, end-same}
 
--- the segment without its type, offsets and terms
+-- the segment without its type, offsets, terms and pair
 abbrev pub bare : Segment → Segment
-bare s = record { type = 0; kind = timeKind (s .kind); rows = s .rows; ids = s .ids; offsets = []; values = s .values; terms = []; flag = s .flag; aliveCount = s .aliveCount; alive = s .alive }
+bare s = record { type = 0; kind = timeKind (s .kind); rows = s .rows; ids = s .ids; offsets = []; values = s .values; terms = []; flag = s .flag; aliveCount = s .aliveCount; pair = noPair; alive = s .alive }
 
 -- what the checks say: the lists fit, and no row has several times
 pub record Single (s : Segment) : Type 0 where

@@ -10,7 +10,7 @@ use lib.Dec.{T, eqb, ltb}
 use borrow.Author.Tests.{ltb-false, not-false}
 use Rattle.definitions.specs.Lists.{all, any, upTo, notFalling}
 use Rattle.definitions.specs.Words.{IpAddr}
-use Rattle.definitions.specs.Segment.{Segment, segmentsFrom, recordFrom, address as at}
+use Rattle.definitions.specs.Segment.{Segment, noPair, segmentsFrom, address as at}
 use Rattle.definitions.specs.Row.{rowValues, isPresent, noType}
 use Rattle.definitions.specs.Types.{DateTime}
 use Rattle.definitions.specs.Join.{absent}
@@ -21,7 +21,7 @@ use Rattle.definitions.proofs.Words.{values-plain, not-address}
 use Rattle.definitions.proofs.Accept.{index-fits}
 use Rattle.definitions.proofs.Checks.{all-passed, passed-append, passes}
 use Rattle.definitions.proofs.TimeOrder.{order-length}
-use Rattle.segment.specs.Records.{recordsOf, sectionsIn}
+use Rattle.segment.specs.Records.{rowRecord, recordsOf, sectionsIn}
 use Rattle.sections_fit.proofs.Own.{rows-all}
 use Rattle.sections_fit.proofs.Seven.{Ready, ready}
 use Rattle.column_index.specs.Lookup.{Sound}
@@ -80,7 +80,7 @@ module _ (records : List (List ℕ)) (ids offsets values lengths bytes alive : L
     held = record { ids = omega (arith, first .exact .ids); offsets = omega (arith, first .exact .offsets); values = omega (arith, first .exact .words); alive = omega (arith, first .exact .alive) }
 
     few : length records ≤ 256
-    few = omega (arith, first .few, length-map records recordFrom)
+    few = omega (arith, first .few, length-map records rowRecord)
 
     -- segment k
     module _ (k : ℕ) (h : k < length records) where
@@ -128,6 +128,7 @@ module _ (records : List (List ℕ)) (ids offsets values lengths bytes alive : L
             terms = [];
             flag = st .flag i;
             aliveCount = st .live i;
+            pair = noPair;
             alive = st .alive-are i;
           }
 

@@ -1,17 +1,19 @@
 -- What a fitting input has, and the words and bounds that were read of it. Assumes nothing.
-use mathlib.Core.Path.{_≡_, refl, sym, ap, _∙_}
-use mathlib.Core.List.{List}
+use mathlib.Core.Path.{_≡_, refl, sym, ap, ap₂, _∙_}
+use mathlib.Core.List.{List, [], _∷_, map}
 use mathlib.Core.Bool.{Bool, true, false, _&&_, cond, not}
 use Prim.Native.Nat.{ℕ, _/_, _%_, _≤_, _<_}
 use native.Mathlib.Omega.{arith}
 use borrow.Author.Tests.{eqb-true, leb-true, not-false}
 use lib.Dec.{eqb, leb}
 use lib.ListN.{length, getD, take}
-use Rattle.definitions.specs.Segment.{recordWidth}
-use Rattle.definitions.specs.Wire.{wordSections, sectionAt, endsFrom, widthsFit, wordsFit, wordsOf, wholeWords, bytesFit, recordGroups, addressGroups, lentFrom, programBuffers}
+use Rattle.definitions.specs.Segment.{SegmentRecord, recordFrom, recordWidth}
+use Rattle.segment.specs.Records.{rowOf, recordsOf}
+use Rattle.segment.proofs.Rows.{numbers-back}
+use Rattle.definitions.specs.Wire.{wordSections, sectionAt, endsFrom, recordsNarrow, widthsFit, wordsFit, wordsOf, wholeWords, bytesFit, recordGroups, addressGroups, lentFrom, programBuffers}
 use Rattle.definitions.specs.Lists.{allBelow}
 use Rattle.definitions.specs.Outcome.{lentOf}
-use Rattle.wire.specs.Bounds.{Narrow, Fitted, boundsOf}
+use Rattle.wire.specs.Bounds.{Narrow, NarrowRecords, Fitted, boundsOf}
 use Rattle.runs.specs.Put.{put}
 use Rattle.wire.proofs.Sections.{part-of, part-short, bounded, grouped-length}
 use Rattle.runs.proofs.Laws.{front-lent}
@@ -23,7 +25,7 @@ pub record Fitting (words : List ℕ) : Type 0 where
   pub nine : length (wordSections words) ≡ 9
   pub two : length (sectionAt (wordSections words) 0) ≡ 2
   pub head : allBelow 4294967296 (sectionAt (wordSections words) 0) ≡ true
-  pub records : allBelow 4294967296 (sectionAt (wordSections words) 1) ≡ true
+  pub records : recordsNarrow (recordGroups (wordSections words)) ≡ true
   pub ids : allBelow 4294967296 (sectionAt (wordSections words) 2) ≡ true
   pub offsets : allBelow 4294967296 (sectionAt (wordSections words) 3) ≡ true
   pub lengths : allBelow 4294967296 (sectionAt (wordSections words) 5) ≡ true
@@ -39,7 +41,7 @@ fitting words h =
     let r5 : Bool = allBelow 4294967296 (sectionAt ss 5) && r6 in
     let r3 : Bool = allBelow 4294967296 (sectionAt ss 3) && r5 in
     let r2 : Bool = allBelow 4294967296 (sectionAt ss 2) && r3 in
-    let r1 : Bool = allBelow 4294967296 (sectionAt ss 1) && r2 in
+    let r1 : Bool = recordsNarrow (recordGroups ss) && r2 in
     let r0 : Bool = allBelow 4294967296 (sectionAt ss 0) && r1 in
     let q2 : Bool = eqb (length (sectionAt ss 0)) 2 && r0 in
     let q1 : Bool = eqb (getD (endsFrom 0 ss) 8 0) (length words) && q2 in
@@ -47,7 +49,7 @@ fitting words h =
     let b = both-true (eqb (getD (endsFrom 0 ss) 8 0) (length words)) q2 (a .1) in
     let c = both-true (eqb (length (sectionAt ss 0)) 2) r0 (b .1) in
     let w0 = both-true (allBelow 4294967296 (sectionAt ss 0)) r1 (c .1) in
-    let w1 = both-true (allBelow 4294967296 (sectionAt ss 1)) r2 (w0 .1) in
+    let w1 = both-true (recordsNarrow (recordGroups ss)) r2 (w0 .1) in
     let w2 = both-true (allBelow 4294967296 (sectionAt ss 2)) r3 (w1 .1) in
     let w3 = both-true (allBelow 4294967296 (sectionAt ss 3)) r5 (w2 .1) in
     let w5 = both-true (allBelow 4294967296 (sectionAt ss 5)) r6 (w3 .1) in
@@ -97,7 +99,7 @@ module _ {words bounds : List ℕ} (f : Fitted words bounds) where
   pub narrow-head : Narrow words bounds 0 4294967296
   narrow-head = record { bounded = f .bounded; stands = stands 0 (omega arith); below = fitting words (f .fits) .head }
 
-  pub narrow-records : Narrow words bounds 1 4294967296
+  pub narrow-records : NarrowRecords words bounds
   narrow-records = record { bounded = f .bounded; stands = stands 1 (omega arith); below = fitting words (f .fits) .records }
 
   pub narrow-ids : Narrow words bounds 2 4294967296
@@ -115,13 +117,17 @@ module _ {words bounds : List ℕ} (f : Fitted words bounds) where
   pub narrow-addresses : Narrow words bounds 8 4294967296
   narrow-addresses = record { bounded = f .bounded; stands = stands 8 (omega arith); below = fitting words (f .fits) .addresses }
 
+records-back : (gs : List (List ℕ)) → recordsOf (map rowOf gs) ≡ map recordFrom gs
+records-back [] = refl
+records-back (g ∷ gs) = ap₂ (λ (r : SegmentRecord) (rs : List SegmentRecord). r ∷ rs) (numbers-back g) (records-back gs)
+
 -- the lists that are read are those of the call that the bytes ask for
 pub lent-is : (ss : List (List ℕ)) {mode required : ℕ} {records : List (List ℕ)} {ids offsets values lengths bytes alive : List ℕ} {addresses : List (List ℕ)}
-    → mode ≡ getD (sectionAt ss 0) 0 0 → required ≡ getD (sectionAt ss 0) 1 0 → records ≡ recordGroups ss → ids ≡ sectionAt ss 2 → offsets ≡ sectionAt ss 3
+    → mode ≡ getD (sectionAt ss 0) 0 0 → required ≡ getD (sectionAt ss 0) 1 0 → records ≡ map rowOf (recordGroups ss) → ids ≡ sectionAt ss 2 → offsets ≡ sectionAt ss 3
     → values ≡ sectionAt ss 4 → lengths ≡ sectionAt ss 5 → bytes ≡ sectionAt ss 6 → alive ≡ sectionAt ss 7 → addresses ≡ addressGroups ss
-    → lentOf mode required records ids offsets values lengths bytes alive addresses programBuffers ≡ lentFrom ss
+    → lentOf mode required (recordsOf records) ids offsets values lengths bytes alive addresses programBuffers ≡ lentFrom ss
 unfolding lentFrom
-lent-is ss m q r d o v l b a x = λ i. lentOf (m i) (q i) (r i) (d i) (o i) (v i) (l i) (b i) (a i) (x i) programBuffers
+lent-is ss m q r d o v l b a x = λ i. lentOf (m i) (q i) ((ap recordsOf r ∙ records-back (recordGroups ss)) i) (d i) (o i) (v i) (l i) (b i) (a i) (x i) programBuffers
 
 -- the program's state once an input was found to fit: v are the words lent, b their bounds
 pub record Ready (l v b : List ℕ) : Type 0 where

@@ -1,20 +1,24 @@
 -- Where the sections end, which words are a section's, and elements of several words. Assumes nothing.
 use mathlib.Core.Path.{_≡_, refl, sym, ap, _∙_, subst}
-use mathlib.Core.List.{List, [], _∷_, _++_}
-use mathlib.Core.Bool.{Bool, true, false, cond}
+use mathlib.Core.List.{List, [], _∷_, _++_, map}
+use mathlib.Core.Bool.{Bool, true, false, cond, _&&_}
 use Prim.Native.Nat.{ℕ, zero, suc, _+_, _-_, _*_, _/_, _≤_, _<_}
 use native.Mathlib.Nat.{add-comm, suc-mul, zero-mul, le-of-suc-le-suc}
 use native.Mathlib.Numerals.{add-one}
 use native.Mathlib.Omega.{arith}
 use borrow.Author.Tests.{lt-ltb, le-ltb, ltb-true, ltb-false, le-leb, lt-leb, leb-true, leb-false, eqb-true, eqb-false}
-use lib.Dec.{ltb, leb, eqb}
+use lib.Dec.{T, ltb, leb, eqb}
+use lib.Ieee.Bits.{is-true}
 use lib.ListN.{length, drop, take, getD, set, length-append, length-take, length-drop, drop-of-length-le, List·getD-append}
-use lib.Seq.{drop-cons, drop-drop}
-use Rattle.definitions.specs.Segment.{recordWidth}
-use Rattle.definitions.specs.Wire.{elementWords, sectionsBy, wordSections, endsFrom, sectionAt, grouped, recordGroups, addressGroups}
-use Rattle.lists.proofs.Parts.{part-length}
+use lib.Seq.{drop-cons, drop-drop, take-take}
+use Rattle.definitions.specs.Lists.{all, allBelow}
+use Rattle.definitions.specs.Segment.{recordWidth, narrowNumbers}
+use Rattle.segment.specs.Records.{rowOf}
+use Rattle.definitions.specs.Wire.{elementWords, sectionsBy, wordSections, endsFrom, sectionAt, grouped, recordGroups, recordsNarrow, addressGroups}
+use Rattle.lists.proofs.Parts.{part-lent, part-length}
+use Rattle.lists.proofs.Lists.{all-at}
 use Rattle.wire.proofs.Words.{below-all}
-use Rattle.wire.specs.Bounds.{sectionEnd, boundsOf, Bounded, Narrow}
+use Rattle.wire.specs.Bounds.{sectionEnd, boundsOf, Bounded, Narrow, NarrowRecords}
 use Rattle.runs.specs.Put.{put, Below}
 use Rattle.runs.proofs.Laws.{put-one, put-put}
 
@@ -260,10 +264,52 @@ number-short k i words bounds n h = omega (arith, part-short _ _ _ _ (part-of wo
 pub number-ok : (bound k i : ℕ) (s words bounds : List ℕ) → Narrow words bounds k bound → s ≡ sectionAt (wordSections words) k → i < length (sectionAt (wordSections words) k) → getD s i 0 < bound
 number-ok bound k i s words bounds n e h = rw e (below-all bound (sectionAt (wordSections words) k) (n .below) i h)
 
-pub records-done : (ss : List (List ℕ)) (s : List ℕ) (old out : List (List ℕ)) → s ≡ sectionAt ss 1 → out ≡ put 0 (grouped recordWidth (length s / recordWidth) s) old → (length s / recordWidth ≡ length (recordGroups ss)) × (out ≡ put 0 (recordGroups ss) old)
+-- ---- records
+
+-- the groups of a section that is lent as s
+pub groups-are : (ss : List (List ℕ)) {s : List ℕ} → s ≡ sectionAt ss 1 → grouped recordWidth (length s / recordWidth) s ≡ recordGroups ss
 unfolding recordGroups
+groups-are ss e = ap (λ (l : List ℕ). grouped recordWidth (length l / recordWidth) l) e
+
+pub records-ok : (s words bounds : List ℕ) (room : ℕ) → NarrowRecords words bounds → s ≡ sectionAt (wordSections words) 1 → length words / recordWidth ≤ room
+    → (recordsNarrow (grouped recordWidth (length s / recordWidth) s) ≡ true) × (length s / recordWidth ≤ room)
+records-ok s words bounds room n e r =
+    let h = part-short _ _ _ _ (part-of words bounds 1 (n .bounded) (n .stands)) in
+    let l : length s ≤ length words = omega (arith, ap length e) in
+    (ap recordsNarrow (groups-are (wordSections words) e) ∙ n .below, omega arith)
+
+pub records-done : (ss : List (List ℕ)) (s : List ℕ) (old out : List (List ℕ)) → s ≡ sectionAt ss 1 → out ≡ put 0 (map rowOf (grouped recordWidth (length s / recordWidth) s)) old
+    → (length s / recordWidth ≡ length (recordGroups ss)) × (out ≡ put 0 (map rowOf (recordGroups ss)) old)
 records-done ss s old out e o =
-    (sym (grouped-length recordWidth (length (sectionAt ss 1) / recordWidth) (sectionAt ss 1) ∙ ap (λ (l : List ℕ). length l / recordWidth) (sym e)), o ∙ ap (λ (l : List ℕ). put 0 (grouped recordWidth (length l / recordWidth) l) old) e)
+    (sym (grouped-length recordWidth (length s / recordWidth) s) ∙ ap length (groups-are ss e), o ∙ ap (λ (g : List (List ℕ)). put 0 (map rowOf g) old) (groups-are ss e))
+
+-- the walk over the records
+module _ (ws : List ℕ) (i : ℕ) where
+  abbrev groups : List (List ℕ)
+  groups = grouped recordWidth (length ws / recordWidth) ws
+
+  abbrev isNarrow : List ℕ → Bool
+  isNarrow g = allBelow 4294967296 (take narrowNumbers g)
+
+  -- a record's first numbers, as they are lent
+  pub front-is : i < length ws / recordWidth → take (i * recordWidth + narrowNumbers - i * recordWidth) (drop (i * recordWidth) ws) ≡ take narrowNumbers (getD groups i [])
+  front-is h =
+      part-lent (i * recordWidth) narrowNumbers narrowNumbers ws refl
+      ∙ sym (take-take narrowNumbers recordWidth (drop (i * recordWidth) ws) (omega arith))
+      ∙ ap (take narrowNumbers) (sym (grouped-at recordWidth (length ws / recordWidth) ws i h))
+
+  pub narrow-step : i < length ws / recordWidth → recordsNarrow (drop i groups) ≡ isNarrow (getD groups i []) && recordsNarrow (drop (i + 1) groups)
+  unfolding recordsNarrow
+  narrow-step h = ap (all isNarrow) (drop-cons groups i [] (omega (arith, grouped-length recordWidth (length ws / recordWidth) ws)) ∙ ap (λ (k : ℕ). getD groups i [] ∷ drop k groups) (sym (add-one i)))
+
+  pub narrow-end : length ws / recordWidth ≤ i → recordsNarrow (drop i groups) ≡ true
+  unfolding recordsNarrow
+  narrow-end h = ap (all isNarrow) (drop-of-length-le groups {i = i} (omega (arith, grouped-length recordWidth (length ws / recordWidth) ws)))
+
+  -- each of them is narrow where all are
+  pub narrow-one : i < length ws / recordWidth → recordsNarrow groups ≡ true → isNarrow (getD groups i []) ≡ true
+  unfolding recordsNarrow
+  narrow-one h e = is-true (isNarrow (getD groups i [])) (all-at isNarrow groups i [] (subst T (sym e) tt) (omega (arith, grouped-length recordWidth (length ws / recordWidth) ws)))
 
 pub addresses-done : (ss : List (List ℕ)) (s : List ℕ) (old out : List (List ℕ)) → s ≡ sectionAt ss 8 → out ≡ put 0 (grouped 2 (length s / 2) s) old → (length s / 2 ≡ length (addressGroups ss)) × (out ≡ put 0 (addressGroups ss) old)
 unfolding addressGroups

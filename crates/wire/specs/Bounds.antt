@@ -5,7 +5,7 @@ use mathlib.Core.Bool.{true, _&&_, cond}
 use mathlib.Core.List.{List, _∷_}
 use lib.Dec.{ltb, leb}
 use lib.ListN.{getD, length}
-use Rattle.definitions.specs.Wire.{wordSections, endsFrom, sectionAt, wordsFit}
+use Rattle.definitions.specs.Wire.{wordSections, endsFrom, sectionAt, recordGroups, recordsNarrow, wordsFit}
 use Rattle.definitions.specs.Lists.{allBelow}
 
 -- the end of the section whose count is word number at, with size words to an element; 0 if it is cut
@@ -26,6 +26,12 @@ pub record Narrow (words bounds : List ℕ) (k bound : ℕ) : Type 0 where
   pub bounded : Bounded words bounds
   pub stands : k < length (wordSections words)
   pub below : allBelow bound (sectionAt (wordSections words) k) ≡ true
+
+-- the records stand, and the first numbers of each are narrow enough
+pub record NarrowRecords (words bounds : List ℕ) : Type 0 where
+  pub bounded : Bounded words bounds
+  pub stands : 1 < length (wordSections words)
+  pub below : recordsNarrow (recordGroups (wordSections words)) ≡ true
 
 -- the words and the bounds of an input that fits
 pub record Fitted (words bounds : List ℕ) : Type 0 where

@@ -1,13 +1,15 @@
 // The joining program's input: bytes to words, and words to sections. (Added: no file of the crate has it.)
 ghost use mathlib.Core.Path.{_≡_};
-ghost use mathlib.Core.Bool.{cond};
+ghost use mathlib.Core.Bool.{true, cond};
+ghost use mathlib.Core.List.{map};
 ghost use Prim.Native.Nat.{_<_, _≤_, _+_, _/_};
 ghost use lib.ListN.{length, drop, take, getD};
-ghost use Rattle.definitions.specs.Wire.{littleEndian, wordsOf, wordSections, sectionAt, grouped, widthsFit, wordsFit, bytesFit, wholeWords, recordGroups, addressGroups};
-ghost use Rattle.definitions.specs.Segment.{recordWidth};
+ghost use Rattle.definitions.specs.Wire.{littleEndian, wordsOf, wordSections, sectionAt, grouped, recordsNarrow, widthsFit, wordsFit, bytesFit, wholeWords, recordGroups, addressGroups};
+ghost use Rattle.definitions.specs.Segment.{recordWidth, narrowNumbers};
+ghost use Rattle.segment.specs.Records.{rowOf};
 ghost use Rattle.definitions.specs.Lists.{allBelow};
 ghost use Rattle.runs.specs.Put.{put, Below};
-ghost use Rattle.wire.specs.Bounds.{sectionEnd, boundsOf, Bounded, Narrow};
+ghost use Rattle.wire.specs.Bounds.{sectionEnd, boundsOf, Bounded, Narrow, NarrowRecords};
 
 fn byte(b: u8) -> u64
     ensures { λ r. ⌜ (r ≡ b) × (r < 256) ⌝ }
@@ -95,7 +97,7 @@ fn section_bounds(words: &[u64], bounds: &mut [usize]) -> usize
     ensures { λ r. ⌜ r ≡ length (wordSections (now (words .entry))) ⌝ }
     ensures { λ _. ⌜ now (bounds .exit) ≡ put 0 (boundsOf (now (words .entry))) (now (bounds .entry)) ⌝ }
 {
-    let sizes = [1usize, segment::WIDTH, 1, 1, 1, 1, 1, 1, 2];
+    let sizes = [1usize, segment::NUMBERS, 1, 1, 1, 1, 1, 1, 2];
     bounds[0] = 0;
     let mut at: usize = 0;
     let mut k: usize = 0;
@@ -132,6 +134,32 @@ fn section_below(words: &[u64], bounds: &[usize], k: usize, bound: u64) -> bool
     runs::all_below(s, bound)
 }
 
+// Whether the first numbers of each record, those of 32 bits, are narrow enough.
+fn records_narrow(words: &[u64]) -> bool
+    ensures { λ r. ⌜ r ≡ recordsNarrow (grouped recordWidth (length (now (words .entry)) / recordWidth) (now (words .entry))) ⌝ }
+{
+    let n = words.len() / segment::NUMBERS;
+    let mut i: usize = 0;
+    while i < n {
+        let from = i * segment::NUMBERS;
+        let to = from + segment::NARROW;
+        if !runs::all_below(&words[from..to], 4294967296) {
+            return false;
+        }
+        i += 1;
+    }
+    true
+}
+
+fn records_below(words: &[u64], bounds: &[usize]) -> bool
+    requires { ⌜ Bounded (now words) (now bounds) ⌝ }
+    requires { ⌜ 1 < length (wordSections (now words)) ⌝ }
+    ensures { λ r. ⌜ r ≡ recordsNarrow (recordGroups (wordSections (now (words .entry)))) ⌝ }
+{
+    let s = section(words, bounds, 1);
+    records_narrow(s)
+}
+
 fn widths_fit(words: &[u64], bounds: &[usize]) -> bool
     requires { ⌜ Bounded (now words) (now bounds) ⌝ }
     requires { ⌜ length (wordSections (now words)) ≡ 9 ⌝ }
@@ -140,7 +168,7 @@ fn widths_fit(words: &[u64], bounds: &[usize]) -> bool
     if !section_below(words, bounds, 0, 4294967296) {
         return false;
     }
-    if !section_below(words, bounds, 1, 4294967296) {
+    if !records_below(words, bounds) {
         return false;
     }
     if !section_below(words, bounds, 2, 4294967296) {
@@ -179,34 +207,25 @@ fn words_fit(words: &[u64], bounds: &[usize], n: usize) -> bool
     widths_fit(words, bounds)
 }
 
-fn narrow(x: u64) -> u32
-    requires { ⌜ x < 4294967296 ⌝ }
-    ensures { λ r. ⌜ r ≡ x ⌝ }
-{
-    x as u32
-}
-
 fn record_at(words: &[u64], at: usize) -> segment::RecordNumbers
-    requires { ⌜ Below 4294967296 (now words) ⌝ }
     requires { ⌜ at + recordWidth ≤ length (now words) ⌝ }
-    ensures { λ r. ⌜ r ≡ take recordWidth (drop at (now (words .entry))) ⌝ }
+    requires { ⌜ allBelow 4294967296 (take narrowNumbers (take recordWidth (drop at (now words)))) ≡ true ⌝ }
+    ensures { λ r. ⌜ r ≡ rowOf (take recordWidth (drop at (now (words .entry)))) ⌝ }
 {
-    let mut r = [0u32; segment::WIDTH];
-    let to = at + segment::WIDTH;
-    fill_numbers(&words[at..to], &mut r);
-    r
+    let to = at + segment::NUMBERS;
+    segment::row_of(&words[at..to])
 }
 
 // The records, at the start of out.
 fn fill_records(words: &[u64], out: &mut [segment::RecordNumbers])
-    requires { ⌜ Below 4294967296 (now words) ⌝ }
+    requires { ⌜ recordsNarrow (grouped recordWidth (length (now words) / recordWidth) (now words)) ≡ true ⌝ }
     requires { ⌜ length (now words) / recordWidth ≤ length (now out) ⌝ }
-    ensures { λ _. ⌜ now (out .exit) ≡ put 0 (grouped recordWidth (length (now (words .entry)) / recordWidth) (now (words .entry))) (now (out .entry)) ⌝ }
+    ensures { λ _. ⌜ now (out .exit) ≡ put 0 (map rowOf (grouped recordWidth (length (now (words .entry)) / recordWidth) (now (words .entry)))) (now (out .entry)) ⌝ }
 {
-    let n = words.len() / segment::WIDTH;
+    let n = words.len() / segment::NUMBERS;
     let mut i: usize = 0;
     while i < n {
-        out[i] = record_at(words, i * segment::WIDTH);
+        out[i] = record_at(words, i * segment::NUMBERS);
         i += 1;
     }
 }
@@ -262,7 +281,7 @@ pub fn read_number(words: &[u64], bounds: &[usize], k: usize, i: usize) -> u32
     ensures { λ r. ⌜ r ≡ getD (sectionAt (wordSections (now (words .entry))) k) i 0 ⌝ }
 {
     let s = section(words, bounds, k);
-    narrow(s[i])
+    segment::narrow(s[i])
 }
 
 // The numbers of section k, at the start of out; answers how many there are.
@@ -291,14 +310,14 @@ pub fn read_bytes(words: &[u64], bounds: &[usize], k: usize, out: &mut [u8]) -> 
 
 // The records, at the start of out; answers how many there are.
 pub fn read_records(words: &[u64], bounds: &[usize], out: &mut [segment::RecordNumbers]) -> usize
-    requires { ⌜ Narrow (now words) (now bounds) 1 4294967296 ⌝ }
+    requires { ⌜ NarrowRecords (now words) (now bounds) ⌝ }
     requires { ⌜ length (now words) / recordWidth ≤ length (now out) ⌝ }
     ensures { λ r. ⌜ r ≡ length (recordGroups (wordSections (now (words .entry)))) ⌝ }
-    ensures { λ _. ⌜ now (out .exit) ≡ put 0 (recordGroups (wordSections (now (words .entry)))) (now (out .entry)) ⌝ }
+    ensures { λ _. ⌜ now (out .exit) ≡ put 0 (map rowOf (recordGroups (wordSections (now (words .entry))))) (now (out .entry)) ⌝ }
 {
     let s = section(words, bounds, 1);
     fill_records(s, out);
-    s.len() / segment::WIDTH
+    s.len() / segment::NUMBERS
 }
 
 // The addresses, at the start of out; answers how many there are.

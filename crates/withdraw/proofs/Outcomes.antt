@@ -6,12 +6,11 @@ use mathlib.Core.Bool.{Bool, false}
 use borrow.Author.Tests.{eq-eqb, ne-eqb}
 use Rattle.definitions.specs.Withdraw.{AliveSet, changed, rowAbsent, markNumber, markedRows, changesTo, markOutcome}
 use Rattle.definitions.proofs.Withdraw.{granted}
-use Rattle.segment.specs.Records.{structOf}
+use Rattle.segment.specs.Records.{recordRow, structOf, recordIn}
+use Rattle.segment.proofs.Rows.{row-back}
 use Rattle.segment.specs.declared.Record.{Record}
-use Rattle.records.specs.Rows.{numbersOf}
 use Rattle.withdraw.specs.declared.MarkAnswer.{MarkAnswer as Answered}
 use Rattle.withdraw.specs.Lent.{setBy, lentSet, markingOf, outcomeOf, recordLeft, Markable}
-use Rattle.definitions.specs.Segment.{recordNumbers}
 
 module _ (numbers words rows : List ℕ) (alive : Bool) {r : Record} (e : r ≡ structOf numbers) {k : ℕ} (w : k ≡ markNumber (setBy r words) rows) where
   same-set : setBy r words ≡ lentSet numbers words
@@ -37,13 +36,13 @@ module _ (numbers words rows : List ℕ) (alive : Bool) {r : Record} (e : r ≡ 
     pub there : rowAbsent (setBy r words) rows ≡ false
     there = granted (setBy r words) rows (sym w ∙ z) .there
 
-    pub changes-are : {q : Record} {out after : List ℕ} {n : ℕ} → setBy q out ≡ markedRows alive (setBy r words) rows → after ≡ numbersOf q → n ≡ changesTo alive (setBy r []) (q .alive)
+    pub changes-are : {q : Record} {out after : List ℕ} {n : ℕ} → setBy q out ≡ markedRows alive (setBy r words) rows → after ≡ recordRow (recordIn q) → n ≡ changesTo alive (setBy r []) (q .alive)
         → Told (Answered.Changed n) after out
     unfolding markOutcome
     changes-are {q} {out} s a c =
         let m = lentSet numbers words in
         let left : setBy q out ≡ markedRows alive m rows = s ∙ ap (λ (m : AliveSet). markedRows alive m rows) same-set in
         let told = c ∙ ap₂ (λ (x : Record) (n : ℕ). changesTo alive (setBy x []) n) e (ap (λ (x : AliveSet). x .given .aliveCount) left) in (
-          rw (← number, eq-eqb k 0 z) (λ i. record { answer = changed (told i); left = (ap (λ (l : List ℕ). lentSet l out) a ∙ left) i }),
-          rw (← number, eq-eqb k 0 z) (a ∙ ap (λ (x : AliveSet). recordNumbers (x .given)) left),
+          rw (← number, eq-eqb k 0 z) (λ i. record { answer = changed (told i); left = (ap (λ (l : List ℕ). lentSet l out) a ∙ (λ j. record { given = row-back (recordIn q) j; words = out }) ∙ left) i }),
+          rw (← number, eq-eqb k 0 z) (a ∙ ap (λ (x : AliveSet). recordRow (x .given)) left),
         )

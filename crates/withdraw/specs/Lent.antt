@@ -3,9 +3,8 @@ use Prim.Native.Nat.{ℕ}
 use mathlib.Core.Path.{_≡_}
 use mathlib.Core.List.{List}
 use mathlib.Core.Bool.{Bool}
-use Rattle.definitions.specs.Segment.{recordFrom, recordNumbers}
 use Rattle.definitions.specs.Withdraw.{AliveSet, Marking, MarkAnswer, changed, unmarked, MarkOutcome, Sound}
-use Rattle.segment.specs.Records.{recordIn}
+use Rattle.segment.specs.Records.{rowRecord, recordRow, recordIn}
 use Rattle.segment.specs.declared.Record.{Record}
 use Rattle.withdraw.specs.declared.MarkAnswer.{MarkAnswer as Answered}
 
@@ -15,7 +14,7 @@ setBy r words = record { given = recordIn r; words = words }
 
 -- a record's numbers and its alive words
 abbrev pub lentSet : List ℕ → List ℕ → AliveSet
-lentSet numbers words = record { given = recordFrom numbers; words = words }
+lentSet numbers words = record { given = rowRecord numbers; words = words }
 
 abbrev pub markingOf : Bool → List ℕ → Marking
 markingOf alive rows = record { rows = rows; alive = alive }
@@ -33,7 +32,7 @@ recordBy (changed n) new old = new
 recordBy (unmarked k) new old = old
 
 abbrev pub recordLeft : MarkOutcome → List ℕ → List ℕ
-recordLeft o old = recordBy (o .answer) (recordNumbers (o .left .given)) old
+recordLeft o old = recordBy (o .answer) (recordRow (o .left .given)) old
 
 -- what the checks say of a set whose rows may be marked
 pub record Markable (m : AliveSet) : Type 0 where

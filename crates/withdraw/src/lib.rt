@@ -128,7 +128,7 @@ fn mark(
         return MarkAnswer::Refused(k);
     }
     let q = mark_all(alive, r, words, rows);
-    *record = records::numbers_of(q);
+    *record = segment::numbers_of(q);
     MarkAnswer::Changed(changes(alive, r, q.alive))
 }
 

@@ -2,10 +2,12 @@
 //! memory are held to the crate's merge (accepted) and to the table (refused); stored segments of kind 3
 //! given to the converter, which is held to its model, and then to the joiner, which is held to the
 //! crate's merge of the segments before their conversion; segments of times given to the time order, which
-//! is held to its model, and then to the joiner in the order found; and records with their alive sets given
-//! to withdraw and reinstate in turn, which are held to their model, and then to the joiner.
+//! is held to its model, and then to the joiner in the order found; records with their alive sets given
+//! to withdraw and reinstate in turn, which are held to their model, and then to the joiner; and columns asked
+//! for their least and greatest value.
 mod listeners;
 mod orders;
+mod pairs;
 mod turns;
 
 use std::io::{Read, Write};
@@ -18,15 +20,16 @@ use crate::damage;
 use crate::generate::{self, Kinds, Shape, Types};
 use crate::model;
 use crate::order;
-use crate::ours::{Addresses, Joiner, Lists, NewLists};
+use crate::ours::{Addresses, Joiner, Lists, NewLists, Run};
 use crate::rng::Rng;
 use crate::run;
 use crate::slips::{How, Standin, slips};
 use crate::table::{self, CHECKS, Call, Lent, PROGRAM, PROGRAM_BYTES};
-use crate::wire::{IP, Input, Listing, Outcome, Sections, Seg, to_words, values_of, width};
+use crate::wire::{IP, Input, Listing, Outcome, Pair, Sections, Seg, to_words, values_of, width};
 use crate::withdraw::{self, AliveSet, Mark};
 use listeners::Listeners;
 use orders::Orders;
+use pairs::Pairs;
 use turns::Turns;
 
 pub enum Ours {
@@ -52,6 +55,7 @@ pub enum Task {
     Convert { sections: Sections, space: Space },
     Order { sections: Sections, space: usize },
     Turn { set: AliveSet, marks: Vec<Mark> },
+    Pair { ty: u32, words: Vec<u64> },
 }
 
 /// Where the segments and the row order of a join come from.
@@ -72,6 +76,7 @@ pub enum Must {
     Convert(convert::Outcome),
     Order(order::Outcome),
     Turn(Vec<withdraw::Outcome>),
+    Pair(Pair),
 }
 
 /// Which function is called.
@@ -81,6 +86,7 @@ pub enum Part {
     Convert,
     Order,
     Mark,
+    Pair,
 }
 
 impl Task {
@@ -93,6 +99,7 @@ impl Task {
             Task::Convert { .. } => Part::Convert,
             Task::Order { .. } => Part::Order,
             Task::Turn { .. } => Part::Mark,
+            Task::Pair { .. } => Part::Pair,
         }
     }
     fn must(&self) -> Result<Must, String> {
@@ -107,6 +114,7 @@ impl Task {
                 Must::Order(order::outcome(&order::Call::new(sections, *space)))
             }
             Task::Turn { set, marks } => Must::Turn(withdraw::outcomes(set, marks)),
+            Task::Pair { ty, words } => Must::Pair(model::pair(*ty, &values_of(*ty, words))),
         })
     }
     fn show(&self) -> String {
@@ -125,6 +133,9 @@ impl Task {
                 format!("time order: {}\n  space for {space} addresses", show(sections))
             }
             Task::Turn { set, marks } => short(format!("withdraw and reinstate: {set:?}\n  {marks:?}")),
+            Task::Pair { ty, words } => {
+                short(format!("least and greatest value: type {ty}, words {words:?}"))
+            }
         }
     }
 }
@@ -152,6 +163,9 @@ impl Source {
 pub fn expected(call: &Call, stored: Option<&Input>) -> Result<Outcome, String> {
     let number = table::answer(call);
     let theirs = || stored.unwrap_or_else(|| call.input());
+    if matches!(number, 0 | 10 | 11) {
+        types_by_pairs(call.input())?;
+    }
     if number == 10 && !table::two_categories(call.input()) {
         match run::column(theirs()) {
             Err(text) if text.starts_with("error: InvalidInput") => {}
@@ -171,6 +185,10 @@ pub fn expected(call: &Call, stored: Option<&Input>) -> Result<Outcome, String> 
     if let Some(stored) = stored {
         run::take_repeats_out(stored, &mut listing)?;
     }
+    if listing.pair != model.pair {
+        let (ours, theirs) = (model.pair, listing.pair);
+        return Err(format!("the model's least and greatest value are {ours:?}, the crate's {theirs:?}"));
+    }
     if listing != *model {
         let line = first_difference(&model.print(), &listing.print());
         return Err(format!("the model makes another column than the crate: {line}"));
@@ -178,8 +196,22 @@ pub fn expected(call: &Call, stored: Option<&Input>) -> Result<Outcome, String> 
     Ok(Outcome::Accepted(listing))
 }
 
+/// "The type rule reads the pair and decides as before": what the model decides by the values, type and
+/// coercion, must come of the records' pairs as well, which 5 has found true. An error where it doesn't.
+fn types_by_pairs(input: &Input) -> Result<(), String> {
+    let (to, by_pairs) = (model::joined_type(input), model::type_by_pairs(input));
+    if to != by_pairs {
+        return Err(format!("the type is {to} by the values, {by_pairs} by the pairs"));
+    }
+    let differs = |s: &&Seg| model::coercible(s, to) != model::coercible_by_pair(s.ty, to, s.pair());
+    match input.segs.iter().filter(|s| model::held(s)).find(differs) {
+        None => Ok(()),
+        Some(s) => Err(format!("from type {} to {to} by the pair other than by the values", s.ty)),
+    }
+}
+
 /// The calls of a case: joins, of any type and of addresses, what is made of stored segments, time orders,
-/// and withdraw and reinstate, or these alone.
+/// least and greatest values, and withdraw and reinstate, or these two alone.
 fn tasks(o: &Options, case: u64) -> Vec<Task> {
     let mut list = turns::tasks(&mut Rng::of_turns(o.seed, case));
     if !o.withdraw {
@@ -188,17 +220,19 @@ fn tasks(o: &Options, case: u64) -> Vec<Task> {
         list.extend(joins(&mut rng, Types::Listeners));
         list.extend(stored_tasks(&mut rng));
         list.extend(orders::tasks(&mut Rng::of_orders(o.seed, case)));
+        list.extend(pairs::tasks(&mut Rng::of_pairs(o.seed, case)));
     }
     list
 }
 
-/// The join of a good input, and mostly of a damaged copy of it.
+/// The join of a good input, the pairs of its segments, and mostly the join of a damaged copy of it.
 fn joins(rng: &mut Rng, types: Types) -> Vec<Task> {
     let shape = generate::shape(rng, false);
     let input = generate::input(rng, shape, Kinds::Joined, types);
     let sections = input.sections();
     let (lent, needed) = lend(rng, &sections);
-    let mut list = vec![Task::join(sections, lent)];
+    let mut list = pairs::of_segments(&input.segs);
+    list.push(Task::join(sections, lent));
     let copies = match shape {
         Shape::Small => rng.pick(&[1, 1, 2]),
         Shape::Large => rng.one_in(4) as u32,
@@ -282,7 +316,7 @@ pub fn program_inputs(seed: u64, case: u64) -> Vec<Vec<u8>> {
     // Near the limit of 65,536 bytes: one segment of as many values as make so many words.
     if rng.one_in(200) {
         let (ty, words) = (rng.pick(&[1, IP]), rng.between(8_190, 8_194) as usize);
-        let words: Vec<u64> = (20..words).map(|_| rng.next()).collect();
+        let words: Vec<u64> = (22..words).map(|_| rng.next()).collect();
         let values = values_of(ty, &words[words.len() % width(ty)..]);
         let s = Seg { ty, kind: 1, rows: values.len() as u32, values, ..Seg::default() };
         let full = Input { mode: 0, required: 255, segs: vec![s], addresses: vec![] };
@@ -347,11 +381,13 @@ struct Stats {
     repeats: u64,
     orders: Orders,
     turns: Turns,
+    pairs: Pairs,
     differences: u64,
 }
 
 impl Stats {
     fn count(&mut self, task: &Task, must: &Must) {
+        self.pairs.count(task, must);
         match (task, must) {
             (Task::Join { sections, source: Source::Drawn, .. }, Must::Join(outcome)) => {
                 self.count_join(outcome, || sections.cut())
@@ -377,6 +413,7 @@ impl Stats {
             (Task::Convert { sections, space }, Must::Convert(outcome)) => {
                 self.count_conversion(sections, *space, outcome)
             }
+            (Task::Pair { .. }, Must::Pair(_)) => {}
             _ => unreachable!(),
         }
     }
@@ -408,7 +445,7 @@ impl Stats {
     fn count_conversion(&mut self, sections: &Sections, space: Space, outcome: &convert::Outcome) {
         self.conversions.0[outcome.number() as usize] += 1;
         let convert::Outcome::Accepted(c) = outcome else { return };
-        let [ty, _, rows, .., flag, _] = sections.records[0];
+        let [ty, _, rows, .., flag, _] = sections.records[0].numbers();
         self.old_types[ty as usize] += 1;
         self.old_alive += flag as u64;
         self.empty_rows[0] += (c.ids.len() < rows as usize) as u64;
@@ -446,6 +483,7 @@ impl Stats {
         self.repeats += other.repeats;
         self.orders.add(&other.orders);
         self.turns.add(&other.turns);
+        self.pairs.add(&other.pairs);
         self.differences += other.differences;
     }
 
@@ -532,6 +570,7 @@ impl Stats {
             self.converted.accepted() - self.converted_stacked,
             self.repeats
         );
+        self.pairs.print();
         self.orders.print();
         self.turns.print();
     }
@@ -575,6 +614,12 @@ fn fault(joiner: &mut dyn Joiner, task: &Task, must: &Must, salt: u64) -> Option
         }
         (Task::Turn { set, marks }, Must::Turn(outcomes)) => {
             return turns::fault(joiner, set, marks, outcomes, salt);
+        }
+        (Task::Pair { ty, words }, Must::Pair(pair)) => {
+            let mut lent = Run::new(2, salt);
+            let input = words.clone();
+            joiner.pair(*ty, &input, &mut lent);
+            (input == *words, 0, 0, lent.fault("least and greatest value", pair))
         }
         _ => unreachable!(),
     };

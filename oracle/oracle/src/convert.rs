@@ -78,7 +78,7 @@ pub fn lengths(call: &Call) -> bool {
 
 /// 3: unknown type or flag, no column, any kind but 3
 pub fn unknown(call: &Call) -> bool {
-    let [ty, kind, _rows, _ids, _offsets, _values, _terms, flag, _count] = call.sections.records[0];
+    let [ty, kind, _rows, _ids, _offsets, _values, _terms, flag, _count] = call.sections.records[0].numbers();
     !table::known_type(ty) || ty == 255 || kind != 3 || flag > 1
 }
 
@@ -89,7 +89,12 @@ pub fn runs(call: &Call) -> bool {
 
 /// 5: as in the join
 pub fn contents(call: &Call) -> bool {
-    table::contents_of(&call.segment())
+    table::contents_of(&call.segment()) || pair(call)
+}
+
+/// An untrue pair.
+pub fn pair(call: &Call) -> bool {
+    table::untrue(call.sections.records[0].pair(), &call.segment())
 }
 
 /// 6: an alive bit past the rows, or a wrong number of alive rows; an alive set is no fault where no join
@@ -137,12 +142,9 @@ fn new_lists(old: &Seg) -> (Vec<u32>, Vec<u32>) {
 /// "Changes only the kind and their lengths in the record."
 fn converted(record: Record, old: &Seg) -> Converted {
     let (ids, offsets) = new_lists(old);
-    let [ty, _kind, rows, _ids, _offsets, values, terms, flag, count] = record;
-    Converted {
-        record: [ty, 4, rows, ids.len() as u32, offsets.len() as u32, values, terms, flag, count],
-        ids,
-        offsets,
-    }
+    let [ty, _kind, rows, _ids, _offsets, values, terms, flag, count] = record.numbers();
+    let numbers = [ty, 4, rows, ids.len() as u32, offsets.len() as u32, values, terms, flag, count];
+    Converted { record: Record::new(numbers, record.pair()), ids, offsets }
 }
 
 /// A segment of kind 3 that passes the converter's checks, as it is handed to a join afterwards.

@@ -5,7 +5,7 @@ use crate::model;
 use crate::order;
 use crate::rng::Rng;
 use crate::table::{self, Lent};
-use crate::wire::{IP, Input, RECORD, Sections, Seg, width};
+use crate::wire::{IP, Input, NARROW, Pair, RECORD, Record, Sections, Seg, values_of, width};
 use crate::withdraw::AliveSet;
 
 const ODD: &[u32] = &[5, IP, 8, 9, 100, 254, 256, 257, 511, 65_535, 1 << 31, u32::MAX - 1, u32::MAX];
@@ -18,6 +18,9 @@ fn segments(rng: &mut Rng, input: &mut Input) {
     }
     if rng.one_in(20) {
         return cancelling_counts(rng, &mut input.segs);
+    }
+    if rng.one_in(20) {
+        return exchanged_pairs(rng, &mut input.segs);
     }
     let i = rng.index(input.segs.len());
     segment(rng, &mut input.segs[i], input.mode == 1);
@@ -52,8 +55,12 @@ fn segment(rng: &mut Rng, s: &mut Seg, ordered: bool) {
     fn at<T>(rng: &mut Rng, list: &[T]) -> Option<usize> {
         if list.is_empty() { None } else { Some(rng.index(list.len())) }
     }
-    match rng.below(26) {
-        0 => s.ty = rng.pick(TYPES),
+    let before = s.right_pair();
+    match rng.below(30) {
+        0 => {
+            s.ty = rng.pick(TYPES);
+            stale(rng, s, before);
+        }
         1 => s.kind = rng.below(5) as u32,
         2 => s.rows = s.rows.wrapping_add(step),
         3 => s.rows = rng.pick(&[0, 65_536, 65_537, 1 << 31, u32::MAX - 1, u32::MAX]),
@@ -76,6 +83,7 @@ fn segment(rng: &mut Rng, s: &mut Seg, ordered: bool) {
         13 | 14 => {
             if let Some(j) = at(rng, &s.values) {
                 s.values[j] = rng.pick(&[2, s.terms.len() as u128, 1 << 32, 1 << 63, u64::MAX as u128]);
+                stale(rng, s, before);
             }
         }
         15 => s.terms.push(s.terms.last().cloned().unwrap_or_default()),
@@ -108,6 +116,7 @@ fn segment(rng: &mut Rng, s: &mut Seg, ordered: bool) {
             }
         }
         23 | 24 => count(rng, s),
+        25..29 => pair(rng, s),
         _ => {
             s.kind = 2;
             s.ids.clear();
@@ -136,6 +145,88 @@ fn count(rng: &mut Rng, s: &mut Seg) {
         6 => s.rows.wrapping_sub(right),
         _ => right ^ 1 << rng.below(32),
     });
+}
+
+/// Now and then the pair stays as it was before type or values changed.
+fn stale(rng: &mut Rng, s: &mut Seg, before: Pair) {
+    if rng.one_in(4) {
+        s.set_pair(before);
+    }
+}
+
+/// Another pair: one of the two one more or less, or with a bit turned; exchanged; 0; in the other type's order;
+/// of the alive rows' values; of one half; of one value.
+fn pair(rng: &mut Rng, s: &mut Seg) {
+    let right = s.right_pair();
+    let [least, greatest] = right;
+    s.set_pair(match rng.below(14) {
+        _ if right == [0, 0] => pair_of_none(rng, s),
+        0 => [least.wrapping_add(1), greatest],
+        1 => [least.wrapping_sub(1), greatest],
+        2 => [least, greatest.wrapping_add(1)],
+        3 => [least, greatest.wrapping_sub(1)],
+        4 => [greatest, least],
+        5 => rng.pick(&[[0, 0], [0, greatest], [least, 0]]),
+        6 => Seg { ty: 1 - s.ty, ..s.clone() }.right_pair(),
+        7 | 8 => alive_pair(s),
+        9 => [least ^ 1 << rng.below(64), greatest],
+        10 => [least, greatest ^ 1 << rng.below(64)],
+        11 => [half(rng, least), greatest],
+        12 => [least, half(rng, greatest)],
+        _ => [rng.pick(&[least, greatest, s.values[0] as u64, s.values[s.values.len() - 1] as u64]); 2],
+    });
+}
+
+/// One half, or the halves exchanged.
+fn half(rng: &mut Rng, word: u64) -> u64 {
+    rng.pick(&[word as u32 as u64, word >> 32 << 32, word >> 32, word.rotate_left(32)])
+}
+
+/// A pair where 0 and 0 is right: that of the words as integers, what a fold begins with, one bit, any.
+fn pair_of_none(rng: &mut Rng, s: &Seg) -> Pair {
+    match rng.below(5) {
+        0 | 1 if !s.values.is_empty() => Seg { ty: rng.below(2) as u32, ..s.clone() }.right_pair(),
+        2 => rng.pick(&[[u64::MAX, 0], [0, u64::MAX], [(1 << 63) - 1, 1 << 63], [1 << 63, (1 << 63) - 1]]),
+        3 => {
+            let bit = 1 << rng.below(64);
+            rng.pick(&[[bit, 0], [0, bit], [bit, bit]])
+        }
+        _ => rng.pick(&[[0, 1], [1, 0], [1, 1], [7, 9]]),
+    }
+}
+
+/// The pair of the alive rows' values alone.
+fn alive_pair(s: &Seg) -> Pair {
+    let fits = |words: &Vec<u64>| words.len() == s.rows.div_ceil(64) as usize;
+    if table::runs_of(s) || !s.alive.as_ref().is_some_and(fits) {
+        return s.right_pair();
+    }
+    let alive = model::filled(s).into_iter().filter(|(row, _)| s.is_alive(*row));
+    let values = alive.flat_map(|(_, range)| s.values[range].to_vec()).collect();
+    Seg { values, ..s.clone() }.right_pair()
+}
+
+/// The pair of any segment, beside other damages, so that what comes before 5 and what after it is tried with
+/// it.
+fn any_pair(rng: &mut Rng, segs: &mut [Seg]) {
+    if rng.one_in(8) && !segs.is_empty() {
+        let i = rng.index(segs.len());
+        pair(rng, &mut segs[i]);
+    }
+}
+
+/// The pairs of two segments exchanged, or that of one in both.
+fn exchanged_pairs(rng: &mut Rng, segs: &mut [Seg]) {
+    if segs.len() < 2 {
+        return;
+    }
+    let i = rng.index(segs.len());
+    let j = (i + 1 + rng.index(segs.len() - 1)) % segs.len();
+    let [one, other] = [i, j].map(|i| segs[i].right_pair());
+    segs[j].set_pair(one);
+    if rng.one_in(2) {
+        segs[i].set_pair(other);
+    }
 }
 
 /// Numbers of alive rows of two segments that are wrong and have the right sum.
@@ -186,7 +277,7 @@ fn sections(rng: &mut Rng, s: &mut Sections) {
 fn many_segments(rng: &mut Rng, s: &mut Sections) {
     let many = rng.pick(&[255, 256, 256, 257, 257, 300]);
     while s.records.len() < many {
-        s.records.push([255, 0, 0, 0, 0, 0, 0, 0, 0]);
+        s.records.push(Seg { ty: 255, ..Seg::default() }.record());
     }
 }
 
@@ -254,6 +345,19 @@ fn values_and_words(rng: &mut Rng, s: &mut Sections) {
     if r[1] == 1 && r[2] == before {
         r[2] = r[5];
     }
+    if !rng.one_in(4) {
+        pair_again(s, i);
+    }
+}
+
+/// Puts a record's pair right once its type or its number of values has changed.
+fn pair_again(s: &mut Sections, i: usize) {
+    let words = |r: &Record| r[5] as usize * width(r[0]);
+    let from: usize = s.records[..i].iter().map(words).sum();
+    let r = &mut s.records[i];
+    if let Some(run) = s.values.get(from..from.saturating_add(words(r))) {
+        r.set_pair(Seg { ty: r[0], values: values_of(r[0], run), ..Seg::default() }.right_pair());
+    }
 }
 
 /// Lends less, mostly one element less than is needed; an address less, or half of it.
@@ -285,6 +389,7 @@ pub fn copy(rng: &mut Rng, good: &Input, needed: Lent, lent: Lent) -> (Sections,
     if rng.one_in(8) {
         old_kind(rng, &mut input);
     }
+    any_pair(rng, &mut input.segs);
     for _ in 0..times {
         match rng.below(10) {
             0..6 => segments(rng, &mut input),
@@ -308,6 +413,7 @@ pub fn stored(rng: &mut Rng, good: &Seg) -> (Sections, Space) {
     let mut space = convert::needed(good);
     let mut damaged = good.clone();
     let mut in_sections = 0;
+    any_pair(rng, std::slice::from_mut(&mut damaged));
     for _ in 0..rng.pick(&[1, 1, 1, 2, 2, 3]) {
         match rng.below(12) {
             0..6 => segment(rng, &mut damaged, true),
@@ -346,12 +452,14 @@ pub fn order(rng: &mut Rng, good: &[Seg]) -> (Sections, usize) {
     if rng.one_in(8) {
         old_kind(rng, &mut input);
     }
+    any_pair(rng, &mut input.segs);
     for _ in 0..rng.pick(&[1, 1, 1, 2, 2, 3]) {
-        match rng.below(17) {
+        match rng.below(18) {
             0..3 => in_sections += 1,
             3 => many_rows(rng, &mut input.segs),
             4..6 => space = if rng.one_in(4) { 0 } else { space.saturating_sub(1) },
             16 => cancelling_counts(rng, &mut input.segs),
+            17 => exchanged_pairs(rng, &mut input.segs),
             how => one_segment(rng, how, &mut input.segs),
         }
     }
@@ -470,24 +578,26 @@ const FIRST_RECORD: usize = 4;
 /// Damages of the wire form itself.
 pub fn wire(rng: &mut Rng, bytes: &mut Vec<u8>) {
     let words = bytes.len() / 8;
-    match rng.below(9) {
+    match rng.below(10) {
         0 => bytes.truncate(rng.index(bytes.len() + 1)),
         1 => bytes.truncate(8 * rng.index(words + 1)),
         2 => bytes.extend(vec![0; rng.index(17)]),
         3 if words > 0 => bytes[..8].copy_from_slice(&rng.pick(&[0u64, 1, 3, 1 << 32]).to_le_bytes()),
-        // One word, counts among them, made wide, or as wide as 8, 9, 16 or 72 times it wraps.
+        // One word, counts among them, made wide, or as wide as 8, 11, 16 or 88 times it wraps.
         4..7 if words > 0 => {
             let at = 8 * rng.index(words);
-            const WRAPPING: &[u64] = &[1 << 58, 1 << 60, 1 << 61, 1 << 63, 0x8E38E38E38E38E39, u64::MAX];
+            const WRAPPING: &[u64] = &[1 << 58, 1 << 60, 1 << 61, 1 << 63, 0x2E8BA2E8BA2E8BA3, u64::MAX];
             let wide = if rng.one_in(4) { rng.pick(&[256, 1 << 32]) } else { rng.pick(WRAPPING) };
             let word = u64::from_le_bytes(bytes[at..at + 8].try_into().unwrap());
             let word = if rng.one_in(2) { word.wrapping_add(wide) } else { wide };
             bytes[at..at + 8].copy_from_slice(&word.to_le_bytes());
         }
-        // A number of alive rows of 33 bits or more, the low ones as they were, if it is where it should be.
-        7 if words >= FIRST_RECORD + RECORD => {
+        // A number of alive rows of 33 bits or more, the low ones as they were, if it is where it should be;
+        // and the same of the least or greatest value, which may be as wide.
+        how @ (7 | 8) if words >= FIRST_RECORD + RECORD => {
             let records = bytes[8 * (FIRST_RECORD - 1)] as usize;
-            let word = FIRST_RECORD + RECORD * rng.index(records.max(1)) + RECORD - 1;
+            let number = if how == 7 { NARROW - 1 } else { NARROW + rng.index(2) };
+            let word = FIRST_RECORD + RECORD * rng.index(records.max(1)) + number;
             if let Some(byte) = bytes.get_mut(8 * word + rng.between(4, 7) as usize) {
                 *byte |= 1 << rng.below(8);
             }

@@ -5,7 +5,7 @@ pub mod turns;
 
 use crate::model;
 use crate::rng::Rng;
-use crate::wire::{IP, Input, Seg};
+use crate::wire::{IP, Input, Seg, words_of};
 
 #[derive(Clone, Copy, Debug, PartialEq, Eq)]
 pub enum Shape {
@@ -133,6 +133,70 @@ fn word(rng: &mut Rng, ty: u32, flavour: u64, terms: usize) -> u64 {
         _ if rng.one_in(3) => rng.next(),
         _ => rng.pick(WORDS),
     }
+}
+
+/// Numbers that others are close to, or less or greater in either order.
+const MIDDLES: &[u64] = &[0, 5, 100, 1 << 32, 1 << 62, (1 << 63) - 2, 1 << 63, u64::MAX - 4];
+
+/// Makes the least or the greatest value of a column of integers stand alone, or both. The others are what they
+/// were, or close together.
+fn ends_apart(rng: &mut Rng, s: &mut Seg) {
+    if s.ty > 1 || s.values.is_empty() {
+        return;
+    }
+    let middle = rng.pick(MIDDLES);
+    if rng.one_in(2) {
+        s.values.iter_mut().for_each(|v| *v = middle.wrapping_add(rng.below(3)) as u128);
+    }
+    for _ in 0..rng.between(1, 2) {
+        let place = place(rng, s);
+        s.values[place] = end(rng, middle) as u128;
+    }
+}
+
+/// The ends of both types, one less or more, another bit, another half.
+fn end(rng: &mut Rng, middle: u64) -> u64 {
+    match rng.below(6) {
+        0 => rng.pick(&[0, (1 << 63) - 1, 1 << 63, (1 << 63) + 1, u64::MAX]),
+        1 => middle.wrapping_sub(1),
+        2 => middle.wrapping_add(3),
+        3 => middle ^ 1 << rng.below(64),
+        4 => middle >> 32 << 32 | rng.next() >> 32,
+        _ => middle as u32 as u64 | rng.next() << 32,
+    }
+}
+
+/// A value's place: the first, the last, that of a withdrawn row, any.
+fn place(rng: &mut Rng, s: &Seg) -> usize {
+    let n = s.values.len();
+    match rng.below(5) {
+        0 => 0,
+        1 => n - 1,
+        2 | 3 => {
+            let withdrawn = model::filled(s).into_iter().filter(|(row, _)| !s.is_alive(*row));
+            let places: Vec<usize> = withdrawn.flat_map(|(_, range)| range).collect();
+            if places.is_empty() { rng.index(n) } else { rng.pick(&places) }
+        }
+        _ => rng.index(n),
+    }
+}
+
+/// A column's type, which may be one that nobody knows, and its words: for its least and greatest value.
+pub fn column(rng: &mut Rng) -> (u32, Vec<u64>) {
+    let n = match rng.below(40) {
+        0 => rng.below(5_000),
+        1..5 => rng.below(200),
+        _ => rng.below(24),
+    };
+    let (ty, flavour) = (rng.below(2) as u32, rng.below(7));
+    let mut s = Seg { ty, kind: 1, rows: n as u32, ..Seg::default() };
+    s.values = (0..n).map(|_| value(rng, ty, flavour, 0)).collect();
+    if rng.one_in(2) {
+        ends_apart(rng, &mut s);
+    }
+    let words = words_of(ty, &s.values);
+    let others = [2, 3, 4, 5, IP, 7, 7, 8, 9, 254, 255, 256, 257, 1 << 16, 1 << 31, u32::MAX];
+    (if rng.one_in(4) { rng.pick(&others) } else { ty }, words)
 }
 
 /// The terms that an input's segments choose from, ascending.
@@ -347,6 +411,13 @@ pub fn input(rng: &mut Rng, shape: Shape, kinds: Kinds, types: Types) -> Input {
         };
         segs.push(segment(rng, ty, &common));
     }
+    if base == 0 && rng.one_in(3) {
+        for s in &mut segs {
+            if rng.one_in(2) {
+                ends_apart(rng, s);
+            }
+        }
+    }
     // Rows sum to at most 4294967294, sometimes to just that.
     let sum = |segs: &[Seg]| segs.iter().map(|s| s.rows as u64).sum::<u64>();
     while sum(&segs) > 4294967294 {
@@ -383,11 +454,8 @@ pub fn input(rng: &mut Rng, shape: Shape, kinds: Kinds, types: Types) -> Input {
         }
     }
     // Mostly something to join: a required type that can't be had is seldom left.
-    let unable = |input: &Input| {
-        input.segs.iter().any(|s| {
-            model::held(s) && s.values.iter().any(|&v| model::coerced(s.ty, input.required, v).is_none())
-        })
-    };
+    let unable =
+        |input: &Input| input.segs.iter().any(|s| model::held(s) && !model::coercible(s, input.required));
     if input.required != 255 && !rng.one_in(4) && unable(&input) {
         input.required = 255;
     }

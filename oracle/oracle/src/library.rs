@@ -1,7 +1,7 @@
 //! The joiner's static library, called as C would call it: each run as a pointer and a number of
 //! elements, in the order of document 01's sections.
 use crate::ours::{Addresses, Element, Joiner, Lists, Marked, NewLists, Run};
-use crate::wire::{Record, Sections};
+use crate::wire::{Pair, Record, Sections};
 use crate::withdraw::{Mark, Rows};
 
 unsafe extern "C" {
@@ -38,7 +38,7 @@ unsafe extern "C" {
         out_term_bytes_len: usize,
         out_map: *mut u32,
         out_map_len: usize,
-        // ten
+        // twelve
         out_numbers: *mut u64,
     ) -> u32;
 
@@ -81,8 +81,7 @@ unsafe extern "C" {
         out_ids_len: usize,
         out_offsets: *mut u32,
         out_offsets_len: usize,
-        // nine
-        out_record: *mut u32,
+        out_record: *mut Record,
     ) -> u32;
 
     fn jadmirus_withdraw(
@@ -118,6 +117,8 @@ unsafe extern "C" {
         rows_len: usize,
         out_changed: *mut [u64; 1],
     ) -> u32;
+
+    fn jadmirus_pair(ty: u32, values: *const u64, values_len: usize, out_pair: *mut Pair);
 }
 
 pub struct Library;
@@ -180,8 +181,8 @@ impl Joiner for Library {
     fn convert(&mut self, s: &Sections, lists: &mut NewLists) -> u32 {
         let ids = run(&mut lists.ids);
         let offsets = run(&mut lists.offsets);
-        let record = run(&mut lists.record);
-        // The same holds here.
+        let record: *mut Record = lists.record.lent().as_mut_ptr().cast();
+        // The same holds here; the record is lent as its elements.
         unsafe {
             jadmirus_convert(
                 &s.records[0],
@@ -201,7 +202,7 @@ impl Joiner for Library {
                 ids.1,
                 offsets.0,
                 offsets.1,
-                record.0,
+                record,
             )
         }
     }
@@ -237,7 +238,7 @@ impl Joiner for Library {
         let record: *mut Record = lent.record.lent().as_mut_ptr().cast();
         let (words, n) = run(&mut lent.words);
         let changed: *mut [u64; 1] = lent.changed.lent().as_mut_ptr().cast();
-        // And here: the record has nine numbers, and one number tells how many rows changed.
+        // And here: one number tells how many rows changed.
         unsafe {
             match (mark.alive, &mark.rows) {
                 (false, Rows::One(row)) => jadmirus_withdraw(record, words, n, *row, changed),
@@ -250,5 +251,11 @@ impl Joiner for Library {
                 }
             }
         }
+    }
+
+    fn pair(&mut self, ty: u32, words: &[u64], lent: &mut Run<u64>) {
+        let pair: *mut Pair = lent.lent().as_mut_ptr().cast();
+        // And here.
+        unsafe { jadmirus_pair(ty, words.as_ptr(), words.len(), pair) }
     }
 }

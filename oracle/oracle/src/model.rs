@@ -1,9 +1,10 @@
-//! Document 01's join ("The join") with document 02's addresses, as naively as it reads, for an input
-//! that passes its checks 1 to 10. Nothing here comes from the crate or from the joiner.
+//! Document 01's join ("The join") with document 02's addresses and its least and greatest value, as naively
+//! as it reads, for an input that passes its checks 1 to 10. Nothing here comes from the crate or from the
+//! joiner.
 use std::collections::BTreeMap;
 use std::ops::Range;
 
-use crate::wire::{Input, Listing, Seg};
+use crate::wire::{Input, Listing, Pair, Seg};
 
 /// "A row's values: Empty none; Full the one at its number; Optional the one at its rank among the
 /// ids; kind 3 those between offsets row and row + 1; kind 4 the same by rank." The rows that have
@@ -54,6 +55,57 @@ pub fn joined_type(input: &Input) -> u32 {
         _ if !exists(2) && every(0, |v| v as i64 >= 0) => 1,
         _ => 2,
     }
+}
+
+/// "The least and greatest stored value for types 0 and 1, withdrawn rows included; other types and columns
+/// without values hold 0 and 0." I64 is two's complement.
+pub fn pair(ty: u32, values: &[u128]) -> Pair {
+    let mut numbers: Vec<i128> = match ty {
+        0 => values.iter().map(|&v| v as u64 as i64 as i128).collect(),
+        1 => values.iter().map(|&v| v as i128).collect(),
+        _ => vec![],
+    };
+    numbers.sort();
+    match numbers[..] {
+        [] => [0, 0],
+        [only] => [only as u64; 2],
+        [least, .., greatest] => [least as u64, greatest as u64],
+    }
+}
+
+/// "The type rule reads the pair and decides as before": the type by the records' pairs alone. Where they are
+/// true it is `joined_type`.
+pub fn type_by_pairs(input: &Input) -> u32 {
+    let held: Vec<(u32, Pair)> = input.segs.iter().filter(|s| held(s)).map(|s| (s.ty, s.pair())).collect();
+    let every = |ty: u32, ok: fn(Pair) -> bool| held.iter().filter(|h| h.0 == ty).all(|h| ok(h.1));
+    if input.required != 255 {
+        return input.required;
+    }
+    match held.first() {
+        None => 255,
+        Some(first) if held.iter().all(|h| h.0 == first.0) => first.0,
+        _ if held.iter().any(|h| h.0 == 2) => 2,
+        _ if every(1, |[_, greatest]| greatest < 9223372036854775807) => 0,
+        _ if every(0, |[least, _]| least as i64 >= 0) => 1,
+        _ => 2,
+    }
+}
+
+/// Whether a column with values can be had as another type, by its pair. Where that is true, this is
+/// `coercible`.
+pub fn coercible_by_pair(from: u32, to: u32, [least, greatest]: Pair) -> bool {
+    match (from, to) {
+        _ if from == to => true,
+        (1, 0) => greatest <= 9223372036854775807,
+        (0, 1) => least as i64 >= 0,
+        (0 | 1, 2) => true,
+        _ => false,
+    }
+}
+
+/// Whether each value of a column can be had as another type.
+pub fn coercible(s: &Seg, to: u32) -> bool {
+    s.values.iter().all(|&v| coerced(s.ty, to, v).is_some())
 }
 
 /// A stored value of one type as a value of another; None if it can't be had. An address "is never
@@ -166,6 +218,8 @@ pub fn join(input: &Input) -> Listing {
             out.offsets.push(out.values.len() as u32);
         }
     }
+    // "The joined column carries its own pair, taken over the joined values."
+    out.pair = pair(ty, &out.values);
     out
 }
 

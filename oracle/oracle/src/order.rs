@@ -214,6 +214,25 @@ mod tests {
         // 5, before 6
         answer(5, "7/1/1/val=7/terms=a");
         answer(5, "7/0/1/alive=2 5/1/1/val=2");
+        // an untrue pair, of any segment by itself and of any type, before 6, 7, 11 and 12
+        for text in [
+            "7/1/1/val=7/pair=7:7",
+            "7/1/1/val=7/pair=0:1",
+            "7/1/1/val=7/pair=4294967296:0",
+            "7/2/1/pair=0:1",
+            "7/1/1/val=7/alive=0/pair=7:7",
+            "7/1/1/val=7 255/0/1/pair=1:0",
+            "7/1/2/val=5,4/pair=4:5",
+            "1/1/1/val=4/pair=0:0",
+            "0/1/2/val=-4,4/pair=4:-4",
+            "7/1/1/val=7/pair=7:7/count=0",
+            "7/1/1/val=7/pair=7:7 255/0/4294967295",
+            "255/0/4294967294/pair=1:1",
+        ] {
+            answer(5, text);
+        }
+        answer(4, "7/1/2/val=7/pair=7:7");
+        answer(19, "7/3/1/off=0,1/val=7/pair=7:7");
         // 6, before 7; an alive set alone is no fault
         answer(6, "7/1/1/val=7/alive=2");
         answer(6, "255/0/4294967295 255/0/1/alive=2");

@@ -1,11 +1,11 @@
 //! The joiner's side of the comparison: one call with lent outputs, of the join, of the converter, of the
-//! time order, or of withdraw and reinstate.
+//! time order, of withdraw and reinstate, or for a column's least and greatest value.
 //! Back ends: the static library (library.rs), and stand-ins made of the model, right and wrong
 //! (slips.rs). The joining program is compared by its listings instead (compare.rs).
 use crate::convert::{self, Converted, Space};
 use crate::order;
 use crate::table::Lent;
-use crate::wire::{Listing, Outcome, RECORD, Sections};
+use crate::wire::{Listing, Outcome, ROW, Record, Sections};
 use crate::withdraw::{self, AliveSet, Mark};
 
 pub trait Element: Copy + PartialEq + std::fmt::Debug {
@@ -99,7 +99,7 @@ pub struct Lists {
     pub term_bytes: Run<u8>,
     pub map: Run<u32>,
     /// Type, class, rows, then how many row ids, offsets, values, terms, term bytes and map
-    /// entries, and how many term bytes were copied.
+    /// entries, how many term bytes were copied, and the least and greatest joined value.
     pub numbers: Run<u64>,
 }
 
@@ -113,7 +113,7 @@ impl Lists {
             term_lengths: Run::new(lent.term_lengths, salt + 4),
             term_bytes: Run::new(lent.term_bytes, salt + 5),
             map: Run::new(lent.map, salt + 6),
-            numbers: Run::new(10, salt + 7),
+            numbers: Run::new(12, salt + 7),
         }
     }
 
@@ -167,9 +167,12 @@ impl Lists {
 
 /// The place of the count of term bytes copied among the numbers.
 pub const COPIED: usize = 9;
+/// The place of the least value, before the greatest.
+pub const PAIR: usize = 10;
 
-/// "A count of the term bytes copied, proved equal to the joined terms' bytes" (02, (d)) comes last.
-pub fn numbers(l: &Listing) -> [u64; 10] {
+/// Last come "a count of the term bytes copied, proved equal to the joined terms' bytes" (02, (d)) and the
+/// pair that "the joined column carries" (02, (j)).
+pub fn numbers(l: &Listing) -> [u64; 12] {
     let term_bytes = l.terms.iter().map(|t| t.len() as u64).sum();
     [
         l.ty as u64,
@@ -182,6 +185,8 @@ pub fn numbers(l: &Listing) -> [u64; 10] {
         term_bytes,
         l.map.len() as u64,
         term_bytes,
+        l.pair[0],
+        l.pair[1],
     ]
 }
 
@@ -197,7 +202,7 @@ impl NewLists {
         NewLists {
             ids: Run::new(space.ids, salt),
             offsets: Run::new(space.offsets, salt + 1),
-            record: Run::new(RECORD, salt + 2),
+            record: Run::new(ROW, salt + 2),
         }
     }
 
@@ -210,14 +215,14 @@ impl NewLists {
     pub fn write(&mut self, c: &Converted) {
         self.ids.lent()[..c.ids.len()].copy_from_slice(&c.ids);
         self.offsets.lent()[..c.offsets.len()].copy_from_slice(&c.offsets);
-        self.record.lent().copy_from_slice(&c.record);
+        self.record.lent().copy_from_slice(&c.record.0);
     }
 
     /// What is wrong, if the call must have had this outcome. A refusal writes nothing; output
     /// beyond the lists keeps its elements.
     pub fn fault(&self, outcome: &convert::Outcome) -> Option<String> {
         let (ids, offsets, record): (&[u32], &[u32], &[u32]) = match outcome {
-            convert::Outcome::Accepted(c) => (&c.ids, &c.offsets, &c.record),
+            convert::Outcome::Accepted(c) => (&c.ids, &c.offsets, &c.record.0),
             convert::Outcome::Refused(_) => (&[], &[], &[]),
         };
         None.or_else(|| self.record.fault("the record", record))
@@ -267,7 +272,7 @@ pub struct Marked {
 impl Marked {
     pub fn new(set: &AliveSet, salt: u64) -> Marked {
         Marked {
-            record: Run::with(&set.record, salt),
+            record: Run::with(&set.record.0, salt),
             words: Run::with(&set.words, salt + 1),
             changed: Run::new(1, salt + 2),
             salt,
@@ -281,13 +286,13 @@ impl Marked {
 
     /// The record and its alive words as they are.
     pub fn set(&mut self) -> AliveSet {
-        let record = std::array::from_fn(|i| self.record.lent()[i]);
+        let record = Record(std::array::from_fn(|i| self.record.lent()[i]));
         AliveSet { record, words: self.words.lent().to_vec() }
     }
 
     /// Writes as a call that is not refused does.
     pub fn write(&mut self, changed: u64, left: &AliveSet) {
-        self.record.lent().copy_from_slice(&left.record);
+        self.record.lent().copy_from_slice(&left.record.0);
         self.words.lent().copy_from_slice(&left.words);
         self.changed.lent()[0] = changed;
     }
@@ -298,14 +303,14 @@ impl Marked {
             withdraw::Outcome::Changed(n, left) => (left, &[*n]),
             withdraw::Outcome::Refused(_) => (before, &[]),
         };
-        None.or_else(|| self.record.fault("the record", &left.record))
+        None.or_else(|| self.record.fault("the record", &left.record.0))
             .or_else(|| self.words.fault("alive words", &left.words))
             .or_else(|| self.changed.fault("changed rows", changed))
     }
 }
 
 /// A joiner, its converter, its time order, and its withdraw and reinstate: the answer's number; what is
-/// written goes to the lists.
+/// written goes to the lists. And its least and greatest value, which has no answer.
 pub trait Joiner {
     fn join(&mut self, sections: &Sections, lists: &mut Lists) -> u32;
     /// Of the sections' one record and its runs.
@@ -313,4 +318,6 @@ pub trait Joiner {
     /// Of the sections' segments.
     fn order(&mut self, sections: &Sections, lists: &mut Addresses) -> u32;
     fn mark(&mut self, mark: &Mark, lent: &mut Marked) -> u32;
+    /// Of a column's type and words, into two elements.
+    fn pair(&mut self, ty: u32, words: &[u64], lent: &mut Run<u64>);
 }

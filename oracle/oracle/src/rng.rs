@@ -1,4 +1,4 @@
-//! splitmix64, and three streams for each case of a seed.
+//! splitmix64, and four streams for each case of a seed.
 pub struct Rng(u64);
 
 fn mix(mut z: u64) -> u64 {
@@ -22,6 +22,10 @@ impl Rng {
     /// And for its calls of withdraw and reinstate.
     pub fn of_turns(seed: u64, case: u64) -> Rng {
         Rng(mix(!Rng::of_orders(seed, case).0))
+    }
+    /// And for its calls for least and greatest values.
+    pub fn of_pairs(seed: u64, case: u64) -> Rng {
+        Rng(mix(!Rng::of_turns(seed, case).0))
     }
     pub fn next(&mut self) -> u64 {
         self.0 = self.0.wrapping_add(0x9E3779B97F4A7C15);

@@ -10,7 +10,7 @@ use tantivy_columnar::{
 };
 
 use crate::model;
-use crate::wire::{Input, Listing, Seg};
+use crate::wire::{Input, Listing, Pair, Seg};
 
 thread_local! {
     static CATCHING: Cell<bool> = const { Cell::new(false) };
@@ -114,14 +114,14 @@ pub fn merge(input: &Input) -> Raw {
             return Raw::Error(format!("{:?} {e}", e.kind()));
         }
         let merged = ColumnarReader::open(file.clone()).unwrap();
-        let types: Vec<ColumnType> =
-            merged.list_columns().unwrap().iter().map(|(_, h)| h.column_type()).collect();
+        let handles = merged.list_columns().unwrap();
         // The file's column dictionary is sorted by type code, the captures by category: the same
         // order, since at most one column of a category is written.
-        assert_eq!(types.len(), state.columns.len());
+        assert_eq!(handles.len(), state.columns.len());
         let mut dictionaries = state.terms.into_iter().zip(state.maps);
         let mut listings = Vec::new();
-        for (ty, c) in types.into_iter().zip(state.columns) {
+        for ((_, handle), c) in handles.into_iter().zip(state.columns) {
+            let ty = handle.column_type();
             let word = |&v: &u64| ColumnarWriter::internal_to_word(ty, v) as u128;
             let mut l = Listing {
                 ty: ty.to_code() as u32,
@@ -133,6 +133,7 @@ pub fn merge(input: &Input) -> Raw {
                     ColumnType::IpAddr => c.values128,
                     _ => c.values.iter().map(word).collect(),
                 },
+                pair: pair(&handle.open().unwrap()),
                 ..Listing::default()
             };
             if matches!(ty, ColumnType::Str | ColumnType::Bytes) {
@@ -151,6 +152,21 @@ pub fn merge(input: &Input) -> Raw {
         Raw::Columns(listings, file)
     });
     result.unwrap_or_else(Raw::Panic)
+}
+
+/// The crate's own least and greatest value of a column with values, of I64 and U64; else 0 and 0, which no
+/// crate says.
+fn pair(column: &DynamicColumn) -> Pair {
+    match column {
+        DynamicColumn::I64(c) if c.values.num_vals() > 0 => [c.min_value() as u64, c.max_value() as u64],
+        DynamicColumn::U64(c) if c.values.num_vals() > 0 => [c.min_value(), c.max_value()],
+        _ => [0, 0],
+    }
+}
+
+/// Whether a listing's pair is what the crate says.
+pub fn says_pair(l: &Listing) -> bool {
+    l.ty <= 1 && !l.values.is_empty()
 }
 
 /// The one column that the crate makes of an input of one category; an error, a panic or another
@@ -216,6 +232,7 @@ fn reopen(file: Vec<u8>) -> Listing {
     let Some((_, handle)) = handles.first() else { return l };
     l.ty = handle.column_type().to_code() as u32;
     let column = handle.open().unwrap();
+    l.pair = pair(&column);
     l.class = column.get_cardinality() as u32;
     match column.column_index() {
         ColumnIndex::Full => {}

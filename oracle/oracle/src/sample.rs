@@ -9,7 +9,7 @@ use crate::table;
 use crate::wire::{Input, Outcome, Seg};
 
 /// The longest input taken from the random ones, in bytes.
-const LONGEST: usize = 408;
+const LONGEST: usize = 424;
 
 /// Each answer by hand, the readings of document 01 at their edges among them.
 const BY_HAND: &[&str] = &[
@@ -73,6 +73,28 @@ const BY_HAND: &[&str] = &[
     "0 255 4/0/1/terms=a",
     "0 255 6/1/1/val=3:4/terms=a",
     "0 255 6/1/1/val=1:1 5/1/1/val=7",
+    // 5: an untrue pair, in both modes, of each segment by itself, and its true neighbours
+    "0 255 0/1/2/val=-1,1/pair=1:-1",
+    "0 255 0/1/2/val=-1,1",
+    "0 255 1/1/2/val=-1,1/pair=-1:1",
+    "0 255 1/1/2/val=-1,1",
+    "0 255 1/1/2/val=3,4/pair=0:4",
+    "0 255 1/1/2/val=3,4/pair=3:5",
+    "0 255 1/1/2/val=3,4/pair=0:0",
+    "0 255 1/1/1/val=4294967303/pair=7:4294967303",
+    "1 255 1/1/2/val=3,9/alive=1 addr=0:0",
+    "1 255 1/1/2/val=3,9/alive=1/pair=3:3 addr=0:0",
+    "1 255 1/1/1/val=9/alive=0/pair=0:0 1/1/1/val=5 addr=1:0",
+    "0 255 1/1/1/val=3/pair=3:4 1/1/1/val=4/pair=3:4",
+    "0 255 7/1/1/val=5/pair=5:5",
+    "0 255 1/2/1/pair=1:0",
+    "0 255 255/0/1/pair=0:1",
+    // and after 3, 19 and 4, before 6 and 10
+    "0 255 255/1/0/pair=0:1",
+    "0 255 1/3/0/off=0/pair=1:1",
+    "0 255 1/2/3/ids=1,1/val=7,7/pair=0:0",
+    "0 255 1/1/1/val=7/pair=6:7/count=0",
+    "0 255 4/1/1/val=0/terms=a 5/1/1/val=1/pair=1:1",
     // 6
     "1 255 1/1/1/val=0/alive=2",
     "0 255 1/1/1/val=0/alive=1",
@@ -146,14 +168,22 @@ fn wire_forms() -> Vec<Vec<u8>> {
         forms.push(with(place, 1));
         forms.push(with(place, 1 << 61));
     }
-    // nine times the second wraps to 1
-    for wide in [with(3, 1 << 58), with(3, 0x8E38E38E38E38E39), with(3, u64::MAX), with(10, 1 << 60)] {
+    // eleven times the second wraps to 1
+    for wide in [with(3, 1 << 58), with(3, 0x2E8BA2E8BA2E8BA3), with(3, u64::MAX), with(10, 1 << 60)] {
         forms.push(wide);
     }
     // the number of alive rows in 33 bits, the low ones right or not, and a wrong one in 32
     for count in [1 << 32 | 3, 1 << 32, u32::MAX as u64] {
-        forms.push(words(&[2, 0, 255, 1, 255, 0, 3, 0, 0, 0, 0, 0, count, 0, 0, 0, 0, 0, 0, 0]));
+        forms.push(words(&[2, 0, 255, 1, 255, 0, 3, 0, 0, 0, 0, 0, count, 0, 0, 0, 0, 0, 0, 0, 0, 0]));
     }
+    // a pair of any words is not too wide: true, and untrue in one of the four halves; a record of nine numbers is cut
+    for [least, greatest] in
+        [[-2i64 as u64; 2], [u32::MAX as u64 - 1, -2i64 as u64], [-2i64 as u64, u64::MAX]]
+    {
+        let record = [2, 0, 255, 1, 1, 1, 1, 0, 0, 1, 0, 0, 1, least, greatest, 0, 0];
+        forms.push(words(&[&record[..], &[1, -2i64 as u64, 0, 0, 0, 0]].concat()));
+    }
+    forms.push(words(&[2, 0, 255, 1, 255, 0, 3, 0, 0, 0, 0, 0, 3, 0, 0, 0, 0, 0, 0, 0]));
     // too wide: a row id, a term byte, an address; not too wide: a value, which gives 2 by the
     // sums, as it isn't announced
     forms.push(words(&[2, 0, 255, 0, 1, 1 << 32, 0, 0, 0, 0, 0, 0]));
@@ -162,7 +192,7 @@ fn wire_forms() -> Vec<Vec<u8>> {
     forms.push(words(&[2, 0, 255, 0, 0, 0, 1, u64::MAX, 0, 0, 0, 0]));
     // a value of type 6 with one word, with two and with three, and one of type 8 with one and with two
     for (ty, count) in [(6, 1), (6, 2), (6, 3), (8, 1), (8, 2)] {
-        let record = [2, 0, 255, 1, ty, 1, 1, 0, 0, 1, 0, 0, 1, 0, 0];
+        let record = [2, 0, 255, 1, ty, 1, 1, 0, 0, 1, 0, 0, 1, 0, 0, 0, 0];
         let values = &[count, 3, 4, 5][..1 + count as usize];
         forms.push(words(&[&record, values, &[0; 4]].concat()));
     }
@@ -199,7 +229,7 @@ pub fn sample(seed: u64, count: usize) -> Result<(Vec<u8>, Vec<u8>), String> {
     // The long ones stand last: 257 segments, and one word more than 65,536 bytes.
     let segs = vec![Seg { ty: 255, ..Seg::default() }; 257];
     let many = Input { mode: 0, required: 255, segs, addresses: vec![] };
-    let long = Seg { ty: 1, kind: 1, rows: 8_173, values: vec![0; 8_173], ..Seg::default() };
+    let long = Seg { ty: 1, kind: 1, rows: 8_171, values: vec![0; 8_171], ..Seg::default() };
     let long = Input { mode: 0, required: 255, segs: vec![long], addresses: vec![] };
     let last = [many.sections().encode(), long.sections().encode()];
     assert_eq!(last[1].len(), 65_544);

@@ -1,9 +1,11 @@
 //! Stand-ins for the joiner, made of the model: one that is right, and one for each slip below and in
 //! slips/, which the comparison must find (oracle/compare SEED COUNT --slips). They are tests of the
 //! comparison and of its inputs, of nothing else.
+mod asked;
 mod converter;
 mod counts;
 mod listeners;
+mod pairs;
 mod time_order;
 mod withdraw;
 
@@ -11,10 +13,10 @@ use std::collections::BTreeSet;
 
 use crate::compare::Part;
 use crate::model;
-use crate::ours::{Addresses, COPIED, Joiner, Lists, Marked, NewLists};
+use crate::ours::{Addresses, COPIED, Joiner, Lists, Marked, NewLists, PAIR, Run};
 use crate::run;
 use crate::table::{self, CHECKS, Call, Check};
-use crate::wire::{Input, Listing, Outcome, Sections, Seg};
+use crate::wire::{Input, Listing, Outcome, Pair, Sections, Seg};
 use crate::withdraw::Mark;
 
 #[derive(Clone, Copy)]
@@ -27,12 +29,16 @@ pub enum How {
     Check(u32, Check),
     /// The records' numbers of alive rows tested right after check k.
     CountsAfter(u32),
+    /// The records' pairs tested right after check k.
+    PairsAfter(u32),
     /// Once checks 1 to 9 have passed, something else is read.
     Read(fn(&mut Input)),
     /// Another column.
     Column(fn(&Input, &mut Listing)),
     /// Another count of the term bytes copied.
     Count(fn(&Input, &Listing) -> usize),
+    /// Another least and greatest value of the joined column.
+    Pair(fn(&Input, &Listing) -> Pair),
     /// Something else is left in memory.
     Leave(fn(&Outcome, &mut Lists)),
     /// The first accepted call's column for every later one.
@@ -45,6 +51,8 @@ pub enum How {
     TimeOrder(time_order::How),
     /// A slip of withdraw or reinstate.
     Withdraw(withdraw::How),
+    /// A slip where a column's least and greatest value are asked for.
+    Asked(asked::How),
 }
 
 pub struct Slip {
@@ -63,15 +71,17 @@ impl Slip {
             How::Converter(_) => Part::Convert,
             How::TimeOrder(_) => Part::Order,
             How::Withdraw(_) => Part::Mark,
+            How::Asked(_) => Part::Pair,
             _ => Part::Join,
         }
     }
 }
 
-/// All of them: the joiner's, the converter's, the time order's, and those of withdraw and reinstate.
+/// All of them: the joiner's, the converter's, the time order's, those of withdraw and reinstate, and those of a
+/// column's least and greatest value.
 pub fn slips() -> impl Iterator<Item = &'static Slip> {
-    let joiners = SLIPS.iter().chain(listeners::SLIPS).chain(counts::SLIPS);
-    joiners.chain(converter::SLIPS).chain(time_order::SLIPS).chain(withdraw::SLIPS)
+    let joiners = SLIPS.iter().chain(listeners::SLIPS).chain(counts::SLIPS).chain(pairs::SLIPS);
+    joiners.chain(converter::SLIPS).chain(time_order::SLIPS).chain(withdraw::SLIPS).chain(asked::SLIPS)
 }
 
 const SLIPS: &[Slip] = &[
@@ -692,6 +702,12 @@ fn put_in_place<C>(checks: &mut [(u32, C)], k: u32, check: C) {
     checks[place(checks, k)].1 = check;
 }
 
+/// Splits a check: the rest of it in its place, a part of it right after check k.
+fn split<C>(checks: &mut Vec<(u32, C)>, number: u32, k: u32, rest: C, part: C) {
+    put_in_place(checks, number, rest);
+    checks.insert(place(checks, k) + 1, (number, part));
+}
+
 /// The model as a joiner, with a slip or none.
 pub struct Standin {
     how: Option<How>,
@@ -712,7 +728,8 @@ impl Standin {
             Some(How::Before(k, other)) => put_before(&mut checks, k, other),
             Some(How::Skip(k)) => checks.retain(|&(number, _)| number != k),
             Some(How::Check(k, check)) => put_in_place(&mut checks, k, check),
-            Some(How::CountsAfter(k)) => counts::split(&mut checks, k, table::alive_bits, table::counts),
+            Some(How::CountsAfter(k)) => split(&mut checks, 6, k, table::alive_bits, table::counts),
+            Some(How::PairsAfter(k)) => split(&mut checks, 5, k, pairs::without, table::pairs),
             Some(How::Read(f)) => {
                 let call = Call::new(sections, lent);
                 let (first, last) = checks.split_at(place(&checks, 10));
@@ -754,6 +771,10 @@ impl Joiner for Standin {
                     let call = Call::new(sections, lists.lengths());
                     lists.numbers.lent()[COPIED] = f(call.input(), l) as u64;
                 }
+                if let Some(How::Pair(f)) = self.how {
+                    let call = Call::new(sections, lists.lengths());
+                    lists.numbers.lent()[PAIR..].copy_from_slice(&f(call.input(), l));
+                }
             }
             if let Some(How::Leave(f)) = self.how {
                 f(&outcome, lists);
@@ -785,5 +806,13 @@ impl Joiner for Standin {
             _ => None,
         };
         run::caught(|| withdraw::mark(how, mark, lent)).unwrap_or(u32::MAX)
+    }
+
+    fn pair(&mut self, ty: u32, words: &[u64], lent: &mut Run<u64>) {
+        let how = match self.how {
+            Some(How::Asked(how)) => Some(how),
+            _ => None,
+        };
+        asked::pair(how, ty, words, lent);
     }
 }

@@ -1,12 +1,12 @@
-//! Document 01's table of answers ("Answers of the joiner"), 1 to 11, with document 02's 19, its addresses
-//! and its number of alive rows, and what the joining program does with standard input: written from the
-//! documents' words alone.
+//! Document 01's table of answers ("Answers of the joiner"), 1 to 11, with document 02's 19, its addresses,
+//! its number of alive rows and its least and greatest value, and what the joining program does with standard
+//! input: written from the documents' words alone.
 use std::cell::OnceCell;
 use std::cmp::Ordering;
 use std::collections::HashSet;
 
 use crate::model;
-use crate::wire::{Input, Listing, Outcome, Record, Sections, Seg, width};
+use crate::wire::{Input, Listing, Outcome, Pair, Record, Sections, Seg, width};
 
 /// How many elements are lent, of values words.
 #[derive(Clone, Copy, Debug, Default, PartialEq, Eq)]
@@ -136,8 +136,10 @@ pub fn unknown(call: &Call) -> bool {
         || call.sections.records.iter().any(unknown_record)
 }
 
-/// 3 of one record. The number of alive rows is no length: with type 255 it is that of the rows.
-pub fn unknown_record(&[ty, kind, _rows, ids, offsets, values, terms, flag, _count]: &Record) -> bool {
+/// 3 of one record. The number of alive rows is no length: with type 255 it is that of the rows. Nor are the
+/// least and greatest value.
+pub fn unknown_record(record: &Record) -> bool {
+    let [ty, kind, _rows, ids, offsets, values, terms, flag, _count] = record.numbers();
     !known_type(ty)
         || kind > 4
         || flag > 1
@@ -146,7 +148,7 @@ pub fn unknown_record(&[ty, kind, _rows, ids, offsets, values, terms, flag, _cou
 
 /// 19: a record of kind 3
 pub fn old_multivalued(call: &Call) -> bool {
-    call.sections.records.iter().any(|&[_type, kind, ..]| kind == 3)
+    call.sections.records.iter().any(|r| r[1] == 3)
 }
 
 /// 4: ids not ascending or not below rows; wrong number of ids, offsets or values; offsets not from
@@ -179,12 +181,27 @@ pub fn runs_of(s: &Seg) -> bool {
 }
 
 /// 5: Bool above 1, ordinal not below the terms, terms not strictly ascending, terms on another
-/// type or on kind 0
+/// type or on kind 0; "also given when a pair is untrue"
 pub fn contents(call: &Call) -> bool {
-    call.any_segment(contents_of)
+    call.any_segment(contents_of) || pairs(call)
 }
 
-/// 5 of one segment.
+/// An untrue pair, of any segment by itself.
+pub fn pairs(call: &Call) -> bool {
+    paired(call).any(|(stored, s)| untrue(stored, s))
+}
+
+/// The stored pairs and the segments.
+pub fn paired<'a>(call: &'a Call) -> impl Iterator<Item = (Pair, &'a Seg)> {
+    call.sections.records.iter().map(Record::pair).zip(&call.input().segs)
+}
+
+/// "The least and greatest stored value", be the column held or dropped.
+pub fn untrue(stored: Pair, s: &Seg) -> bool {
+    stored != model::pair(s.ty, &s.values)
+}
+
+/// 5 of one segment but for its pair.
 pub fn contents_of(s: &Seg) -> bool {
     let bytewise = |a: &[u8], b: &[u8]| {
         for (x, y) in a.iter().zip(b) {
@@ -291,10 +308,7 @@ pub fn two_categories(input: &Input) -> bool {
 pub fn types(call: &Call) -> bool {
     let input = call.input();
     let to = model::joined_type(input);
-    two_categories(input)
-        || call.any_segment(|s| {
-            model::held(s) && s.values.iter().any(|&v| model::coerced(s.ty, to, v).is_none())
-        })
+    two_categories(input) || call.any_segment(|s| model::held(s) && !model::coercible(s, to))
 }
 
 /// What the outputs must hold: the lists, and for terms and map the held columns' sums.
@@ -461,6 +475,7 @@ mod tests {
             refused(5, text);
         }
         refused(0, "0 255 4/1/1/val=0/terms=-,0x00,a,aa,b");
+        untrue_pairs(&refused);
         // 6: 1 row, word 2, be it counted or not
         refused(6, "1 255 1/1/1/val=0/alive=2");
         refused(6, "1 255 1/1/1/val=0/alive=2/count=0");
@@ -553,6 +568,82 @@ mod tests {
         assert_eq!(number(text, Lent { offsets: 1, ..exact }), 11);
     }
 
+    /// 5: "also given when a pair is untrue"
+    fn untrue_pairs(refused: &dyn Fn(u32, &str)) {
+        for text in [
+            // a bound that is not reached, one that is passed, either of the two
+            "0 255 1/1/2/val=3,4/pair=2:4",
+            "0 255 1/1/2/val=3,4/pair=4:4",
+            "0 255 1/1/2/val=3,4/pair=3:3",
+            "0 255 1/1/2/val=3,4/pair=3:5",
+            // a fold from 0, exchanged, nothing stored
+            "0 255 1/1/2/val=3,4/pair=0:4",
+            "0 255 0/1/2/val=-3,-4/pair=-4:0",
+            "0 255 1/1/2/val=3,4/pair=4:3",
+            "0 255 1/1/2/val=3,4/pair=0:0",
+            // the other type's order
+            "0 255 0/1/2/val=-1,1/pair=1:-1",
+            "0 255 1/1/2/val=-1,1/pair=-1:1",
+            "0 255 0/1/2/val=9223372036854775807,0x8000000000000000/pair=9223372036854775807:0x8000000000000000",
+            // one half
+            "0 255 1/1/1/val=4294967296/pair=0:4294967296",
+            "0 255 1/1/1/val=4294967296/pair=4294967296:0",
+            "0 255 1/1/1/val=7/pair=4294967303:7",
+            "0 255 1/1/1/val=7/pair=7:4294967303",
+            // the values of alive rows alone, of a column that is held or dropped
+            "1 255 1/1/2/val=3,9/alive=1/pair=3:3 addr=0:0",
+            "1 255 1/1/2/val=9,3/alive=1/pair=9:9 addr=0:0",
+            "1 255 1/1/1/val=9/alive=0/pair=0:0",
+            // two segments' exchanged, or put together
+            "0 255 1/1/1/val=3/pair=4:4 1/1/1/val=4/pair=3:3",
+            "0 255 1/1/1/val=3/pair=3:4 1/1/1/val=4/pair=3:4",
+            // other types, columns without values, no column
+            "0 255 7/1/1/val=5/pair=5:5",
+            "0 255 2/1/1/val=5/pair=5:5",
+            "0 255 3/1/1/val=1/terms=a,b/pair=1:1",
+            "0 255 4/1/1/val=1/terms=a,b/pair=1:1",
+            "0 255 5/1/1/val=1/pair=0:1",
+            "0 255 6/1/1/val=5:5/pair=5:5",
+            "0 255 1/2/1/pair=1:0",
+            "0 255 1/2/1/pair=-1:0",
+            "0 255 0/0/1/pair=0:1",
+            "0 255 1/1/0/pair=0:1",
+            "0 255 0/4/0/off=0/pair=0x8000000000000000:9223372036854775807",
+            "0 255 255/0/1/pair=0:1",
+            "0 255 255/0/0/pair=1:0",
+            // in both modes, of any segment by itself, before 6, 7, 8, 9 and 10
+            "1 255 1/1/1/val=7/pair=7:8 addr=0:0",
+            "0 255 1/1/1/val=7 255/0/1 1/1/1/val=7/pair=6:7",
+            "0 255 1/1/1/val=7/pair=6:7/count=0",
+            "0 255 1/1/1/val=7/pair=6:7/alive=1",
+            "0 255 1/1/1/val=7/pair=6:7 255/0/4294967295",
+            "1 255 255/0/65537/pair=6:7",
+            "1 255 1/1/1/val=7/pair=6:7",
+            "0 255 4/1/1/val=0/terms=a 5/1/1/val=1/pair=1:1",
+            "0 0 1/1/1/val=9223372036854775808/pair=0:0",
+        ] {
+            refused(5, text);
+        }
+        // after 3, 19 and 4
+        refused(3, "0 255 255/1/1/val=7/pair=7:7");
+        refused(3, "0 255 255/1/0/pair=0:1");
+        refused(3, "0 255 8/1/1/val=7/pair=7:7");
+        refused(19, "0 255 1/3/0/off=0/pair=1:1");
+        refused(4, "0 255 1/2/3/ids=1,1/val=7,7/pair=0:0");
+        refused(10, "0 0 1/1/1/val=9223372036854775808");
+        for text in [
+            "0 255 0/1/2/val=-1,1/pair=-1:1",
+            "0 255 1/1/2/val=-1,1/pair=1:-1",
+            "1 255 1/1/2/val=3,9/alive=1/pair=3:9 addr=0:0",
+            "1 255 1/1/1/val=9/alive=0/pair=9:9",
+            "0 255 1/2/1/pair=0:0",
+            "0 255 7/1/1/val=5/pair=0:0",
+            "0 255 255/0/1/pair=0:0",
+        ] {
+            refused(0, text);
+        }
+    }
+
     /// "Values are counted as addresses, and section lengths and output space as words."
     #[test]
     fn addresses_and_words() {
@@ -562,7 +653,9 @@ mod tests {
             let (records, values) = (records.to_vec(), words.to_vec());
             outcome(&Sections { required: 255, records, values, ..Sections::default() }, PLENTY).number()
         };
-        let full = |ty: u32, values: u32| [ty, 1, values, 0, 0, values, 0, 0, values];
+        let record = |numbers: [u32; 9]| Record::new(numbers, [0, 0]);
+        let full = |ty: u32, values: u32| record([ty, 1, values, 0, 0, values, 0, 0, values]);
+        let of_pair = |record: Record, pair: Pair| Record::new(record.numbers(), pair);
         assert_eq!(words(&[full(6, 1)], &[3, 4]), 0);
         assert_eq!(words(&[full(6, 1)], &[3]), 2);
         assert_eq!(words(&[full(6, 1)], &[3, 4, 5]), 2);
@@ -574,9 +667,11 @@ mod tests {
         assert_eq!(words(&[full(8, 1)], &[3, 4]), 2);
         assert_eq!(words(&[full(4_294_967_295, 2)], &[3, 4]), 3);
         // errors of two records cancel in words, and 4 finds them
-        assert_eq!(words(&[full(6, 1), full(1, 2)], &[1, 2, 3, 4]), 10);
-        assert_eq!(words(&[[6, 1, 1, 0, 0, 2, 0, 0, 1], [1, 1, 2, 0, 0, 0, 0, 0, 2]], &[1, 2, 3, 4]), 4);
-        assert_eq!(words(&[[6, 1, 1, 0, 0, 2, 0, 0, 1], [1, 1, 2, 0, 0, 1, 0, 0, 2]], &[1, 2, 3, 4]), 2);
+        assert_eq!(words(&[full(6, 1), of_pair(full(1, 2), [3, 4])], &[1, 2, 3, 4]), 10);
+        let (two_for_one, none) = ([6, 1, 1, 0, 0, 2, 0, 0, 1], [1, 1, 2, 0, 0, 0, 0, 0, 2]);
+        assert_eq!(words(&[two_for_one, none].map(record), &[1, 2, 3, 4]), 4);
+        let one = [1, 1, 2, 0, 0, 1, 0, 0, 2];
+        assert_eq!(words(&[two_for_one, one].map(record), &[1, 2, 3, 4]), 2);
         // a segment's words start after the words of the segments before it
         let (records, values) = (vec![full(6, 1), full(1, 1)], vec![1, 2, 9]);
         let segs = Sections { records, values, ..Sections::default() }.cut().segs;
@@ -636,17 +731,18 @@ mod tests {
         let bytes = |ty: u32, values: usize| {
             let mut s = input("0 255 1/1/0").sections();
             let n = values as u32;
-            s.records[0] = [ty, 1, n, 0, 0, n, 0, 0, n];
+            let pair = if ty == 1 { [7, 7] } else { [0, 0] };
+            s.records[0] = Record::new([ty, 1, n, 0, 0, n, 0, 0, n], pair);
             s.values = vec![7; values * width(ty)];
             s.encode()
         };
-        // 9 + 11 words without the values
-        assert_eq!(bytes(1, 8_172).len(), 65_536);
-        assert_eq!(program(&bytes(1, 8_172)).number(), 0);
-        assert_eq!(program(&bytes(1, 8_173)), Outcome::Refused(2));
-        assert_eq!(bytes(6, 4_086).len(), 65_536);
-        assert_eq!(program(&bytes(6, 4_086)).number(), 0);
-        assert_eq!(program(&bytes(6, 4_087)), Outcome::Refused(2));
+        // 11 + 11 words without the values
+        assert_eq!(bytes(1, 8_170).len(), 65_536);
+        assert_eq!(program(&bytes(1, 8_170)).number(), 0);
+        assert_eq!(program(&bytes(1, 8_171)), Outcome::Refused(2));
+        assert_eq!(bytes(6, 4_085).len(), 65_536);
+        assert_eq!(program(&bytes(6, 4_085)).number(), 0);
+        assert_eq!(program(&bytes(6, 4_086)), Outcome::Refused(2));
         assert_eq!(program(&[]), Outcome::Refused(2));
         // the number of alive rows has 32 bits: wider gives 2, also where its low ones are right
         let mut wide = bytes(1, 1);
@@ -655,5 +751,15 @@ mod tests {
             (wide[8 * 12 + 4], wide[8 * 12]) = (high, low);
             assert_eq!(program(&wide).number(), number);
         }
+        // the least and the greatest value have 64: their high bits are compared
+        let mut wide = bytes(1, 1);
+        assert_eq!((wide[8 * 13], wide[8 * 14]), (7, 7));
+        for place in [8 * 13 + 4, 8 * 13 + 7, 8 * 14 + 4, 8 * 14 + 7] {
+            wide[place] = 1;
+            assert_eq!(program(&wide), Outcome::Refused(5));
+            wide[place] = 0;
+        }
+        assert_eq!(program(&wide).number(), 0);
+        assert_eq!(program(&input("0 255 1/1/1/val=-1").sections().encode()).number(), 0);
     }
 }

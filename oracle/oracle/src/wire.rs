@@ -2,10 +2,74 @@
 //! little-endian words), and the listing. A segment's or a column's value is one number here; only
 //! sections, outputs and the listing hold words.
 
-/// Type, kind, rows, numbers of row ids, offsets, values and terms, alive flag, and the ninth that document
-/// 02 adds: the number of alive rows.
-pub type Record = [u32; RECORD];
-pub const RECORD: usize = 9;
+use std::ops::{Index, IndexMut};
+use std::slice::SliceIndex;
+
+/// The least and the greatest value.
+pub type Pair = [u64; 2];
+
+/// A record as it is lent: nine numbers of 32 bits, namely type, kind, rows, numbers of row ids, offsets,
+/// values and terms, alive flag and the number of alive rows, and then the two of 64 bits, the least and the
+/// greatest stored value, each as its low and its high half. The last three are document 02's.
+#[derive(Clone, Copy, Debug, Default, PartialEq, Eq)]
+#[repr(transparent)]
+pub struct Record(pub [u32; ROW]);
+
+/// How many numbers of a record have 32 bits.
+pub const NARROW: usize = 9;
+/// How many numbers a record has, on the wire a word each.
+pub const RECORD: usize = NARROW + 2;
+/// How many elements it has where it is lent.
+pub const ROW: usize = NARROW + 4;
+
+impl Record {
+    pub fn new(numbers: [u32; NARROW], pair: Pair) -> Record {
+        let mut record = Record::default();
+        record.0[..NARROW].copy_from_slice(&numbers);
+        record.set_pair(pair);
+        record
+    }
+    /// Those of 32 bits.
+    pub fn numbers(&self) -> [u32; NARROW] {
+        std::array::from_fn(|i| self.0[i])
+    }
+    pub fn pair(&self) -> Pair {
+        let whole = |low: usize| self.0[low] as u64 | (self.0[low + 1] as u64) << 32;
+        [whole(NARROW), whole(NARROW + 2)]
+    }
+    pub fn set_pair(&mut self, pair: Pair) {
+        for (halves, word) in self.0[NARROW..].chunks_mut(2).zip(pair) {
+            halves.copy_from_slice(&[word as u32, (word >> 32) as u32]);
+        }
+    }
+    /// On the wire.
+    fn words(&self) -> [u64; RECORD] {
+        let (numbers, pair) = (self.numbers(), self.pair());
+        std::array::from_fn(|i| if i < NARROW { numbers[i] as u64 } else { pair[i - NARROW] })
+    }
+    /// From the wire; none where one of the first nine is wider than 32 bits.
+    fn from_words(words: [u64; RECORD]) -> Option<Record> {
+        let mut numbers = [0; NARROW];
+        for (number, word) in numbers.iter_mut().zip(words) {
+            *number = u32::try_from(word).ok()?;
+        }
+        Some(Record::new(numbers, [words[NARROW], words[NARROW + 1]]))
+    }
+}
+
+/// Of the numbers of 32 bits.
+impl<I: SliceIndex<[u32]>> Index<I> for Record {
+    type Output = I::Output;
+    fn index(&self, i: I) -> &I::Output {
+        &self.0[..NARROW][i]
+    }
+}
+
+impl<I: SliceIndex<[u32]>> IndexMut<I> for Record {
+    fn index_mut(&mut self, i: I) -> &mut I::Output {
+        &mut self.0[..NARROW][i]
+    }
+}
 
 /// The sections as they are lent: each kind of element in one run.
 #[derive(Clone, Debug, Default, PartialEq, Eq)]
@@ -57,6 +121,8 @@ pub struct Seg {
     /// The record's ninth number where it is a wrong one. Else it follows rows and alive set, as the
     /// lists' numbers follow the lists.
     pub wrong_count: Option<u32>,
+    /// The same of the least and greatest value, which follow type and values.
+    pub wrong_pair: Option<Pair>,
 }
 
 /// The sections cut into segments.
@@ -91,8 +157,28 @@ impl Seg {
         self.wrong_count = Some(count).filter(|&count| count != self.right_count());
     }
 
+    /// The least and greatest value as they must be: of I64, which is signed, and of U64; else 0 and 0.
+    pub fn right_pair(&self) -> Pair {
+        let ends = match self.ty {
+            0 => ends(self.values.iter().map(|&v| v as u64 as i64)).map(|ends| ends.map(|v| v as u64)),
+            1 => ends(self.values.iter().map(|&v| v as u64)),
+            _ => None,
+        };
+        ends.unwrap_or_default()
+    }
+
+    /// As the record has them.
+    pub fn pair(&self) -> Pair {
+        self.wrong_pair.unwrap_or_else(|| self.right_pair())
+    }
+
+    /// Stores a least and a greatest value, be they right or wrong.
+    pub fn set_pair(&mut self, pair: Pair) {
+        self.wrong_pair = Some(pair).filter(|&pair| pair != self.right_pair());
+    }
+
     pub fn record(&self) -> Record {
-        [
+        let numbers = [
             self.ty,
             self.kind,
             self.rows,
@@ -102,8 +188,14 @@ impl Seg {
             self.terms.len() as u32,
             self.alive.is_some() as u32,
             self.wrong_count.unwrap_or(self.right_count()),
-        ]
+        ];
+        Record::new(numbers, self.pair())
     }
+}
+
+/// The least and the greatest of a list, unless it is empty.
+fn ends<T: Ord + Copy>(list: impl Iterator<Item = T> + Clone) -> Option<[T; 2]> {
+    Some([list.clone().min()?, list.max()?])
 }
 
 impl Input {
@@ -155,8 +247,10 @@ impl Sections {
                     .collect(),
                 alive: (r[7] == 1).then(|| take(&mut alive, r[2].div_ceil(64) as usize).to_vec()),
                 wrong_count: None,
+                wrong_pair: None,
             };
             seg.set_count(r[8]);
+            seg.set_pair(r.pair());
             segs.push(seg);
         }
         Input { mode: self.mode, required: self.required, segs, addresses: self.addresses.clone() }
@@ -169,7 +263,7 @@ impl Sections {
         word(self.mode as u64);
         word(self.required as u64);
         word(self.records.len() as u64);
-        self.records.iter().flatten().for_each(|&x| word(x as u64));
+        self.records.iter().flat_map(Record::words).for_each(&mut word);
         word(self.ids.len() as u64);
         self.ids.iter().for_each(|&x| word(x as u64));
         word(self.offsets.len() as u64);
@@ -211,6 +305,7 @@ impl Sections {
         fn narrow<T: TryFrom<u64>>(words: Vec<u64>) -> Result<Vec<T>, &'static str> {
             words.into_iter().map(|w| T::try_from(w).map_err(|_| WIDE)).collect()
         }
+        let record = |words: &[u64; RECORD]| Record::from_words(*words).ok_or(WIDE);
         let mut words = Words(bytes);
         let head = words.section(1)?;
         if head.len() != 2 {
@@ -220,7 +315,10 @@ impl Sections {
         let s = Sections {
             mode: head[0],
             required: head[1],
-            records: narrow(words.section(RECORD as u128)?)?.as_chunks().0.to_vec(),
+            records: {
+                let words = words.section(RECORD as u128)?;
+                words.as_chunks().0.iter().map(record).collect::<Result<_, _>>()?
+            },
             ids: narrow(words.section(1)?)?,
             offsets: narrow(words.section(1)?)?,
             values: words.section(1)?,
@@ -236,7 +334,7 @@ impl Sections {
     }
 }
 
-/// A joined column with its map.
+/// A joined column with its map. Its least and greatest value are not part of what is printed.
 #[derive(Clone, Debug, Default, PartialEq, Eq)]
 pub struct Listing {
     pub ty: u32,
@@ -247,6 +345,7 @@ pub struct Listing {
     pub values: Vec<u128>,
     pub terms: Vec<Vec<u8>>,
     pub map: Vec<u32>,
+    pub pair: Pair,
 }
 
 /// The joiner's answer.
@@ -305,7 +404,8 @@ impl Listing {
 
 /// An input from words on a command line: MODE REQUIRED SEG.. [addr=s:r,s:r..] with
 /// SEG = type/kind/rows[/ids=1,2][/off=0,1][/val=7,-8][/terms=a,b (or 0x61, a lone - empty)][/alive=5]
-/// [/count=1], an address by its two words, val=1:2, and count the ninth number where it is a wrong one.
+/// [/count=1][/pair=7:9], an address by its two words, val=1:2, count the ninth number where it is a wrong
+/// one, and pair the least and greatest value likewise.
 pub fn from_words(words: &[String]) -> Result<Input, String> {
     fn number(text: &str) -> Result<u64, String> {
         let parsed = match (text.strip_prefix("0x"), text.starts_with('-')) {
@@ -317,6 +417,10 @@ pub fn from_words(words: &[String]) -> Result<Input, String> {
     }
     fn narrow(text: &str) -> Result<u32, String> {
         u32::try_from(number(text)?).map_err(|_| format!("too wide: {text}"))
+    }
+    fn two(text: &str) -> Result<Pair, String> {
+        let (least, greatest) = text.split_once(':').ok_or_else(|| format!("no pair: {text}"))?;
+        Ok([number(least)?, number(greatest)?])
     }
     fn value(ty: u32, text: &str) -> Result<u128, String> {
         let words: Vec<u64> = text.split(':').map(number).collect::<Result<_, _>>()?;
@@ -359,11 +463,15 @@ pub fn from_words(words: &[String]) -> Result<Input, String> {
                 Some(("terms", l)) => seg.terms = list(l, term)?,
                 Some(("alive", l)) => seg.alive = Some(list(l, number)?),
                 Some(("count", n)) => seg.wrong_count = Some(narrow(n)?),
+                Some(("pair", p)) => seg.wrong_pair = Some(two(p)?),
                 _ => return Err(format!("what is {part}?")),
             }
         }
         if let Some(count) = seg.wrong_count {
             seg.set_count(count);
+        }
+        if let Some(pair) = seg.wrong_pair {
+            seg.set_pair(pair);
         }
         input.segs.push(seg);
     }
@@ -398,6 +506,9 @@ pub fn to_words(input: &Input) -> String {
         if let Some(count) = s.wrong_count {
             words += &format!("/count={count}");
         }
+        if let Some([least, greatest]) = s.wrong_pair {
+            words += &format!("/pair={least}:{greatest}");
+        }
     }
     if !input.addresses.is_empty() {
         let pairs = input.addresses.iter().map(|[s, r]| format!("{s}:{r}"));
@@ -429,6 +540,53 @@ mod tests {
         assert!(segment("1/1/1/val=1:2").is_err());
     }
 
+    /// A record's eleven numbers in the order of document 02, lent and on the wire.
+    #[test]
+    fn records() {
+        let numbers = [1, 2, 3, 4, 5, 6, 7, 8, 9];
+        let record = Record::new(numbers, [10 << 32 | 11, 12 << 32 | 13]);
+        assert_eq!(record.0, [1, 2, 3, 4, 5, 6, 7, 8, 9, 11, 10, 13, 12]);
+        assert_eq!((record.numbers(), record.pair()), (numbers, [10 << 32 | 11, 12 << 32 | 13]));
+        assert_eq!((record[0], record[8], &record[3..5]), (1, 9, &[4, 5][..]));
+        assert_eq!(record.words(), [1, 2, 3, 4, 5, 6, 7, 8, 9, 10 << 32 | 11, 12 << 32 | 13]);
+        assert_eq!(Record::from_words(record.words()), Some(record));
+        assert_eq!(size_of::<Record>(), 13 * 4);
+        let s = Sections { records: vec![record, Record::default()], ..Sections::default() };
+        let bytes = s.encode();
+        assert_eq!(bytes.len(), 8 * (11 + 22));
+        assert_eq!(Sections::decode(&bytes).unwrap(), s);
+        assert_eq!(bytes[8 * 4..8 * 15], words(&record.words())[..]);
+    }
+
+    /// The pair follows type and values, unless a wrong one is stored.
+    #[test]
+    fn pairs() {
+        let segment = |text: &str| from_words(&["0".into(), "255".into(), text.to_string()]).unwrap();
+        for (text, pair) in [
+            ("0/1/3/val=1,-1,0", [u64::MAX, 1]),
+            ("1/1/3/val=1,-1,0", [0, u64::MAX]),
+            ("0/1/2/val=9223372036854775807,0x8000000000000000", [1 << 63, (1 << 63) - 1]),
+            ("1/1/2/val=9223372036854775807,0x8000000000000000", [(1 << 63) - 1, 1 << 63]),
+            ("1/1/2/val=7,5/alive=1", [5, 7]),
+            ("1/2/2", [0, 0]),
+            ("2/1/1/val=5", [0, 0]),
+            ("4/1/1/val=1/terms=a,b", [0, 0]),
+            ("5/1/1/val=1", [0, 0]),
+            ("6/1/1/val=5:5", [0, 0]),
+            ("7/1/1/val=5", [0, 0]),
+            ("255/0/1", [0, 0]),
+            ("7/1/1/val=5/pair=5:5", [5, 5]),
+            ("1/1/1/val=5/pair=-1:0", [u64::MAX, 0]),
+        ] {
+            let input = segment(text);
+            assert_eq!(input.segs[0].record().pair(), pair, "{text}");
+            assert_eq!(input.sections().cut(), input, "{text}");
+            let words: Vec<String> = to_words(&input).split(' ').map(String::from).collect();
+            assert_eq!(from_words(&words).unwrap(), input, "{text}");
+        }
+        assert_eq!(segment("1/1/1/val=5/pair=5:5").segs[0].wrong_pair, None);
+    }
+
     #[test]
     fn refused_wire_forms() {
         let empty = words(&[2, 0, 255, 0, 0, 0, 0, 0, 0, 0, 0]);
@@ -445,9 +603,9 @@ mod tests {
             w[0] = count;
             assert_eq!(Sections::decode(&words(&w)), Err("a first count other than 2"));
         }
-        // Counts whose product with 8, 9, 16 or 72 wraps at 2^64, nine times the last but one to 1.
+        // Counts whose product with 8, 11, 16 or 88 wraps at 2^64, eleven times the last but one to 1.
         for place in 3..11 {
-            for count in [1, 1 << 58, 1 << 60, 1 << 61, 1 << 63, 0x8E38E38E38E38E39, u64::MAX] {
+            for count in [1, 1 << 58, 1 << 60, 1 << 61, 1 << 63, 0x2E8BA2E8BA2E8BA3, u64::MAX] {
                 let mut w = [2, 0, 255, 0, 0, 0, 0, 0, 0, 0, 0];
                 w[place] = count;
                 assert_eq!(Sections::decode(&words(&w)), Err("a cut input"), "{place} {count}");
@@ -457,12 +615,21 @@ mod tests {
         assert!(wide(&[2, 1 << 32, 255, 0, 0, 0, 0, 0, 0, 0, 0]));
         assert!(!wide(&[2, (1 << 32) - 1, 255, 0, 0, 0, 0, 0, 0, 0, 0]));
         assert!(wide(&[2, 0, 1 << 32, 0, 0, 0, 0, 0, 0, 0, 0]));
-        for i in 0..9 {
-            let mut w = vec![2, 0, 255, 1, 0, 0, 0, 0, 0, 0, 0, 0, 0, 0, 0, 0, 0, 0, 0, 0];
+        // A record's words, of which the first nine have 32 bits; one less or more of them.
+        for i in 0..11 {
+            let mut w = vec![0; 22];
+            w[..4].copy_from_slice(&[2, 0, 255, 1]);
             w[4 + i] = (1 << 32) - 1;
             assert!(Sections::decode(&words(&w)).is_ok());
             w[4 + i] += 1;
-            assert!(wide(&w));
+            assert_eq!(wide(&w), i < 9);
+            w[4 + i] = u64::MAX;
+            assert_eq!(wide(&w), i < 9);
+        }
+        for all in [20, 21, 23] {
+            let mut w = vec![0; all];
+            w[..4].copy_from_slice(&[2, 0, 255, 1]);
+            assert!(Sections::decode(&words(&w)).is_err(), "{all}");
         }
         assert!(wide(&[2, 0, 255, 0, 1, 1 << 32, 0, 0, 0, 0, 0, 0]));
         assert!(wide(&[2, 0, 255, 0, 0, 1, 1 << 32, 0, 0, 0, 0, 0]));

@@ -184,9 +184,10 @@ mod tests {
     use super::*;
 
     /// Rows, flag, number of alive rows and words, in a record whose type and kind a join refuses and whose
-    /// lengths stand for nothing that is lent.
+    /// lengths and pair stand for nothing that is lent.
     fn set(rows: u32, flag: u32, count: u32, words: &[u64]) -> AliveSet {
-        AliveSet { record: [9, 3, rows, 1, 2, 3, 4, flag, count], words: words.to_vec() }
+        let record = Record::new([9, 3, rows, 1, 2, 3, 4, flag, count], [u64::MAX, 1 << 32]);
+        AliveSet { record, words: words.to_vec() }
     }
     fn one(alive: bool, row: u32) -> Mark {
         Mark { alive, rows: Rows::One(row) }

@@ -1,13 +1,14 @@
-//! Answers 5 to 7: values, terms, alive sets, totals.
+//! Answers 5 to 7: values, terms, pairs, alive sets, totals.
 use super::words::{element, of_type, value_of};
 use crate::codes::{ColumnType, kind};
 use crate::sections::{Cut, Record, Sections};
-use crate::sheet::term_text;
+use crate::sheet::{term_text, word_text};
 
 pub fn values_and_terms(cut: &Cut<'_>) -> Option<String> {
     terms_allowed(cut)
         .or_else(|| values(cut))
         .or_else(|| terms_rise(cut))
+        .or_else(|| pair(cut))
 }
 
 fn terms_allowed(cut: &Cut<'_>) -> Option<String> {
@@ -51,6 +52,42 @@ fn terms_rise(cut: &Cut<'_>) -> Option<String> {
         before = next;
     }
     None
+}
+
+/// The least and the greatest value, each beside the one that is found.
+fn pair(cut: &Cut<'_>) -> Option<String> {
+    let key = |&place: &usize| match cut.typ() {
+        Some(ColumnType::I64) => i128::from(cut.values[place] as i64),
+        _ => i128::from(cut.values[place]),
+    };
+    let places = match cut.typ().is_some_and(ColumnType::has_pair) {
+        true => 0..cut.values.len(),
+        false => 0..0,
+    };
+    let pair = cut.record.pair;
+    // Of equal ones the first is named.
+    let (least, greatest) = (places.clone().min_by_key(key), places.rev().max_by_key(key));
+    untrue(cut, "least", pair.least(), least)
+        .or_else(|| untrue(cut, "greatest", pair.greatest(), greatest))
+}
+
+/// One of the two, which is that of the value at the place, or 0 if there is none.
+fn untrue(cut: &Cut<'_>, name: &str, stored: u64, place: Option<usize>) -> Option<String> {
+    let found = place.map_or(0, |place| cut.values[place]);
+    if stored == found {
+        return None;
+    }
+    let text = |word| word_text(word, cut.typ());
+    let why = match (place, cut.typ()) {
+        (Some(place), _) => {
+            let value = value_of(cut, "value", text(found), place);
+            format!("{value} is the {name}")
+        }
+        (None, None) => "it is 0 for a segment without a column".to_string(),
+        (None, Some(typ)) if typ.has_pair() => "it is 0 for a column without values".to_string(),
+        (None, Some(typ)) => format!("it is 0 for a column of type {}", typ.name()),
+    };
+    Some(format!("{name} value {}: {why}", text(stored)))
 }
 
 pub fn alive_set(cut: &Cut<'_>, stacked: bool) -> Option<String> {

@@ -102,13 +102,14 @@ mod tests {
         assert_eq!(converted(new), new);
     }
 
-    /// Entries in any order, mode and addresses among them, and a kind by its number.
+    /// Entries in any order, mode and addresses among them, and a kind by its number. A pair that is
+    /// given stays.
     #[test]
     fn entries_in_any_order() {
-        let old = "segment offsets 0 1 1 mode ordered type U64 ids values 7 addresses 0:0 \
-            kind 3 rows 2 alive 1 segment type I64 offsets 0 0 kind oldmultivalued";
-        let new = "segment ids 0 offsets 0 1 mode ordered type U64  values 7 addresses 0:0 \
-            kind NewMultivalued rows 2 alive 1 \
+        let old = "segment offsets 0 1 1 mode ordered type U64 least 0x7 ids values 7 addresses 0:0 \
+            kind 3 rows 2 alive 1 greatest 7 segment type I64 offsets 0 0 kind oldmultivalued";
+        let new = "segment ids 0 offsets 0 1 mode ordered type U64 least 0x7  values 7 addresses 0:0 \
+            kind NewMultivalued rows 2 alive 1 greatest 7 \
             segment type I64 rows 1 offsets 0 kind NewMultivalued";
         assert_eq!(converted(old), new);
     }
@@ -130,7 +131,11 @@ mod tests {
 
     #[test]
     fn records_become_segments() {
-        let new = converted("record 1 3 1 0 2 1 0 0 1 offsets 0 1 values 7");
-        assert!(new.ends_with("kind NewMultivalued\nrows 1\nids 0\noffsets 0 1\nvalues 7\n"));
+        let new = converted("record 1 3 1 0 2 1 0 0 1 7 7 offsets 0 1 values 7");
+        let lists = "rows 1\nids 0\noffsets 0 1\nvalues 7\nleast 7\ngreatest 7\n";
+        assert!(
+            new.ends_with(&format!("kind NewMultivalued\n{lists}")),
+            "{new}"
+        );
     }
 }

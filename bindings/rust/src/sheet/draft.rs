@@ -5,6 +5,7 @@ use super::reader::Keyword;
 use super::tokens::Token;
 use crate::alive::{AliveSet, alive_number, words_for};
 use crate::codes::{ColumnType, NO_TYPE, kind, words_per_value};
+use crate::pair::Pair;
 use crate::sections::{Record, Sections};
 use crate::terms::Terms;
 use std::collections::{BTreeMap, HashMap};
@@ -54,6 +55,9 @@ pub struct Draft {
     withdrawn: Vec<u32>,
     /// The number of alive rows, if it is given; else they are counted.
     alive_rows: Option<u32>,
+    /// The least and the greatest value, if they are given; else they are found.
+    least: Option<u64>,
+    greatest: Option<u64>,
 }
 
 impl Draft {
@@ -73,6 +77,10 @@ impl Draft {
             Keyword::Values if self.typ.is_none() => {
                 Err("the segment's 'type' must stand before its values".to_string())
             }
+            Keyword::Least | Keyword::Greatest if self.typ.is_none() => Err(format!(
+                "the segment's 'type' must stand before its {} value",
+                keyword.word()
+            )),
             _ => Ok(()),
         }
     }
@@ -103,6 +111,8 @@ impl Draft {
             Keyword::Alive => self.alive.push(elements::number(word)?),
             Keyword::Withdrawn => self.withdrawn.push(elements::number(word)?),
             Keyword::AliveRows => self.alive_rows = Some(elements::number(word)?),
+            Keyword::Least => self.least = Some(elements::value(word, self.column_type())?),
+            Keyword::Greatest => self.greatest = Some(elements::value(word, self.column_type())?),
             Keyword::Values => self.take_value(word)?,
             _ => return Err(format!("'{word}' can't stand here")),
         }
@@ -153,8 +163,9 @@ impl Draft {
             sections.term_lengths.push(self.count(length)?);
         }
         let counted = alive_number(rows.into(), (flag == 1).then_some(&alive[..]));
+        let typ = self.typ.unwrap_or(NO_TYPE);
         sections.records.push(Record {
-            typ: self.typ.unwrap_or(NO_TYPE),
+            typ,
             kind,
             rows,
             ids: self.count(self.ids.len())?,
@@ -163,6 +174,7 @@ impl Draft {
             terms: self.count(self.terms.len())?,
             flag,
             alive_rows: self.alive_rows.unwrap_or(counted),
+            pair: self.pair(typ),
         });
         sections.ids.append(&mut self.ids);
         sections.offsets.append(&mut self.offsets);
@@ -170,6 +182,15 @@ impl Draft {
         sections.term_bytes.extend_from_slice(self.terms.bytes());
         sections.alive.extend(alive);
         Ok(())
+    }
+
+    /// What is given, and what is not as the values have it.
+    fn pair(&self, typ: u32) -> Pair {
+        let found = Pair::of_code(typ, &self.values);
+        Pair::new(
+            self.least.unwrap_or(found.least()),
+            self.greatest.unwrap_or(found.greatest()),
+        )
     }
 
     /// A fault of the segment, at an entry's line or where the segment begins.

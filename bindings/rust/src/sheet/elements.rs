@@ -33,7 +33,8 @@ pub fn ip_addr(word: &str) -> Result<[u64; 2], String> {
         .ok_or_else(|| format!("'{word}' is no IPv6 address and no IPv4 address"))
 }
 
-/// The word of a value that has one. A type that is not known has plain numbers.
+/// The word of a value that has one, or of a least or greatest value. A type that is not known has
+/// plain numbers, and so has an IpAddr, whose values are of two words.
 pub fn value(word: &str, typ: Option<ColumnType>) -> Result<u64, String> {
     if word.starts_with("0x") {
         return number(word);
@@ -82,6 +83,14 @@ pub fn value_text(words: &[u64], typ: Option<ColumnType>) -> String {
         (Some(ColumnType::Bool), 0) => "false".to_string(),
         (Some(ColumnType::Bool), 1) => "true".to_string(),
         _ => value.to_string(),
+    }
+}
+
+/// A least or greatest value, as [`value`] reads it.
+pub fn word_text(word: u64, typ: Option<ColumnType>) -> String {
+    match typ {
+        Some(ColumnType::IpAddr) => word.to_string(),
+        typ => value_text(&[word], typ),
     }
 }
 
@@ -237,8 +246,8 @@ mod tests {
             1,
         ];
         for word in words.into_iter().chain(more) {
-            for typ in [0, 1, 2, 3, 4, 5, 7, 8, 255].map(ColumnType::from_code) {
-                assert_eq!(value(&value_text(&[word], typ), typ), Ok(word), "{typ:?}");
+            for typ in [0, 1, 2, 3, 4, 5, 6, 7, 8, 255].map(ColumnType::from_code) {
+                assert_eq!(value(&word_text(word, typ), typ), Ok(word), "{typ:?}");
             }
             for low in words {
                 let text = value_text(&[word, low], Some(ColumnType::IpAddr));

@@ -68,7 +68,8 @@ mod tests {
         let before = "\u{feff}# withdrawn 1\r\n\
             segment # Friday\r\n  type Str kind Full\r\n\
             \x20 withdrawn 3 # logged twice\r\n  values \"b\" \"withdrawn 1\" \"b\" \"a\"\r\n\
-            segment rows 4 withdrawn alive-rows 4\r\n# end";
+            segment rows 4 withdrawn alive-rows 4\r\n\
+            segment type I64 greatest 0x5 kind Full values 5 -7 withdrawn least -7 # worst\r\n# end";
         let [withdrawn, reinstated] = marked(before, 0, &[1, 0]);
         assert_eq!(
             withdrawn,
@@ -77,6 +78,10 @@ mod tests {
         assert_eq!(reinstated, before);
         let [withdrawn, reinstated] = marked(before, 1, &[2]);
         let after = before.replace("withdrawn alive-rows 4", "withdrawn 2 alive-rows 3");
+        assert_eq!((withdrawn, &*reinstated), (after, before));
+        // A withdrawn value counts in the pair that is given.
+        let [withdrawn, reinstated] = marked(before, 2, &[1]);
+        let after = before.replace("withdrawn least", "withdrawn 1 least");
         assert_eq!((withdrawn, &*reinstated), (after, before));
     }
 
@@ -106,10 +111,16 @@ mod tests {
     /// They become segments if their lists fit, and stay wholes if not.
     #[test]
     fn records() {
-        let [withdrawn, _] = marked("record 1 1 1 0 0 1 0 1 1 values 7 alive 1", 0, &[0]);
-        assert!(withdrawn.ends_with("kind Full\nrows 1\nvalues 7\nalive 0x0\n"));
-        let [withdrawn, _] = marked("record 1 1 1 0 0 1 0 1 1 alive 1", 0, &[0]);
-        assert!(withdrawn.contains("\nrecord 1 1 1 0 0 1 0 1 0\n"));
+        let [withdrawn, _] = marked("record 1 1 1 0 0 1 0 1 1 7 7 values 7 alive 1", 0, &[0]);
+        assert!(
+            withdrawn.ends_with("kind Full\nrows 1\nvalues 7\nalive 0x0\nleast 7\ngreatest 7\n")
+        );
+        let [withdrawn, _] = marked(
+            "record 1 1 1 0 0 1 0 1 1 3 18446744073709551615 alive 1",
+            0,
+            &[0],
+        );
+        assert!(withdrawn.contains("\nrecord 1 1 1 0 0 1 0 1 0 3 18446744073709551615\n"));
         assert!(withdrawn.ends_with("\nalive 0x0\n"));
     }
 }

@@ -28,7 +28,7 @@ use std::fmt;
 use std::io::{self, BufRead};
 
 pub use converted::write_converted;
-pub(crate) use elements::term_text;
+pub(crate) use elements::{term_text, word_text};
 pub use marked::write_marked;
 pub use writer::{write, write_addresses, write_segments};
 

@@ -23,6 +23,8 @@ pub enum Keyword {
     Alive,
     Withdrawn,
     AliveRows,
+    Least,
+    Greatest,
     Addresses,
     Record,
     TermLengths,
@@ -30,7 +32,7 @@ pub enum Keyword {
 }
 
 impl Keyword {
-    const ALL: [(Keyword, &'static str); 18] = [
+    const ALL: [(Keyword, &'static str); 20] = [
         (Keyword::Mode, "mode"),
         (Keyword::Required, "required"),
         (Keyword::Segment, "segment"),
@@ -45,6 +47,8 @@ impl Keyword {
         (Keyword::Alive, "alive"),
         (Keyword::Withdrawn, "withdrawn"),
         (Keyword::AliveRows, "alive-rows"),
+        (Keyword::Least, "least"),
+        (Keyword::Greatest, "greatest"),
         (Keyword::Addresses, "addresses"),
         (Keyword::Record, "record"),
         (Keyword::TermLengths, "term-lengths"),
@@ -69,10 +73,11 @@ impl Keyword {
     fn words(self) -> Option<usize> {
         match self {
             Keyword::Segment => Some(0),
-            Keyword::Record => Some(9),
+            Keyword::Record => Some(11),
             Keyword::Mode | Keyword::Required => Some(1),
             Keyword::Type | Keyword::Kind | Keyword::Rows => Some(1),
             Keyword::Flag | Keyword::AliveRows => Some(1),
+            Keyword::Least | Keyword::Greatest => Some(1),
             _ => None,
         }
     }
@@ -95,7 +100,7 @@ pub struct Reader {
     draft: Option<Draft>,
     /// The sections are given as wholes, not by segments.
     whole: bool,
-    record: Vec<u32>,
+    record: Vec<u64>,
     sections: Sections,
 }
 
@@ -160,7 +165,7 @@ impl Reader {
                 let what = if wanted == 1 {
                     "a word"
                 } else {
-                    "nine numbers"
+                    "eleven numbers"
                 };
                 let text = format!("'{}' wants {what} after it", keyword.word());
                 Err(SheetFault { line, text })
@@ -230,18 +235,23 @@ impl Reader {
             Keyword::Alive => s.alive.push(elements::number(word)?),
             Keyword::TermLengths => s.term_lengths.push(elements::number(word)?),
             Keyword::TermBytes => s.term_bytes.extend(elements::hex_bytes(word)?),
-            _ => self.record_number(elements::number(word)?),
+            _ => self.record_number(word)?,
         }
         Ok(())
     }
 
-    fn record_number(&mut self, number: u32) {
-        self.record.push(number);
-        if let Ok(numbers) = <[u32; 9]>::try_from(&self.record[..]) {
+    /// Nine numbers of 32 bits, and the least and the greatest value as words.
+    fn record_number(&mut self, word: &str) -> Result<(), String> {
+        self.record.push(match self.record.len() {
+            0..9 => elements::number::<u32>(word)?.into(),
+            _ => elements::number(word)?,
+        });
+        if let Ok(numbers) = <[u64; 11]>::try_from(&self.record[..]) {
             let record = Record::of_numbers(numbers);
             self.sections.records.push(record);
             self.record.clear();
         }
+        Ok(())
     }
 }
 

@@ -1,6 +1,8 @@
 //! Sections as a sheet.
-use super::elements::{hex_text, kind_text, mode_text, term_text, typ_text, value_text};
+use super::elements::{hex_text, kind_text, mode_text, term_text, typ_text, value_text, word_text};
+use crate::codes::ColumnType;
 use crate::explain;
+use crate::pair::Pair;
 use crate::sections::{Address, Cut, Sections};
 use std::io::{self, Write};
 
@@ -68,10 +70,22 @@ fn write_segment(cut: &Cut<'_>, out: &mut dyn Write) -> io::Result<()> {
         (None, flag) => writeln!(out, "flag {flag}")?,
     }
     // A right number follows from the rest.
-    match r.alive_rows {
-        number if number == cut.alive_number() => Ok(()),
-        wrong => writeln!(out, "alive-rows {wrong}"),
+    if r.alive_rows != cut.alive_number() {
+        writeln!(out, "alive-rows {}", r.alive_rows)?;
     }
+    write_pair(cut, out)
+}
+
+/// The pair of a column that has one, whose values can be many, is worth its lines; of another
+/// column it is written if it is untrue, that is, not 0 and 0.
+fn write_pair(cut: &Cut<'_>, out: &mut dyn Write) -> io::Result<()> {
+    let (typ, pair) = (cut.typ(), cut.record.pair);
+    let has_pair = typ.is_some_and(ColumnType::has_pair) && !cut.values.is_empty();
+    if has_pair || pair != Pair::default() {
+        writeln!(out, "least {}", word_text(pair.least(), typ))?;
+        writeln!(out, "greatest {}", word_text(pair.greatest(), typ))?;
+    }
+    Ok(())
 }
 
 pub fn alive_texts(words: &[u64]) -> impl Iterator<Item = String> {
@@ -89,10 +103,11 @@ fn write_wholes(s: &Sections, out: &mut dyn Write) -> io::Result<()> {
     }
     writeln!(
         out,
-        "# type, kind, rows, numbers of ids, offsets, values and terms, flag, alive rows"
+        "# type, kind, rows, numbers of ids, offsets, values and terms, flag, alive rows,\n\
+         # least and greatest value"
     )?;
     for r in &s.records {
-        write_list("record", r.numbers().iter().map(u32::to_string), out)?;
+        write_list("record", r.numbers().iter().map(u64::to_string), out)?;
     }
     write_list("ids", s.ids.iter().map(u32::to_string), out)?;
     write_list("offsets", s.offsets.iter().map(u32::to_string), out)?;

@@ -1,4 +1,4 @@
-use Rattle.definitions.specs.Segment.{recordWidth}
+use Rattle.segment.specs.Records.{rowWidth}
 use Rattle.case_text.specs.Text.{rowIn}
 use Rattle.case_text.proofs.Reading.{Reading, reading-start, reading-step, reading-end}
 use Prim.Native.Nat.{_-_}
@@ -8,7 +8,7 @@ use Rattle.case_text.proofs.read_records.Statement.{statement}
 use Rattle.case_text.proofs.read_records.Tie as tie
 
 abbrev Inv-loop : tie.InvT-loop
-Inv-loop text from out₀ n at₀ i₀ out at i = Reading (rowIn recordWidth text) n at₀ out₀ out at i
+Inv-loop text from out₀ n at₀ i₀ out at i = Reading (rowIn rowWidth text) n at₀ out₀ out at i
 
 abbrev μ-loop : tie.MeasureT-loop
 μ-loop text from out₀ n at₀ i₀ out at i = n - i

@@ -37,7 +37,8 @@ use denote.Triple.Entry.{Args, Vals, alive, onEntry}
 use denote.Triple.Spec.{Meets, tripleOf}
 use denote.Triple.Table.{entered, cited}
 use denote.Triple.Walked.{says, Stays, walkOf, Walks, ends-at, walked, walk-meets}
-use Rattle.definitions.specs.Segment.{recordWidth}
+use Rattle.definitions.specs.Segment.{SegmentRecord}
+use Rattle.segment.specs.Records.{rowWidth, recordsOf}
 use Rattle.definitions.specs.Outcome.{Outcome, joinOutcome, lentOf}
 use Rattle.segment.specs.declared.Record.{Record}
 use Rattle.segment.proofs.Record as T
@@ -45,7 +46,7 @@ use Rattle.merge_checked.specs.declared.Answer.{Answer}
 use Rattle.merge.specs.Whole.{outcomeOf, buffersOf}
 use Rattle.merge_checked.proofs.Answer as S
 use Rattle.merge_checked.proofs.Answer.Laws as S′
-use Rattle.records.specs.Rows.{rowsOf, countOf, laidTo}
+use Rattle.records.specs.Rows.{recordsIn, countOf, laidTo}
 use Rattle.records.proofs.rows_of as rows
 use Rattle.records.proofs.rows_of.Symbol as rows-def
 use Rattle.records.proofs.rows_of.Symbol.{name as #records·rows-of}
@@ -68,7 +69,7 @@ abbrev Pair : RattleType
 Pair = Array u32 2
 
 abbrev Table : RattleType
-Table = Array (Array u32 recordWidth) 257
+Table = Array (Array u32 rowWidth) 257
 
 -- a slice's machine value
 abbrev sl : {X : Type 0} → RefT (List X) → Val
@@ -177,7 +178,7 @@ module _ {M : Type 1} (𝓤 : URA M) (H : Heap 𝓤) (A : Atoms 𝓤) (W : Given
   asks-join t u = qed W (raw Tok ∷ ‵ (owns (typesAt (join-rows.signature .params) (κs .1)) (passed t) (passed-vals u)) ∷ []) ∵ join ! $ frame ! $ done !
 
   -- the outcome of joining some rows
-  abbrev Whole : List (List ℕ) → Outcome
+  abbrev Whole : List SegmentRecord → Outcome
   Whole rs =
       joinOutcome
       (lentOf (a .0) (a .1 .0) rs
@@ -188,7 +189,7 @@ module _ {M : Type 1} (𝓤 : URA M) (H : Heap 𝓤) (A : Atoms 𝓤) (W : Given
       (now (a .1 .1 .1 .1 .1 .1 .1 .1 .1 .1 .1 .1 .1 .1 .1 .0)) (now (a .1 .1 .1 .1 .1 .1 .1 .1 .1 .1 .1 .1 .1 .1 .1 .1 .0)) (now (a .1 .1 .1 .1 .1 .1 .1 .1 .1 .1 .0))))
 
   -- it is what is given and left
-  abbrev Joins : (t : List (List ℕ)) → Answer → Lasts join-rows.ended (κs .1) (passed t) → List (List ℕ) → Type 0
+  abbrev Joins : (t : List (List ℕ)) → Answer → Lasts join-rows.ended (κs .1) (passed t) → List SegmentRecord → Type 0
   Joins t r ws rs =
       outcomeOf r
       (buffersOf
@@ -196,9 +197,9 @@ module _ {M : Type 1} (𝓤 : URA M) (H : Heap 𝓤) (A : Atoms 𝓤) (W : Given
       (ws .1 .1 .1 .1 .1 .1 .1 .1 .1 .1 .1 .1 .1 .1 .1 .1 .0) (ws .1 .1 .1 .1 .1 .1 .1 .1 .1 .1 .1 .1 .1 .1 .1 .1 .1 .0) (ws .1 .1 .1 .1 .1 .1 .1 .1 .1 .1 .1 .0))
       ≡ Whole rs
 
-  same : (t : List (List ℕ)) (r : Answer) (ws : Lasts join-rows.ended (κs .1) (passed t)) → t ≡ laidTo ys (countOf n) → Joins t r ws (take (countOf n) t) → Joins t r ws (rowsOf ys)
+  same : (t : List (List ℕ)) (r : Answer) (ws : Lasts join-rows.ended (κs .1) (passed t)) → t ≡ laidTo ys (countOf n) → Joins t r ws (recordsOf (take (countOf n) t)) → Joins t r ws (recordsIn ys)
   same t r ws e e′ =
-      e′ ∙ ap (λ (rs : List (List ℕ)). Whole (take (countOf n) rs)) e
+      e′ ∙ ap (λ (rs : List (List ℕ)). Whole (recordsOf (take (countOf n) rs))) e
       ∙ rows-join ys (a .0) (a .1 .0)
       (now (a .1 .1 .1 .0)) (now (a .1 .1 .1 .1 .0)) (now (a .1 .1 .1 .1 .1 .0)) (now (a .1 .1 .1 .1 .1 .1 .0))
       (now (a .1 .1 .1 .1 .1 .1 .1 .0)) (now (a .1 .1 .1 .1 .1 .1 .1 .1 .0)) (now (a .1 .1 .1 .1 .1 .1 .1 .1 .1 .0))
@@ -206,7 +207,7 @@ module _ {M : Type 1} (𝓤 : URA M) (H : Heap 𝓤) (A : Atoms 𝓤) (W : Given
       (now (a .1 .1 .1 .1 .1 .1 .1 .1 .1 .1 .1 .0)) (now (a .1 .1 .1 .1 .1 .1 .1 .1 .1 .1 .1 .1 .0)) (now (a .1 .1 .1 .1 .1 .1 .1 .1 .1 .1 .1 .1 .1 .0)) (now (a .1 .1 .1 .1 .1 .1 .1 .1 .1 .1 .1 .1 .1 .1 .0))
       (now (a .1 .1 .1 .1 .1 .1 .1 .1 .1 .1 .1 .1 .1 .1 .1 .0)) (now (a .1 .1 .1 .1 .1 .1 .1 .1 .1 .1 .1 .1 .1 .1 .1 .1 .0)) (now (a .1 .1 .1 .1 .1 .1 .1 .1 .1 .1 .0)))
 
-  exits : (t : List (List ℕ)) (r : Answer) (u : Val) (ws : Lasts join-rows.ended (κs .1) (passed t)) → Joins t r ws (rowsOf ys)
+  exits : (t : List (List ℕ)) (r : Answer) (u : Val) (ws : Lasts join-rows.ended (κs .1) (passed t)) → Joins t r ws (recordsIn ys)
       → ent 𝓤 (⋆ 𝓤 H A (‵ (S.the-row .own r (u ∷ [])) ∷ ‵ (flft (κs .0) (qs .0)) ∷ raw Tok ∷ ‵ (lasts join-rows.ended (κs .1) (passed t) ws) ∷ [])) (Post u)
   exits t r u ws e =
       qed W (‵ (S.the-row .own r (u ∷ [])) ∷ ‵ (flft (κs .0) (qs .0)) ∷ raw Tok ∷ ‵ (lasts join-rows.ended (κs .1) (passed t) ws) ∷ []) ∵
@@ -249,7 +250,7 @@ module _ {M : Type 1} (𝓤 : URA M) (H : Heap 𝓤) (A : Atoms 𝓤) (W : Given
         split ! $ move ! (1 ∷ []) $ use1 W (raw (fact 𝓤 (t ≡ laidTo ys (countOf n)))) (rows-said t) $ heard ! (t ≡ laidTo ys (countOf n)) (λ e. split ! $ move ! (1 ∷ []) $
         -- [the table; the records' token; the other tokens; the other slices; required; mode; _33; …; _0; …]
         peeks ! Table (Is Table) (shows 𝓤 H A Table) t (u ∷ []) (λ is.
-        land ! (from ! (stop !)) (init ! 36 refl (array-lawful 𝓤 H A W (Array u32 recordWidth) (array-lawful 𝓤 H A W u32 (uint-lawful 𝓤 H A W w32) recordWidth) 257 .typed t _ is .0)) $
+        land ! (from ! (stop !)) (init ! 36 refl (array-lawful 𝓤 H A W (Array u32 rowWidth) (array-lawful 𝓤 H A W u32 (uint-lawful 𝓤 H A W w32) rowWidth) 257 .typed t _ is .0)) $
         assigns ! (of-opd ! (load ! (from ! (fld ! refl (stop !))) (look-in ! 66 (sub ! 1 refl (whole !))))) (from ! (stop !)) (init ! 34 refl (tt, record { fits = are .1 .1 .0 .0 .1 .0 })) $
         assigns ! (addr ! (from ! (fld ! refl (hop ! (look-in ! 50 (sub ! 0 refl (whole !))) (stop !))))) (from ! (stop !)) (init ! 32 refl (tt, tt)) $
         assigns ! (agg ! (and-then ! (load ! (from ! (stop !)) (look ! 32 refl)) (and-then ! (load ! (from ! (fld ! refl (stop !))) (look-in ! 50 (sub ! 1 refl (whole !)))) (no-more !)))) (from ! (stop !))
@@ -283,8 +284,8 @@ module _ {M : Type 1} (𝓤 : URA M) (H : Heap 𝓤) (A : Atoms 𝓤) (W : Given
         (and-then ! (load ! (from ! (stop !)) (look ! 14 refl)) (and-then ! (load ! (from ! (stop !)) (look ! 10 refl)) (and-then ! (load ! (from ! (stop !)) (look ! 6 refl))
         (and-then ! (load ! (from ! (stop !)) (look ! 2 refl)) (no-more !))))))))))))))))))) (λ w.
         use1 W (later (some (λ (r : Answer). (raw Tok ⊛ ‵ (S.the-row .own r (w ∷ []))) ⊛ raw (ensured 𝓤 H A join-rows.ended (join-rows.clauses 𝓤 H A mem run) (κs .1) (passed t) tt r)))) (id⊢ 𝓤 _) $ await ! tt $ pick ! (λ r.
-        split ! $ move ! (1 ∷ []) $ use1 W (some (λ (ws : Lasts join-rows.ended (κs .1) (passed t)). ‵ (lasts join-rows.ended (κs .1) (passed t) ws) ⊛ raw (fact 𝓤 (Joins t r ws (take (countOf n) t))))) (id⊢ 𝓤 _) $ pick ! (λ ws.
-        split ! $ move ! (1 ∷ []) $ heard ! (Joins t r ws (take (countOf n) t)) (λ e′. move ! (1 ∷ []) $ split ! $ move ! (1 ∷ []) $
+        split ! $ move ! (1 ∷ []) $ use1 W (some (λ (ws : Lasts join-rows.ended (κs .1) (passed t)). ‵ (lasts join-rows.ended (κs .1) (passed t) ws) ⊛ raw (fact 𝓤 (Joins t r ws (recordsOf (take (countOf n) t)))))) (id⊢ 𝓤 _) $ pick ! (λ ws.
+        split ! $ move ! (1 ∷ []) $ heard ! (Joins t r ws (recordsOf (take (countOf n) t))) (λ e′. move ! (1 ∷ []) $ split ! $ move ! (1 ∷ []) $
         -- [the answer; the other tokens; the last values; the records' token; _33; …; _0; …]
         peeks ! S.the-row (Is S.the-row) (shows 𝓤 H A S.the-row) r (w ∷ []) (λ is′.
         land ! (from ! (stop !)) (init ! 70 refl (EL.lawful S.the-type S′.the-laws 𝓤 H A W tt .typed r _ is′ .0)) $ returns ! (look ! 70 refl) $

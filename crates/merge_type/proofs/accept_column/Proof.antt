@@ -7,28 +7,19 @@ is-part-requires : tie.Need-is-part-requires
 is-part-requires c κs = search needs
 
 returns : tie.Need-returns
-returns c = seen-out _ _ (c .before .is-part .ensures) _ (c .if1 .taken)
+returns c = seen-out _ (c .before .is-part .ensures) _ (c .if1 .taken)
 
 type-of-requires : tie.Need-type-of-requires
 type-of-requires c κs = search needs
 
-mul-accept : tie.Need-mul-accept
-mul-accept c = search needs
-
-sub-accept : tie.Need-sub-accept
-sub-accept c = search needs
-
-part-accept-start : tie.Need-part-accept-start
-part-accept-start c = search needs
-
-part-accept-end : tie.Need-part-accept-end
-part-accept-end c = search needs
+range-at-requires : tie.Need-range-at-requires
+range-at-requires c κs = search needs
 
 accept-requires : tie.Need-accept-requires
 accept-requires c κs = search needs
 
 returns-2 : tie.Need-returns-2
-returns-2 c = seen-in _ _ (c .before .before .before .before .is-part .ensures) _ (c .before .before .before .if1 .left) (c .before .before .type-of .ensures) (c .accept .ensures)
+returns-2 c = seen-in _ (c .before .before .before .before .is-part .ensures) (c .before .before .before .if1 .left) (c .before .before .type-of .ensures) (c .before .range-at .ensures) _ (c .accept .ensures)
 
 pub accept-column-spec : {M : Type 1} → statement M
 accept-column-spec =
@@ -37,9 +28,6 @@ accept-column-spec =
     is-part-requires
     returns
     type-of-requires
-    mul-accept
-    sub-accept
-    part-accept-start
-    part-accept-end
+    range-at-requires
     accept-requires
     returns-2)

@@ -2,16 +2,16 @@ use mathlib.Core.Path.{_≡_, refl, _∙_}
 use Prim.Native.Nat.{_-_, _≤_, zero-le}
 use lib.ListN.{length, drop}
 use borrow.Author.Needs.{needs}
-use Rattle.merge_type.specs.Parts.{partsIn, allBecome}
-use Rattle.merge_type.proofs.Walk.{now-code, now-lies, become-stop, become-next, become-end}
+use Rattle.merge_type.specs.Parts.{heldIn, allBecome}
+use Rattle.merge_type.proofs.Walk.{now-code, become-stop, become-next, become-end}
 use Rattle.merge_type.proofs.all_become.Statement.{statement}
 use Rattle.merge_type.proofs.all_become.Tie as tie
 
 abbrev Inv-loop : tie.InvT-loop
-Inv-loop u stands values s₀ s = (s ≤ length stands) × (allBecome u (partsIn (drop s stands) values) ≡ allBecome u (partsIn stands values))
+Inv-loop u stands s₀ s = (s ≤ length stands) × (allBecome u (heldIn (drop s stands)) ≡ allBecome u (heldIn stands))
 
 abbrev μ-loop : tie.MeasureT-loop
-μ-loop u stands values s₀ s = length stands - s
+μ-loop u stands s₀ s = length stands - s
 
 loop-holds : tie.Need-loop-holds Inv-loop μ-loop
 loop-holds c = (zero-le, refl)
@@ -20,10 +20,10 @@ stand-at-requires : tie.Need-stand-at-requires Inv-loop μ-loop
 stand-at-requires c κs = search needs
 
 column-becomes-requires : tie.Need-column-becomes-requires Inv-loop μ-loop
-column-becomes-requires c κs = (now-code (c .before .before .before .before .pre .codes) (c .before .loop-test .taken) (c .stand-at .ensures), now-lies (c .before .before .before .before .pre) (c .before .loop-test .taken) (c .stand-at .ensures))
+column-becomes-requires c κs = now-code (c .before .before .before .pre) (c .before .loop-test .taken) (c .stand-at .ensures)
 
 returns : tie.Need-returns Inv-loop μ-loop
-returns c = become-stop _ _ (c .before .before .before .loop-test .taken) (c .before .before .stand-at .ensures) _ (c .before .column-becomes .ensures) (c .if1 .taken) ∙ c .before .before .before .before .loop .inv .1
+returns c = become-stop _ (c .before .before .before .loop-test .taken) (c .before .before .stand-at .ensures) _ (c .before .column-becomes .ensures) (c .if1 .taken) ∙ c .before .before .before .before .loop .inv .1
 
 add-s : tie.Need-add-s Inv-loop μ-loop
 add-s c = search needs
@@ -32,10 +32,10 @@ loop-less : tie.Need-loop-less Inv-loop μ-loop
 loop-less c = search needs
 
 loop-again : tie.Need-loop-again Inv-loop μ-loop
-loop-again c = (search needs, become-next _ _ (c .before .before .before .loop-test .taken) (c .before .before .stand-at .ensures) _ (c .before .column-becomes .ensures) (c .if1 .left) ∙ c .before .before .before .before .loop .inv .1)
+loop-again c = (search needs, become-next _ (c .before .before .before .loop-test .taken) (c .before .before .stand-at .ensures) _ (c .before .column-becomes .ensures) (c .if1 .left) ∙ c .before .before .before .before .loop .inv .1)
 
 returns-2 : tie.Need-returns-2 Inv-loop μ-loop
-returns-2 c = become-end _ _ _ (c .loop-test .left) _ ∙ c .before .loop .inv .1
+returns-2 c = become-end _ _ (c .loop-test .left) _ ∙ c .before .loop .inv .1
 
 pub all-become-spec : {M : Type 1} → statement M
 all-become-spec =

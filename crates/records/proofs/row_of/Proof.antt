@@ -40,15 +40,15 @@ use denote.Triple.Spec.{Meets, tripleOf}
 use denote.Triple.Table.{entered, cited}
 use denote.Triple.Walked.{says, needs, Stays, stay-none-slice, stay-none, walkOf, Walks, ends-at, walked, goes-none-slice, goes-none, walk-meets}
 use denote.Exit.{yes}
-use Rattle.definitions.specs.Segment.{recordWidth}
-use Rattle.records.specs.Rows.{none, numbersOf}
+use Rattle.segment.specs.Records.{rowWidth}
+use Rattle.records.specs.Rows.{none, structSize, numbersOf}
 use Rattle.segment.specs.declared.Record.{Record}
 use Rattle.segment.proofs.Record as T
 use Rattle.segment.proofs.Record.Laws as T′
-use Rattle.records.proofs.numbers_of as ok
-use Rattle.records.proofs.numbers_of.Symbol as ok-def
-use Rattle.records.proofs.numbers_of.Symbol.{name as #records·numbers-of}
-use Rattle.records.proofs.numbers_of.Met as ok-thm
+use Rattle.segment.proofs.numbers_of as ok
+use Rattle.segment.proofs.numbers_of.Symbol as ok-def
+use Rattle.segment.proofs.numbers_of.Symbol.{name as #segment·numbers-of}
+use Rattle.segment.proofs.numbers_of.Met as ok-thm
 use Rattle.records.proofs.row_of.Key.{name as #records·row-of}
 use Rattle.records.proofs.row_of as at-fn
 use Rattle.records.proofs.row_of.Statement as stated
@@ -59,7 +59,7 @@ R = T.the-row
 
 -- a row of numbers
 abbrev Row : RattleType
-Row = Array u32 recordWidth
+Row = Array u32 rowWidth
 
 abbrev stayed : Stays (at-fn.ended .signature .params) (at-fn.ended .kept)
 stayed = (stay-none-slice (0 ∷ []) tt (plain (λ _. R)) yes, (stay-none (λ _. usize) yes, tt))
@@ -105,18 +105,18 @@ module _ {M : Type 1} (𝓤 : URA M) (H : Heap 𝓤) (A : Atoms 𝓤) (W : Given
       nothing ! $ move ! (1 ∷ 0 ∷ []) $ join ! $ nothing ! $ move ! (3 ∷ 0 ∷ []) $ fjoin ! $ move ! (2 ∷ 0 ∷ []) $ fjoin ! $ move ! (1 ∷ 0 ∷ []) $
       frame ! $ frame ! $ done !
 
-  module _ (C : Calls 𝓤 H) (Λ : Loops 𝓤 H) (fm : FmC 𝓤 H (W .laws) C) (known : Triple 𝓤 (C #records·numbers-of) (NumbersOf 𝓤 H A mem run)) where
+  module _ (C : Calls 𝓤 H) (Λ : Loops 𝓤 H) (fm : FmC 𝓤 H (W .laws) C) (known : Triple 𝓤 (C #segment·numbers-of) (NumbersOf 𝓤 H A mem run)) where
     walk : Room R (length ys) → i < 2 ^ 64 → i < length ys → ent 𝓤 (onEntry 𝓤 H A at-fn.signature (κ, tt) (q, tt) (s, (i, tt)) at)
         (WpFn 𝓤 H C Λ code.function (sliceVal (b, o) (length ys) ∷ vint w64 i ∷ []) Post)
     walk gn gi l =
-        let scaled : i * (4 * recordWidth) < 2 ^ 64 = omega (arith, gn .1) in
+        let scaled : i * structSize < 2 ^ 64 = omega (arith, gn .1) in
         qed W ((‵ (flft κ q) ⊛ ‵ ftrue) ∷ ‵ (owns (ShrSlice (named 0) κ R ∷ usize ∷ []) (s, (i, tt)) at) ∷ []) ∵ enter ! C Λ code.function (sliceVal (b, o) (length ys) ∷ vint w64 i ∷ []) _ $
         alloc1 ! (λ l₀. alloc1 ! (λ l₁. alloc1 ! (λ l₂. alloc1 ! (λ l₃. alloc1 ! (λ l₄. alloc1 ! (λ l₅. alloc0 ! $ params1 ! $
         pass1 ! (init ! 8 refl (tt, (tt, (record { fits = gn .0 }, tt)))) $ pass1 ! (init ! 6 refl (tt, record { fits = gi })) $ pass0 ! $
-        -- _3 = i * (4 * recordWidth), _4 = the pointer to record i
+        -- _3 = i * structSize, _4 = the pointer to record i
         assigns ! (bin ! (load ! (from ! (stop !)) (look ! 6 refl)) (lit ! tt) (record { fits = scaled })) (from ! (stop !)) (init ! 4 refl (tt, record { fits = scaled })) $
         assigns ! (bin ! (load ! (from ! (fld ! refl (stop !))) (look-in ! 8 (sub ! 0 refl (whole !)))) (load ! (from ! (stop !)) (look ! 4 refl)) tt) (from ! (stop !)) (init ! 2 refl (tt, tt)) $
-        rewrite ! 2 (λ (p : ℕ). ‵ (fat fullShare tyPtr l₄ 0 (vptr b p))) (sym (place-is (4 * recordWidth) o i)) refl $
+        rewrite ! 2 (λ (p : ℕ). ‵ (fat fullShare tyPtr l₄ 0 (vptr b p))) (sym (place-is structSize o i)) refl $
         move ! (13 ∷ []) $ fsplit ! $ fsplit ! $ move ! (1 ∷ []) $ fsplit ! $ move ! (16 ∷ []) $ split ! $ move ! (3 ∷ 0 ∷ []) $
         looks-slice ! tt R (Is R) (shows 𝓤 H A R) (LL.vals T.the-type T′.the-laws) (LL.tells T.the-type T′.the-laws) ((LL.copy T.the-type T′.the-copy) 𝓤 H A W) ys b o (λ q′.
         elem-out ! R (Is R) (shows 𝓤 H A R) (LL.vals T.the-type T′.the-laws) (LL.tells T.the-type T′.the-laws) q′ ys i none b o l (λ g.
@@ -132,19 +132,19 @@ module _ {M : Type 1} (𝓤 : URA M) (H : Heap 𝓤) (A : Atoms 𝓤) (W : Given
         split ! $ move ! (1 ∷ []) $ use1 W (raw (fact 𝓤 (t ≡ found))) (said t) $ heard ! (t ≡ found) (λ e. split ! $ move ! (1 ∷ []) $
         -- [the result; true; the token; the fractured borrow; true; res; xs's fact; i's; _5; …; _4; …; _3; …; _2; …; _1; …; room for _0; …]
         peeks ! Row (Is Row) (shows 𝓤 H A Row) t (u ∷ []) (λ is.
-        land ! (from ! (stop !)) (init ! 18 refl (array-lawful 𝓤 H A W u32 (uint-lawful 𝓤 H A W w32) recordWidth .typed t _ is .0)) $
+        land ! (from ! (stop !)) (init ! 18 refl (array-lawful 𝓤 H A W u32 (uint-lawful 𝓤 H A W w32) rowWidth .typed t _ is .0)) $
         returns ! (look ! 18 refl) $ forget ! 8 refl $ forget ! 10 refl $ forget ! 12 refl $ forget ! 14 refl $ forget ! 16 refl $ forget ! 18 refl $
         move ! (18 ∷ 19 ∷ []) $ free1 ! $ move ! (16 ∷ 17 ∷ []) $ free1 ! $ move ! (14 ∷ 15 ∷ []) $ free1 ! $ move ! (12 ∷ 13 ∷ []) $ free1 ! $ move ! (10 ∷ 11 ∷ []) $ free1 ! $ move ! (8 ∷ 9 ∷ []) $ free1 ! $ free0 ! $
         move ! (5 ∷ 3 ∷ []) $ fjoin ! $ move ! (5 ∷ 0 ∷ []) $ fjoin ! $ move ! (5 ∷ []) $ fsplit ! $ keep ! (5 ∷ 2 ∷ 0 ∷ 3 ∷ []) $ by ! (exits t u e)))))))))))))
 
 module _ {M : Type 1} (𝓤 : URA M) (H : Heap 𝓤) (A : Atoms 𝓤) (W : Given 𝓤 H A) (mem : Memory → SProp 𝓤) (run : Routine → Fun 𝓤) where
-  at-walks : (C : Calls 𝓤 H) (Λ : Loops 𝓤 H) → FmC 𝓤 H (W .laws) C → Triple 𝓤 (C #records·numbers-of) (NumbersOf 𝓤 H A mem run) → Walks 𝓤 H A at-fn.ended stayed (WpFn 𝓤 H C Λ code.function) (at-fn.clauses 𝓤 H A mem run)
+  at-walks : (C : Calls 𝓤 H) (Λ : Loops 𝓤 H) → FmC 𝓤 H (W .laws) C → Triple 𝓤 (C #segment·numbers-of) (NumbersOf 𝓤 H A mem run) → Walks 𝓤 H A at-fn.ended stayed (WpFn 𝓤 H C Λ code.function) (at-fn.clauses 𝓤 H A mem run)
   at-walks C Λ fm known = walked 𝓤 H A at-fn.ended stayed (at-fn.clauses 𝓤 H A mem run) (WpFn 𝓤 H C Λ code.function) (λ κs. (slice-vals, (uint-vals w64, tt))) (λ κs. (shr-slice-tells (named 0) (κs .0) R, (uint-tells w64, tt)))
       (λ κs qs bounds a g are. needs 𝓤 _ _
       (walk 𝓤 H A W mem run (κs .0) (qs .0) (a .0 .ptr .0) (a .0 .ptr .1) (a .0 .name) (a .0 .now) (a .1 .0) C Λ fm known (are .0 .0 .1) (are .1 .0 .1)))
 
 at-meets : {M : Type 1} (𝓤 : URA M) (H : Heap 𝓤) (A : Atoms 𝓤) (W : Given 𝓤 H A) (mem : Memory → SProp 𝓤) (run : Routine → Fun 𝓤) (𝓣 : Tables 𝓤 H)
-    → Triple 𝓤 (𝓣 .C #records·numbers-of) (NumbersOf 𝓤 H A mem run)
+    → Triple 𝓤 (𝓣 .C #segment·numbers-of) (NumbersOf 𝓤 H A mem run)
     → Meets 𝓤 H A at-fn.signature (WpFn 𝓤 H (𝓣 .C) (𝓣 .Λ) code.function) (at-fn.spec 𝓤 H A mem run)
 at-meets 𝓤 H A W mem run 𝓣 known-ok = walk-meets 𝓤 H A at-fn.ended stayed W (goes-none-slice 𝓤 H A W 1 (0 ∷ []) tt (plain (λ _. R)) yes, (goes-none 𝓤 H A W 1 (λ _. usize) yes (λ κs x f. refl), tt)) (at-fn.clauses 𝓤 H A mem run) (WpFn 𝓤 H (𝓣 .C) (𝓣 .Λ) code.function) (WpFn-mono 𝓤 H (W .laws) 𝓣 code.function) (at-walks 𝓤 H A W mem run (𝓣 .C) (𝓣 .Λ) (fmOf 𝓤 H (W .laws) 𝓣) known-ok)
 
@@ -154,4 +154,4 @@ row-of-spec 𝓤 H 𝓜 𝓖 𝓡 =
     entered 𝓤 H (tripleOf 𝓤 H (𝓖 .A) at-fn.signature (at-fn.spec 𝓤 H (𝓖 .A) (𝓜 .mem) (𝓡 .run)))
     (tables 𝓤 H 𝓜 𝓡 code.env .C) (tables 𝓤 H 𝓜 𝓡 code.env .Λ) #records·row-of code.function (code.unfolded 𝓤 H 𝓜 𝓡)
     (at-meets 𝓤 H (𝓖 .A) (givenOf 𝓤 H 𝓜 𝓖) (𝓜 .mem) (𝓡 .run) (tablesOf 𝓤 H 𝓜 (tables 𝓤 H 𝓜 𝓡 code.env))
-    (cited 𝓤 H (NumbersOf 𝓤 H (𝓖 .A) (𝓜 .mem) (𝓡 .run)) 𝓜 𝓡 code.env #records·numbers-of ok-def.routine code.calls-records·numbers-of (ok-thm.met 𝓤 H 𝓜 𝓖 𝓡)))
+    (cited 𝓤 H (NumbersOf 𝓤 H (𝓖 .A) (𝓜 .mem) (𝓡 .run)) 𝓜 𝓡 code.env #segment·numbers-of ok-def.routine code.calls-segment·numbers-of (ok-thm.met 𝓤 H 𝓜 𝓖 𝓡)))

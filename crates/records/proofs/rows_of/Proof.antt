@@ -46,7 +46,7 @@ use denote.Triple.Spec.{Meets, tripleOf}
 use denote.Triple.Table.{entered, cited}
 use denote.Triple.Walked.{says, Stays, stay-none-slice, walkOf, Walks, ends-at, walked, goes-none-slice, walk-meets}
 use denote.Exit.{yes}
-use Rattle.definitions.specs.Segment.{recordWidth}
+use Rattle.segment.specs.Records.{rowWidth}
 use Rattle.segment.specs.declared.Record.{Record}
 use Rattle.segment.proofs.Record as T
 use Rattle.records.specs.Rows.{none, numbersOf, countOf, blank, laidTo}
@@ -77,7 +77,7 @@ abbrev R : RattleType
 R = T.the-row
 
 abbrev Row : RattleType
-Row = Array u32 recordWidth
+Row = Array u32 rowWidth
 
 abbrev Table : RattleType
 Table = Array Row 257
@@ -87,7 +87,7 @@ abbrev word : Ty
 word = tyInt w64
 
 abbrev rowTy : Ty
-rowTy = tyArray (tyInt w32) recordWidth
+rowTy = tyArray (tyInt w32) rowWidth
 
 abbrev tableTy : Ty
 tableTy = tyArray rowTy 257
@@ -230,7 +230,7 @@ module _ {M : Type 1} (𝓤 : URA M) (H : Heap 𝓤) (A : Atoms 𝓤) (W : Given
         split ! $ move ! (1 ∷ []) $ use1 W (raw (fact 𝓤 (r ≡ numbersOf (getD ys i none)))) (row-said i r) $ heard ! (r ≡ numbersOf (getD ys i none)) (λ e. split ! $ move ! (1 ∷ []) $
         -- [the row; the token; the slice; the table; _7; _5; _4; _3; _2; _1; _0; _6; ..]
         peeks ! Row (Is Row) (shows 𝓤 H A Row) r (w ∷ []) (λ is.
-        land ! (from ! (stop !)) (init ! 5 refl (array-lawful 𝓤 H A W u32 (uint-lawful 𝓤 H A W w32) recordWidth .typed r _ is .0)) $
+        land ! (from ! (stop !)) (init ! 5 refl (array-lawful 𝓤 H A W u32 (uint-lawful 𝓤 H A W w32) rowWidth .typed r _ is .0)) $
         move ! (3 ∷ 0 ∷ []) $ use2 W (raw (PutRow 𝓤 H A mem run .pre (to-put (laidTo ys i) i r (x .1) w))) (goes-put (laidTo ys i) i r (x .1) w few) $
         -- [what put_row asks; the token; the slice; _7; _5; _4; _3; _2; _1; _0; _6; ..]
         calls-at ! (fmOf 𝓤 H (W .laws) 𝓣) (PutRow 𝓤 H A mem run) known-put (to-put (laidTo ys i) i r (x .1) w) (and-then ! (load ! (from ! (stop !)) (look ! 6 refl)) (and-then ! (load ! (from ! (stop !)) (look ! 5 refl)) (and-then ! (load ! (from ! (stop !)) (look ! 4 refl)) (no-more !)))) (λ u.
@@ -238,7 +238,7 @@ module _ {M : Type 1} (𝓤 : URA M) (H : Heap 𝓤) (A : Atoms 𝓤) (W : Given
         split ! $ move ! (1 ∷ []) $ use1 W (raw (fact 𝓤 (t ≡ set (laidTo ys i) i r))) (put-said (laidTo ys i) i r t) $ heard ! (t ≡ set (laidTo ys i) i r) (λ e′. split ! $ drop ! $
         -- [the table; the token; the slice; _7; _5; _4; _3; _2; _1; _0; _6; ..]
         peeks ! Table (Is Table) (shows 𝓤 H A Table) t (u ∷ []) (λ is′.
-        land ! (from ! (stop !)) (store ! 6 refl (array-lawful 𝓤 H A W Row (array-lawful 𝓤 H A W u32 (uint-lawful 𝓤 H A W w32) recordWidth) 257 .typed t _ is′ .0)) $
+        land ! (from ! (stop !)) (store ! 6 refl (array-lawful 𝓤 H A W Row (array-lawful 𝓤 H A W u32 (uint-lawful 𝓤 H A W w32) rowWidth) 257 .typed t _ is′ .0)) $
         assigns-last ! (bin ! (load ! (from ! (stop !)) (look ! 5 refl)) (lit ! tt) (record { fits = next })) (from ! (stop !)) (store ! 5 refl (tt, record { fits = next })) $
         rewrite ! 0 (λ (rs : List (List ℕ)). ‵ (Table .own rs (u ∷ []))) (e′ ∙ (ap (set (laidTo ys i) i) e ∙ laid-more ys i)) refl $
         forget ! 3 refl $ forget ! 4 refl $ move ! (1 ∷ []) $ split ! $ move ! (2 ∷ 0 ∷ []) $ keep ! (0 ∷ 1 ∷ 3 ∷ 4 ∷ 5 ∷ 6 ∷ 7 ∷ 8 ∷ 9 ∷ 10 ∷ 11 ∷ 12 ∷ 13 ∷ 14 ∷ 15 ∷ 16 ∷ 17 ∷ 18 ∷ 19 ∷ []) $
@@ -252,7 +252,7 @@ module _ {M : Type 1} (𝓤 : URA M) (H : Heap 𝓤) (A : Atoms 𝓤) (W : Given
         assigns ! (bin ! (load ! (from ! (stop !)) (look ! 5 refl)) (load ! (from ! (stop !)) (look ! 7 refl)) tt) (from ! (stop !)) (init ! 3 refl (tt, tt)) $
         rewrite ! 3 (λ (t : Bool). ‵ (fat fullShare tyBool l₇ 0 (vbool t))) test refl $ leaves-loop ! (load ! (from ! (stop !)) (look ! 3 refl)) $ exec ! C Λ En body.t-6 (atRet En Post) $
         rewrite ! 0 (λ (k : ℕ). ‵ (Table .own (laidTo ys k) (u ∷ []))) all refl $ peeks ! Table (Is Table) (shows 𝓤 H A Table) (laidTo ys n) (u ∷ []) (λ is.
-        assigns ! (of-opd ! (load ! (from ! (stop !)) (look ! 6 refl))) (from ! (stop !)) (init ! 9 refl (array-lawful 𝓤 H A W Row (array-lawful 𝓤 H A W u32 (uint-lawful 𝓤 H A W w32) recordWidth) 257 .typed (laidTo ys n) _ is .0)) $
+        assigns ! (of-opd ! (load ! (from ! (stop !)) (look ! 6 refl))) (from ! (stop !)) (init ! 9 refl (array-lawful 𝓤 H A W Row (array-lawful 𝓤 H A W u32 (uint-lawful 𝓤 H A W w32) rowWidth) 257 .typed (laidTo ys n) _ is .0)) $
         returns ! (look ! 9 refl) $ forget ! 3 refl $ forget ! 5 refl $ forget ! 6 refl $ forget ! 7 refl $ forget ! 8 refl $ forget ! 9 refl $
         move ! (9 ∷ 11 ∷ []) $ free1 ! $ move ! (8 ∷ 10 ∷ []) $ free1 ! $ move ! (7 ∷ 9 ∷ []) $ free1 ! $ move ! (6 ∷ 8 ∷ []) $ free1 ! $ move ! (5 ∷ 7 ∷ []) $ free1 ! $ move ! (4 ∷ 6 ∷ []) $ free1 ! $ move ! (4 ∷ 5 ∷ []) $ free1 ! $ move ! (3 ∷ 4 ∷ []) $ free1 ! $ free0 ! $ by ! (exits u))
 
@@ -285,7 +285,7 @@ module _ {M : Type 1} (𝓤 : URA M) (H : Heap 𝓤) (A : Atoms 𝓤) (W : Given
         split ! $ move ! (1 ∷ []) $ use1 W (raw (fact 𝓤 (t ≡ blank))) (none-said t) $ heard ! (t ≡ blank) (λ e′. split ! $ drop ! $
         -- [the table; _7; …; _6; …; _5; …; _4; …; _3; …; _2; …; _1; …; _0; …; the token; the slice]
         peeks ! Table (Is Table) (shows 𝓤 H A Table) t (w ∷ []) (λ is′.
-        land ! (from ! (stop !)) (init ! 9 refl (array-lawful 𝓤 H A W Row (array-lawful 𝓤 H A W u32 (uint-lawful 𝓤 H A W w32) recordWidth) 257 .typed t _ is′ .0)) $
+        land ! (from ! (stop !)) (init ! 9 refl (array-lawful 𝓤 H A W Row (array-lawful 𝓤 H A W u32 (uint-lawful 𝓤 H A W w32) rowWidth) 257 .typed t _ is′ .0)) $
         assigns ! (of-opd ! (lit ! tt)) (from ! (stop !)) (init ! 7 refl (tt, record { fits = lit< tt })) $
         rewrite ! 0 (λ (rs : List (List ℕ)). ‵ (Table .own rs (w ∷ []))) (e′ ∙ laid-none ys) refl $
         forget ! 3 refl $ move ! (18 ∷ []) $ fsplit ! $ move ! (19 ∷ []) $ split ! $

@@ -1,9 +1,10 @@
 use mathlib.Core.Path.{sym, ap, _∙_}
 use native.Mathlib.Omega.{arith}
-use lib.ListN.{length}
+use lib.ListN.{length, length-map}
 use borrow.Author.Needs.{needs}
 use lib.Seq.{length-take-le}
-use Rattle.definitions.specs.Wire.{wordSections}
+use Rattle.definitions.specs.Wire.{wordSections, recordGroups}
+use Rattle.segment.specs.Records.{rowOf}
 use Rattle.definitions.specs.Outcome.{Lent, joinOutcome}
 use Rattle.definitions.specs.Listing.{listing}
 use Rattle.runs.specs.Put.{put}
@@ -130,7 +131,7 @@ returns c =
     let the-read-bytes = c .before .before .before .before .before .before .before .before .before .before .before .before .before .before .before .read-bytes in
     let the-read-addresses = c .before .before .before .before .before .before .before .before .before .before .before .read-addresses in
     let the-answer-lists = c .before .before .answer-lists in
-    let e = fitting.lent-is (wordSections (the-args .words .now)) (c .before .before .before .before .before .before .before .before .before .before .before .before .before .before .before .before .before .before .before .before .before .before .before .before .before .before .before .before .before .before .before .read-number .ensures) (c .before .before .before .before .before .before .before .before .before .before .before .before .before .before .before .before .before .before .before .before .before .before .before .before .before .before .before .before .before .before .read-number2 .ensures) (front-lent _ _ _ _ (the-read-records .ensures .0) (the-read-records .ensures .1)) (front-lent _ _ _ _ (the-read-numbers .ensures .0) (the-read-numbers .ensures .1)) (front-lent _ _ _ _ (the-read-numbers2 .ensures .0) (the-read-numbers2 .ensures .1)) (c .before .before .before .before .before .before .before .before .before .before .before .before .before .before .before .before .before .before .before .before .section .ensures) (front-lent _ _ _ _ (the-read-numbers3 .ensures .0) (the-read-numbers3 .ensures .1)) (front-lent _ _ _ _ (the-read-bytes .ensures .0) (the-read-bytes .ensures .1)) (c .before .before .before .before .before .before .before .before .before .before .before .before .before .section2 .ensures) (front-lent _ _ _ _ (the-read-addresses .ensures .0) (the-read-addresses .ensures .1)) in
+    let e = fitting.lent-is (wordSections (the-args .words .now)) (c .before .before .before .before .before .before .before .before .before .before .before .before .before .before .before .before .before .before .before .before .before .before .before .before .before .before .before .before .before .before .before .read-number .ensures) (c .before .before .before .before .before .before .before .before .before .before .before .before .before .before .before .before .before .before .before .before .before .before .before .before .before .before .before .before .before .before .read-number2 .ensures) (front-lent _ _ _ _ (the-read-records .ensures .0 ∙ sym (length-map (recordGroups (wordSections (the-args .words .now))) rowOf)) (the-read-records .ensures .1)) (front-lent _ _ _ _ (the-read-numbers .ensures .0) (the-read-numbers .ensures .1)) (front-lent _ _ _ _ (the-read-numbers2 .ensures .0) (the-read-numbers2 .ensures .1)) (c .before .before .before .before .before .before .before .before .before .before .before .before .before .before .before .before .before .before .before .before .section .ensures) (front-lent _ _ _ _ (the-read-numbers3 .ensures .0) (the-read-numbers3 .ensures .1)) (front-lent _ _ _ _ (the-read-bytes .ensures .0) (the-read-bytes .ensures .1)) (c .before .before .before .before .before .before .before .before .before .before .before .before .before .section2 .ensures) (front-lent _ _ _ _ (the-read-addresses .ensures .0) (the-read-addresses .ensures .1)) in
     (the-answer-lists .ensures .0, (the-answer-lists .ensures .1 .0 ∙ ap (λ (l : Lent). length (listing (joinOutcome l))) e, the-answer-lists .ensures .1 .1 ∙ ap (λ (l : Lent). put 0 (listing (joinOutcome l)) (the-args .out .now)) e))
 
 pub answer-words-spec : {M : Type 1} → statement M

@@ -3,7 +3,7 @@ use mathlib.Core.Bool.{true, false, not}
 use mathlib.Core.List.{List, []}
 use Prim.Native.Nat.{ℕ, _≤_, _<_}
 use native.Mathlib.Nat.{le-of-eq}
-use lib.ListN.{length, length-map}
+use lib.ListN.{length}
 use borrow.Author.Needs.{needs}
 use borrow.Author.Tests.{lt-ltb, le-ltb, not-false}
 use Rattle.sections_fit.proofs.Own.{lengths-wrong, exact, input-codes, some-old, lists-wrong, values-wrong, input-alive, sums-large}
@@ -11,19 +11,19 @@ use Rattle.sections_fit.specs.declared.Totals.{Totals}
 use Rattle.sections_fit.specs.Walks.{sumsRight}
 use Rattle.segment.specs.Records.{recordsOf}
 use Rattle.segment.specs.Lent.{lentInput}
+use Rattle.segment.proofs.Walk.{records-long}
 use Rattle.definitions.specs.Answer.{tooManySegments}
-use Rattle.definitions.specs.Segment.{recordFrom}
 use Rattle.sections_fit.proofs.first_to_seven.Statement.{statement}
 use Rattle.sections_fit.proofs.first_to_seven.Tie as tie
 use Rattle.lists.proofs.Tests.{taken, other}
 
 many : (records : List (List ℕ)) → 256 < length records → tooManySegments (recordsOf records) ≡ true
 unfolding tooManySegments
-many records h = lt-ltb 256 (length (recordsOf records)) (rw (length-map records recordFrom) h)
+many records h = lt-ltb 256 (length (recordsOf records)) (rw (records-long records) h)
 
 few : (records : List (List ℕ)) → length records ≤ 256 → tooManySegments (recordsOf records) ≡ false
 unfolding tooManySegments
-few records h = le-ltb 256 (length (recordsOf records)) (rw (length-map records recordFrom) h)
+few records h = le-ltb 256 (length (recordsOf records)) (rw (records-long records) h)
 
 sums-of : {t u : Totals} (w : ℕ) → t ≡ u → sumsRight (u .rows) (u .values) w ≡ sumsRight (t .rows) (t .values) w
 sums-of w e = ap (λ (t : Totals). sumsRight (t .rows) (t .values) w) (sym e)

@@ -16,7 +16,14 @@ terms-fit-requires c κs = search needs
 
 returns-2 : tie.Need-returns-2
 unfolding fitsValues
-returns-2 c = granted (c .before .before .words-fit .ensures) (c .before .if1 .left) (c .terms-fit .ensures)
+returns-2 c = granted (c .before .before .before .words-fit .ensures) (c .before .before .if1 .left) (denied _ (c .before .terms-fit .ensures) (c .if2 .taken))
+
+pair-fits-requires : tie.Need-pair-fits-requires
+pair-fits-requires c κs = search needs
+
+returns-3 : tie.Need-returns-3
+unfolding fitsValues
+returns-3 c = granted (c .before .before .before .before .words-fit .ensures) (c .before .before .before .if1 .left) (granted (c .before .before .terms-fit .ensures) (c .before .if2 .left) (c .pair-fits .ensures))
 
 pub values-fit-spec : {M : Type 1} → statement M
-values-fit-spec = tie.close (tie.spec words-fit-requires returns terms-fit-requires returns-2)
+values-fit-spec = tie.close (tie.spec words-fit-requires returns terms-fit-requires returns-2 pair-fits-requires returns-3)

@@ -65,6 +65,7 @@ returns : tie.Need-returns
 unfolding nextStand
 returns c =
     let p = c .before .before .before .before .before .before .before .before .before .before .before .before .before .before .before .before .before .before .args .p in
+    let r = c .before .before .before .before .before .before .before .before .before .before .before .before .before .before .before .before .before .before .args .r in
     let n-ids = c .before .before .before .before .before .before .before .before .before .before .before .before .before .before .before .before .before .wide .ensures in
     let the-ids = c .before .before .before .before .before .before .before .before .before .before .before .before .before .before .before .before .from-on .ensures in
     let n-offsets = c .before .before .before .before .before .before .before .before .before .before .before .before .before .before .before .wide2 .ensures in
@@ -75,7 +76,7 @@ returns c =
     let the-terms = c .before .before .before .before .before .before .before .before .before .before .from-on4 .ensures in
     let n-alive = c .before .before .before .before .before .before .before .before .before .alive-words .ensures in
     let the-alive = c .before .before .before .before .before .before .before .before .from-on5 .ensures in (
-      (λ i. record { typ = c .before .before .before .before .before .before .before .wide4 .ensures .0 i; kind = c .before .before .before .before .before .before .wide5 .ensures .0 i; flag = c .before .before .before .before .before .wide6 .ensures .0 i; held = 0; rows = c .before .before .before .before .wide7 .ensures .0 i; work = p .work + p .rows; count = c .before .before .wide8 .ensures .0 i; unit = c .before .words-per-value .ensures .0 i; ids = (the-ids ∙ ap (span (p .ids .to)) (n-ids .0)) i; offsets = (the-offsets ∙ ap (span (p .offsets .to)) (n-offsets .0)) i; values = (the-values ∙ ap (span (p .values .to)) (n-values .0)) i; terms = (the-terms ∙ ap (span (p .terms .to)) (n-terms .0)) i; text = span 0 0; alive = (the-alive ∙ ap (span (p .alive .to)) (n-alive .0)) i; map = span 0 0; live = c .wide9 .ensures .0 i }),
+      (λ i. record { typ = c .before .before .before .before .before .before .before .wide4 .ensures .0 i; kind = c .before .before .before .before .before .before .wide5 .ensures .0 i; flag = c .before .before .before .before .before .wide6 .ensures .0 i; held = 0; rows = c .before .before .before .before .wide7 .ensures .0 i; work = p .work + p .rows; count = c .before .before .wide8 .ensures .0 i; unit = c .before .words-per-value .ensures .0 i; ids = (the-ids ∙ ap (span (p .ids .to)) (n-ids .0)) i; offsets = (the-offsets ∙ ap (span (p .offsets .to)) (n-offsets .0)) i; values = (the-values ∙ ap (span (p .values .to)) (n-values .0)) i; terms = (the-terms ∙ ap (span (p .terms .to)) (n-terms .0)) i; text = span 0 0; alive = (the-alive ∙ ap (span (p .alive .to)) (n-alive .0)) i; map = span 0 0; live = c .wide9 .ensures .0 i; least = r .least; greatest = r .greatest }),
       record { work = omega (arith, c .before .before .before .before .wide7 .ensures .1); ids = let q = ap (λ (x : Span). x .to) the-ids in omega (arith, n-ids .1); offsets = let q = ap (λ (x : Span). x .to) the-offsets in omega (arith, n-offsets .1); values = let q = ap (λ (x : Span). x .to) the-values in omega (arith, n-values .1); terms = let q = ap (λ (x : Span). x .to) the-terms in omega (arith, n-terms .1); alive = let q = ap (λ (x : Span). x .to) the-alive in omega (arith, n-alive .1) },
     )
 

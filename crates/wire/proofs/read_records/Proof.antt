@@ -1,5 +1,3 @@
-use native.Mathlib.Omega.{arith}
-use Rattle.definitions.specs.Segment.{recordWidth}
 use Rattle.definitions.specs.Wire.{wordSections}
 use Rattle.wire.proofs.Sections as laws
 use borrow.Author.Needs.{needs}
@@ -10,7 +8,7 @@ section-requires : tie.Need-section-requires
 section-requires c κs = (c .before .before .pre .0 .bounded, c .before .before .pre .0 .stands)
 
 fill-records-requires : tie.Need-fill-records-requires
-fill-records-requires c κs = laws.group-ok recordWidth 4294967296 1 _ _ _ _ (c .before .before .before .before .pre .0) (c .before .section .ensures) (λ h. omega (arith, h, c .before .before .before .before .pre .1))
+fill-records-requires c κs = laws.records-ok _ _ _ _ (c .before .before .before .before .pre .0) (c .before .section .ensures) (c .before .before .before .before .pre .1)
 
 same-length : tie.Need-same-length
 same-length c = search needs

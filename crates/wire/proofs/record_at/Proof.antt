@@ -1,53 +1,49 @@
 use mathlib.Core.Path.{refl, ap, _∙_}
-use Prim.Native.Nat.{_+_, _-_}
-use native.Mathlib.Omega.{arith}
-use lib.ListN.{length}
+use mathlib.Core.List.{List}
+use Prim.Native.Nat.{ℕ}
+use lib.ListN.{length, take}
 use borrow.Author.Needs.{needs}
-use Rattle.definitions.specs.Segment.{recordWidth}
+use Rattle.definitions.specs.Lists.{allBelow}
+use Rattle.definitions.specs.Segment.{recordWidth, narrowNumbers}
+use Rattle.segment.specs.Records.{rowOf}
 use Rattle.lists.proofs.Parts.{part-lent, part-length}
-use Rattle.runs.proofs.Laws.{put-whole, below-part}
 use Rattle.wire.proofs.record_at.Statement.{statement}
 use Rattle.wire.proofs.record_at.Tie as tie
 
 add-to : tie.Need-add-to
 add-to c = search needs
 
-mul-fill-numbers : tie.Need-mul-fill-numbers
-mul-fill-numbers c = search needs
+mul-row-of : tie.Need-mul-row-of
+mul-row-of c = search needs
 
-sub-fill-numbers : tie.Need-sub-fill-numbers
-sub-fill-numbers c = search needs
+sub-row-of : tie.Need-sub-row-of
+sub-row-of c = search needs
 
-part-fill-numbers-start : tie.Need-part-fill-numbers-start
-part-fill-numbers-start c = search needs
+part-row-of-start : tie.Need-part-row-of-start
+part-row-of-start c = search needs
 
-part-fill-numbers-end : tie.Need-part-fill-numbers-end
-part-fill-numbers-end c = search needs
+part-row-of-end : tie.Need-part-row-of-end
+part-row-of-end c = search needs
 
-slice-aggregate-fill-numbers : tie.Need-slice-aggregate-fill-numbers
-slice-aggregate-fill-numbers c = search needs
-
-fill-numbers-requires : tie.Need-fill-numbers-requires
-fill-numbers-requires c κs =
-    let s = c .before .before .before in
-    let m = part-length recordWidth (s .args .at) (s .args .words .now) (s .pre .1) in
-    (below-part 4294967296 (s .args .at) (s .args .at + recordWidth - s .args .at) (s .args .words .now) (s .pre .0), omega arith)
+row-of-requires : tie.Need-row-of-requires
+row-of-requires c κs =
+    let s = c .before .before in
+    let p = part-lent (s .args .at) recordWidth recordWidth (s .args .words .now) refl in
+    (ap length p ∙ part-length recordWidth (s .args .at) (s .args .words .now) (s .pre .0), ap (λ (l : List ℕ). allBelow 4294967296 (take narrowNumbers l)) p ∙ s .pre .1)
 
 returns : tie.Need-returns
 returns c =
-    let s = c .before .before .before .before .before in
-    let p = part-lent (s .args .at) recordWidth recordWidth (s .args .words .now) refl in
-    c .before .fill-numbers .ensures ∙ put-whole _ _ (ap length p ∙ part-length recordWidth (s .args .at) (s .args .words .now) (s .pre .1)) ∙ p
+    let s = c .before .before .before in
+    c .row-of .ensures ∙ ap rowOf (part-lent (s .args .at) recordWidth recordWidth (s .args .words .now) refl)
 
 pub record-at-spec : {M : Type 1} → statement M
 record-at-spec =
     tie.close
     (tie.spec
     add-to
-    mul-fill-numbers
-    sub-fill-numbers
-    part-fill-numbers-start
-    part-fill-numbers-end
-    slice-aggregate-fill-numbers
-    fill-numbers-requires
+    mul-row-of
+    sub-row-of
+    part-row-of-start
+    part-row-of-end
+    row-of-requires
     returns)

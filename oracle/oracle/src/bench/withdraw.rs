@@ -145,7 +145,7 @@ fn change(set: &mut AliveSet, mark: &Mark) -> u64 {
 
 /// Over the record, the words and the number of rows that changed last.
 fn sum(set: &AliveSet, changed: u64) -> u64 {
-    checksum(&set.record, &[], &[&set.words[..], &[changed]].concat())
+    checksum(&set.record.0, &[], &[&set.words[..], &[changed]].concat())
 }
 
 #[cfg(test)]

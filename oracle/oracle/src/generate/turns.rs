@@ -4,12 +4,12 @@ use crate::rng::Rng;
 use crate::wire::Record;
 use crate::withdraw::{AliveSet, Mark, Rows};
 
-/// A record that passes 2, 3 and 6, mostly with an alive set, and its words. What else stands in the record
-/// is not asked for, so it may be anything.
+/// A record that passes 2, 3 and 6, mostly with an alive set, and its words. What else stands in the record,
+/// least and greatest value among it, is not asked for, so it may be anything.
 pub fn alive(rng: &mut Rng) -> AliveSet {
     let flag = !rng.one_in(12) as u32;
     let rows = if flag == 1 { rows(rng) } else { any(rng) };
-    let mut record: Record = std::array::from_fn(|_| any(rng));
+    let mut record = Record(std::array::from_fn(|_| any(rng)));
     (record[2], record[7], record[8]) = (rows, flag, rows);
     let mut set = AliveSet { record, words: vec![] };
     if flag == 1 {

@@ -1,11 +1,11 @@
 //! Converters that are wrong on purpose.
-use super::counts::split;
 use super::listeners::{in_words, lengths_by, termless, two_if_unknown};
-use super::{Slip, put_before, put_in_place, slip};
+use super::pairs::{self, alive, right};
+use super::{Slip, put_before, put_in_place, slip, split};
 use crate::convert::{self, CHECKS, Call, Check, Converted, Outcome};
 use crate::ours::NewLists;
 use crate::table;
-use crate::wire::{IP, Record, Sections, Seg, width};
+use crate::wire::{IP, Pair, Record, Sections, Seg, width};
 
 #[derive(Clone, Copy)]
 pub enum How {
@@ -17,6 +17,8 @@ pub enum How {
     Check(u32, Check),
     /// The number of alive rows tested right after check k.
     CountAfter(u32),
+    /// The pair tested right after check k.
+    PairAfter(u32),
     /// Something else is written.
     Write(fn(&Seg, &mut Converted)),
     /// Something else is left in memory.
@@ -96,14 +98,14 @@ pub const SLIPS: &[Slip] = &[
     wrong("converter: 4 by words", How::Check(4, |c| table::runs_of(&in_words(&c.segment())))),
     wrong(
         "converter: 5 not for terms on addresses",
-        How::Check(5, |c| table::contents_of(&termless(&c.segment()))),
+        How::Check(5, |c| convert::pair(c) || table::contents_of(&termless(&c.segment()))),
     ),
     wrong(
         "converter: 5 not for equal terms",
         How::Check(5, |c| {
             let mut s = c.segment();
             s.terms.dedup();
-            table::contents_of(&s)
+            convert::pair(c) || table::contents_of(&s)
         }),
     ),
     wrong(
@@ -114,9 +116,44 @@ pub const SLIPS: &[Slip] = &[
                 |row: usize| s.alive.as_ref().is_none_or(|words| words[row / 64] >> (row % 64) & 1 == 1);
             let values = s.offsets.windows(2).enumerate().filter(|(row, _)| alive(*row));
             let values = values.flat_map(|(_, w)| s.values[w[0] as usize..w[1] as usize].to_vec()).collect();
-            table::contents_of(&Seg { values, ..s.clone() })
+            convert::pair(c) || table::contents_of(&Seg { values, ..s.clone() })
         }),
     ),
+    wrong("converter: 5 without the pair", How::Check(5, without_pair)),
+    wrong("converter: 5 by the least value alone", How::Check(5, |c| by(c, |p, s| p[0] != right(s)[0]))),
+    wrong("converter: 5 by the greatest value alone", How::Check(5, |c| by(c, |p, s| p[1] != right(s)[1]))),
+    wrong(
+        "converter: 5 by the pair of the alive rows' values",
+        How::Check(5, |c| by(c, |p, s| p != alive(s))),
+    ),
+    wrong(
+        "converter: 5 by the pair of the rows' first values",
+        How::Check(5, |c| by(c, |p, s| p != pairs::first_values(s))),
+    ),
+    wrong(
+        "converter: 5 by the pair not without values",
+        How::Check(5, |c| by(c, |p, s| table::untrue(p, s) && !s.values.is_empty())),
+    ),
+    wrong(
+        "converter: 5 by the pair not for other types",
+        How::Check(5, |c| by(c, |p, s| table::untrue(p, s) && s.ty <= 1)),
+    ),
+    wrong(
+        "converter: 5 by the pair not with an alive set",
+        How::Check(5, |c| by(c, |p, s| table::untrue(p, s) && s.alive.is_none())),
+    ),
+    wrong(
+        "converter: 5 not for 0 and 0",
+        How::Check(5, |c| by(c, |p, s| table::untrue(p, s) && p != [0, 0])),
+    ),
+    wrong("converter: 5 by a pair from 0", How::Check(5, |c| by_pair(c, pairs::from_zero))),
+    wrong("converter: 5 by the unsigned order for I64", How::Check(5, |c| by_pair(c, pairs::unsigned))),
+    wrong("converter: 5 by the signed order for U64", How::Check(5, |c| by_pair(c, pairs::signed))),
+    wrong("converter: 5 by a pair of times", How::Check(5, |c| by_pair(c, pairs::of_times))),
+    wrong("converter: 5 by a pair without the last value", How::Check(5, |c| by_pair(c, pairs::but_last))),
+    wrong("converter: the pair tested before 4", How::PairAfter(3)),
+    wrong("converter: the pair tested after 6", How::PairAfter(6)),
+    wrong("converter: the pair tested after 11", How::PairAfter(11)),
     wrong("converter: 6 for an alive set", How::Check(6, |c| record(c)[7] == 1 || convert::count(c))),
     wrong(
         "converter: 6 for the row after the last alone",
@@ -230,6 +267,20 @@ pub const SLIPS: &[Slip] = &[
             new.record[8] = new.ids.iter().filter(|&&row| old.is_alive(row)).count() as u32
         }),
     ),
+    wrong("converter: the pair dropped", How::Write(|_, new| new.record.set_pair([0, 0]))),
+    wrong(
+        "converter: the pair of the alive rows' values",
+        How::Write(|old, new| new.record.set_pair(alive(old))),
+    ),
+    wrong("converter: the least value twice", How::Write(|old, new| new.record.set_pair([right(old)[0]; 2]))),
+    wrong(
+        "converter: the low halves of the pair",
+        How::Write(|old, new| new.record.set_pair(right(old).map(|word| word as u32 as u64))),
+    ),
+    wrong(
+        "converter: the high half of the pair first",
+        How::Write(|old, new| new.record.set_pair(right(old).map(|word| word.rotate_left(32)))),
+    ),
     wrong(
         "converter: an id beyond the new ids",
         How::Leave(|outcome, lists| {
@@ -289,6 +340,21 @@ fn record(call: &Call) -> Record {
     call.sections.records[0]
 }
 
+fn without_pair(call: &Call) -> bool {
+    table::contents_of(&call.segment())
+}
+
+/// 5 by another test of the pair.
+fn by(call: &Call, fails: fn(Pair, &Seg) -> bool) -> bool {
+    without_pair(call) || fails(record(call).pair(), &call.segment())
+}
+
+/// 5 by another pair of type and values.
+fn by_pair(call: &Call, of: pairs::PairOf) -> bool {
+    let s = call.segment();
+    without_pair(call) || record(call).pair() != of(s.ty, &s.values)
+}
+
 /// The model as a converter, with a slip or none: the answer's number.
 pub fn convert(how: Option<How>, sections: &Sections, lists: &mut NewLists) -> u32 {
     let call = Call { sections, space: lists.space() };
@@ -297,7 +363,8 @@ pub fn convert(how: Option<How>, sections: &Sections, lists: &mut NewLists) -> u
         Some(How::Before(k, other)) => put_before(&mut checks, k, other),
         Some(How::Skip(k)) => checks.retain(|&(number, _)| number != k),
         Some(How::Check(k, check)) => put_in_place(&mut checks, k, check),
-        Some(How::CountAfter(k)) => split(&mut checks, k, convert::alive_bits, convert::count),
+        Some(How::CountAfter(k)) => split(&mut checks, 6, k, convert::alive_bits, convert::count),
+        Some(How::PairAfter(k)) => split(&mut checks, 5, k, without_pair, convert::pair),
         _ => {}
     }
     let mut outcome = convert::outcome_by(&checks, &call);

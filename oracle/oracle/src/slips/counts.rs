@@ -1,5 +1,5 @@
 //! Joiners that go wrong with the records' number of alive rows.
-use super::{How, Slip, put_in_place, slip};
+use super::{How, Slip, slip};
 use crate::model;
 use crate::table::{self, Call};
 use crate::wire::Seg;
@@ -126,11 +126,4 @@ pub fn sums(call: &Call) -> bool {
 
 fn stacked_set(call: &Call) -> bool {
     call.sections.mode == 0 && call.any_segment(given)
-}
-
-/// Splits 6: the bits in its place, the numbers right after check k.
-pub fn split<C>(checks: &mut Vec<(u32, C)>, k: u32, bits: C, counts: C) {
-    put_in_place(checks, 6, bits);
-    let place = super::place(checks, k);
-    checks.insert(place + 1, (6, counts));
 }

@@ -36,7 +36,7 @@ pub const SLIPS: &[Slip] = &[
     slip("4 by words", How::Check(4, |c| c.any_segment(|s| table::runs_of(&in_words(s))))),
     slip(
         "5 not for terms on addresses",
-        How::Check(5, |c| c.any_segment(|s| table::contents_of(&termless(s)))),
+        How::Check(5, |c| table::pairs(c) || c.any_segment(|s| table::contents_of(&termless(s)))),
     ),
     slip(
         "5 for the address of zeros",
@@ -54,7 +54,7 @@ pub const SLIPS: &[Slip] = &[
         How::Check(5, |c| {
             let mut input = c.input().clone();
             misread(&mut input, |s| s.values.len());
-            input.segs.iter().any(table::contents_of)
+            table::pairs(c) || input.segs.iter().any(table::contents_of)
         }),
     ),
     slip("10 not for addresses beside numbers", How::Check(10, |c| types_if(c, |input| as_type(input, 1)))),

@@ -1,9 +1,10 @@
 //! Time orders that are wrong on purpose.
 use std::cmp::Reverse;
 
-use super::counts::{given, split, sums, wrong as wrong_count};
+use super::counts::{given, sums, wrong as wrong_count};
 use super::listeners::{lengths_by, two_if_unknown};
-use super::{Slip, put_before, put_in_place, slip};
+use super::pairs::{self, right};
+use super::{Slip, put_before, put_in_place, slip, split};
 use crate::model;
 use crate::order::{self, CHECKS, Call, Check, Outcome};
 use crate::ours::Addresses;
@@ -20,6 +21,8 @@ pub enum How {
     Check(u32, Check),
     /// The records' numbers of alive rows tested right after check k.
     CountsAfter(u32),
+    /// The records' pairs tested right after check k.
+    PairsAfter(u32),
     /// Other addresses.
     Sort(fn(&[Seg]) -> Vec<[u32; 2]>),
     /// Something else is left in memory.
@@ -61,6 +64,56 @@ pub const SLIPS: &[Slip] = &[
         "time order: 3 for type 6",
         How::Check(3, |c| order::unknown(c) || c.join.sections.records.iter().any(|r| r[0] == IP)),
     ),
+    wrong("time order: 5 without the pairs", How::Check(5, |c| pairs::without(&c.join))),
+    wrong(
+        "time order: 5 by the least values alone",
+        How::Check(5, |c| pairs::by(&c.join, |p, s| p[0] != right(s)[0])),
+    ),
+    wrong(
+        "time order: 5 by the greatest values alone",
+        How::Check(5, |c| pairs::by(&c.join, |p, s| p[1] != right(s)[1])),
+    ),
+    wrong(
+        "time order: 5 by the pairs of integers alone",
+        How::Check(5, |c| pairs::by(&c.join, |p, s| table::untrue(p, s) && s.ty <= 1)),
+    ),
+    wrong(
+        "time order: 5 by the pairs of times alone",
+        How::Check(5, |c| pairs::by(&c.join, |p, s| table::untrue(p, s) && s.ty == 7)),
+    ),
+    wrong(
+        "time order: 5 by the pairs not for no column",
+        How::Check(5, |c| pairs::by(&c.join, |p, s| table::untrue(p, s) && s.ty != 255)),
+    ),
+    wrong(
+        "time order: 5 by the pairs not without values",
+        How::Check(5, |c| pairs::by(&c.join, |p, s| table::untrue(p, s) && !s.values.is_empty())),
+    ),
+    wrong(
+        "time order: 5 by the pairs not where no row is alive",
+        How::Check(5, |c| pairs::by(&c.join, |p, s| table::untrue(p, s) && table::alive_rows(s) > 0)),
+    ),
+    wrong(
+        "time order: 5 by the first segment's pair alone",
+        How::Check(5, |c| {
+            pairs::without(&c.join) || table::paired(&c.join).take(1).any(|(p, s)| table::untrue(p, s))
+        }),
+    ),
+    wrong(
+        "time order: 5 by the pairs' low halves",
+        How::Check(5, |c| pairs::by(&c.join, |p, s| p.map(|w| w as u32) != right(s).map(|w| w as u32))),
+    ),
+    wrong("time order: 5 by pairs of times", How::Check(5, |c| pairs::by_pair(&c.join, pairs::of_times))),
+    wrong(
+        "time order: 5 by the unsigned order for I64",
+        How::Check(5, |c| pairs::by_pair(&c.join, pairs::unsigned)),
+    ),
+    wrong("time order: the pairs tested before 19", How::PairsAfter(3)),
+    wrong("time order: the pairs tested before 4", How::PairsAfter(19)),
+    wrong("time order: the pairs tested after 6", How::PairsAfter(6)),
+    wrong("time order: the pairs tested after 7", How::PairsAfter(7)),
+    wrong("time order: the pairs tested after 11", How::PairsAfter(11)),
+    wrong("time order: the pairs tested after 12", How::PairsAfter(12)),
     wrong(
         "time order: 6 for an alive set",
         How::Check(6, |c| order::alive_sets(c) || c.join.any_segment(|s| s.alive.is_some())),
@@ -475,7 +528,10 @@ pub fn time_order(how: Option<How>, sections: &Sections, lists: &mut Addresses) 
         Some(How::Skip(k)) => checks.retain(|&(number, _)| number != k),
         Some(How::Check(k, check)) => put_in_place(&mut checks, k, check),
         Some(How::CountsAfter(k)) => {
-            split(&mut checks, k, order::alive_bits, |c| table::counts(&c.join));
+            split(&mut checks, 6, k, order::alive_bits, |c| table::counts(&c.join));
+        }
+        Some(How::PairsAfter(k)) => {
+            split(&mut checks, 5, k, |c| pairs::without(&c.join), |c| table::pairs(&c.join));
         }
         _ => {}
     }

@@ -67,6 +67,21 @@ pub const SLIPS: &[Slip] = &[
         "withdraw: 3 for no column with a kind",
         How::Check(3, |c| withdraw::unknown(c) || c.set.record[0] == 255 && c.set.record[1] > 0),
     ),
+    wrong(
+        "withdraw: 3 for no column with a pair",
+        How::Check(3, |c| withdraw::unknown(c) || c.set.record[0] == 255 && c.set.record.pair() != [0, 0]),
+    ),
+    wrong(
+        "withdraw: 6 for a pair of another type than 0 and 1",
+        How::Check(6, |c| withdraw::alive_set(c) || c.set.record[0] > 1 && c.set.record.pair() != [0, 0]),
+    ),
+    wrong(
+        "withdraw: 6 for a least value above the greatest",
+        How::Check(6, |c| {
+            let [least, greatest] = c.set.record.pair();
+            withdraw::alive_set(c) || least > greatest
+        }),
+    ),
     wrong("withdraw: 6 without the number", How::Check(6, withdraw::past_the_rows)),
     wrong("withdraw: 6 not for a bit past the rows that is counted", How::Check(6, withdraw::wrong_count)),
     wrong(
@@ -269,6 +284,42 @@ pub const SLIPS: &[Slip] = &[
         }),
     ),
     wrong(
+        "withdraw: the pair goes with a change",
+        How::Row(|set, alive, row| {
+            let changed = right(set, alive, row);
+            if changed > 0 {
+                set.record.set_pair([0, 0]);
+            }
+            changed
+        }),
+    ),
+    wrong(
+        "withdraw: the pair goes once no row is alive",
+        How::Row(|set, alive, row| {
+            let changed = right(set, alive, row);
+            if set.count() == 0 {
+                set.record.set_pair([0, 0]);
+            }
+            changed
+        }),
+    ),
+    wrong(
+        "withdraw: the halves of the pair exchanged",
+        How::Row(|set, alive, row| {
+            let changed = right(set, alive, row);
+            set.record.set_pair(set.record.pair().map(|word| word.rotate_left(32)));
+            changed
+        }),
+    ),
+    wrong(
+        "withdraw: the number in the record's last place too",
+        How::Row(|set, alive, row| {
+            let changed = right(set, alive, row);
+            *set.record.0.last_mut().unwrap() = set.count();
+            changed
+        }),
+    ),
+    wrong(
         "withdraw: a row named twice counted twice",
         How::Rows(|set, mark| counted_first(set, mark, |_| true)),
     ),
@@ -327,7 +378,7 @@ pub const SLIPS: &[Slip] = &[
                     mark.rows().iter().copied().take_while(|&row| row < set.rows()).collect();
                 if set.flag() == 1 {
                     each(&mut set, mark.alive, &present);
-                    lent.record.lent().copy_from_slice(&set.record);
+                    lent.record.lent().copy_from_slice(&set.record.0);
                     lent.words.lent().copy_from_slice(&set.words);
                 }
             }

@@ -33,8 +33,10 @@ A sheet, here of two days:
   segment type Str kind Full values \"Can\" \"Air\"
 
 Lists may go on over lines. 'withdrawn 1 5' withdraws rows of a segment in an ordered join.
-Numbers are decimal, or hexadecimal after 0x. Values of type IpAddr, the addresses of listeners,
-are written as IPv6 or IPv4 addresses. FORMAT.md has the whole of it.
+'least -7' and 'greatest 5' state what an I64 or U64 column's record holds; they are found if they
+are left out, and refused if they are untrue. Numbers are decimal, or hexadecimal after 0x. Values
+of type IpAddr, the addresses of listeners, are written as IPv6 or IPv4 addresses. FORMAT.md has
+the whole of it.
 ";
 
 const JOIN: &str = "\
@@ -50,7 +52,8 @@ A refusal is listed as its answer's number alone; its name and meaning go to sta
   --rows          print the rows in the listing's place: each that has values, its number (from
                   0) and its values as in a sheet
   --numbers       print the numbers of the result in the listing's place: type, class, rows, how
-                  many elements each list has, and how many term bytes were copied
+                  many elements each list has, how many term bytes were copied, and the least and
+                  the greatest value of an I64 or U64 column as unsigned words (else 0 and 0)
   --output FILE   write the joined column too, as one segment to be joined again: sheets of
                   results can be put together ('cat week1 week2 | jadmirus join -').
                   '-': to standard output, in the listing's place
@@ -157,8 +160,9 @@ Exit status: 0 written; 2 failed (usage, files, memory).
 const SHOW: &str = "\
 jadmirus show FILE [--output FILE] [--from sheet|wire]
 
-Writes a wire form as a sheet, from which 'jadmirus encode' makes the same bytes again. Lists
-that don't fit the segments' records stand as wholes, with a word on where they differ.
+Writes a wire form as a sheet, from which 'jadmirus encode' makes the same bytes again. A column
+of type I64 or U64 has its record's 'least' and 'greatest' value. Lists that don't fit the
+segments' records stand as wholes, with a word on where they differ.
 
   --output FILE   write to that file instead of standard output
   --from FORM     the form of the input (sheet or wire), if it can't be told
