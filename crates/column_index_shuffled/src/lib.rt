@@ -10,6 +10,7 @@ ghost use Rattle.runs.specs.Put.{put, putIf, RoomIf};
 ghost use Rattle.stands.specs.Width.{idPart, idsOf, totalsOf};
 ghost use Rattle.stands.specs.Look.{widths};
 ghost use Rattle.column_index_shuffled.specs.Order.{orderedWords, Ordered};
+ghost use Rattle.column_index_shuffled.specs.Plain.{isPlain, allPlain, plainWords, Placed};
 use stands::Stand;
 use stands::StandNumbers;
 
@@ -174,6 +175,66 @@ fn write_rows(
     }
 }
 
+// ---- rows of one word each
+
+// Whether each row of the column has one word, which is copied as it stands: a Full column of no addresses (two words) and no ordinals (Bytes, Str), and nothing is made a double (F64).
+fn is_plain(to: u32, p: Stand) -> bool
+    ensures { λ r. ⌜ r ≡ isPlain to p ⌝ }
+{
+    if p.kind != 1 {
+        return false;
+    }
+    if p.unit != 1 {
+        return false;
+    }
+    if p.typ == 3 {
+        return false;
+    }
+    if p.typ == 4 {
+        return false;
+    }
+    if to != 2 {
+        return true;
+    }
+    p.typ == 2
+}
+
+fn all_plain(to: u32, stands: &[StandNumbers]) -> bool
+    ensures { λ r. ⌜ r ≡ allPlain to (now (stands .entry)) ⌝ }
+{
+    let mut s: usize = 0;
+    while s < stands.len() {
+        if !is_plain(to, stands::stand_at(stands, s)) {
+            return false;
+        }
+        s += 1;
+    }
+    true
+}
+
+// Each row's word: of such columns alone there is nothing else to look up.
+fn write_plain(
+    addresses: &[[u32; 2]],
+    stands: &[StandNumbers],
+    values: &[u64],
+    out_values: &mut [u64],
+)
+    requires { ⌜ Placed (now addresses) (now stands) (now values) ⌝ }
+    requires { ⌜ length (now addresses) ≤ length (now «out_values») ⌝ }
+    ensures { λ _. ⌜ now («out_values» .exit) ≡ put 0 (plainWords (now (stands .entry)) (now (values .entry)) (now (addresses .entry))) (now («out_values» .entry)) ⌝ }
+{
+    let mut j: usize = 0;
+    while j < addresses.len() {
+        let a = addresses[j];
+        let p = stands::stand_at(stands, segment::wide(a[0]));
+        let at = p.values.from + segment::wide(a[1]);
+        out_values[j] = values[at];
+        j += 1;
+    }
+}
+
+// ---- an ordered join
+
 // Row ids, offsets and values of the addressed rows. The working bytes hold guesses at ranks meanwhile.
 pub fn ordered_rows(
     class: u32,
@@ -198,6 +259,13 @@ pub fn ordered_rows(
     ensures { λ _. ⌜ now («out_values» .exit) ≡ put 0 (orderedWords to (now (stands .entry)) (now (ids .entry)) (now (offsets .entry)) (now (values .entry)) (now (map .entry)) (now (addresses .entry))) (now («out_values» .entry)) ⌝ }
     ensures { λ _. ⌜ now (work .exit) ≡ replicate (length (now (work .entry))) 0 ⌝ }
 {
+    if class == 0 {
+        if all_plain(to, stands) {
+            write_plain(addresses, stands, values, out_values);
+            runs::zero(work);
+            return;
+        }
+    }
     if ids.len() == 0 {
         write_rows(
             class,

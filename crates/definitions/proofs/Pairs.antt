@@ -10,17 +10,17 @@ use lib.Dec.{T, eqb, ltb, leb, eqb→eq, eqb-refl, lt→ltb, ltb→lt, le→leb,
 use lib.Ieee.Fits.{and-i, and-l, and-r}
 use borrow.Author.Tests.{ltb-true, ltb-false, lt-leb}
 use Rattle.definitions.specs.Lists.{all, concat, isEmpty}
-use Rattle.definitions.specs.Segment.{Segment, Pair}
+use Rattle.definitions.specs.Segment.{Segment, Pair, pair, noPair}
 use Rattle.definitions.specs.Row.{isHeld, heldOf, noType}
 use Rattle.definitions.specs.Types.{I64, U64, F64, isNumerical, greatestI64, isNegative, isLess, firstBy, pairOf, hasType, everyPair, onlyType, numericalType, heldType, typeOf, signedOf, integerOf, isCoercible}
-use Rattle.definitions.specs.ByValues.{everyValue, numericalByValues, heldByValues, typeByValues, coercibleByValues, isLower}
+use Rattle.definitions.specs.ByValues.{everyValue, numericalByValues, heldByValues, typeByValues, coercibleByValues, isLower, IsPair}
 use Rattle.definitions.specs.Join.{encode, asSegment, joinedType}
 use Rattle.definitions.specs.Answer.{pairFits, valuesFit, allCoercible}
 use Rattle.definitions.proofs.Lists.{and3, all-mem, filter-back}
 use Rattle.definitions.proofs.Fit.{fit-values}
 use Rattle.definitions.proofs.Group.{held-facts}
 use Rattle.definitions.proofs.Accept.{or-cases}
-use Rattle.definitions.proofs.Least.{pair-unsigned}
+use Rattle.definitions.proofs.Least.{less-order, more-order, first-in, first-low, pair-unsigned}
 
 -- ---- the order is that of the integers
 
@@ -48,6 +48,33 @@ less-integers t v w h k = go (eqb t I64) (isNegative v) (isNegative w) refl refl
     go true true false p q = refl
     go true false true p q = refl
     go true false false p q = refl
+
+-- so the pair of I64 or U64 values is the least and the greatest of them
+pub pair-extremes : (t w : ℕ) (ws : List ℕ) → T (eqb t I64 || eqb t U64) → ((x : ℕ) → List·Memᴰ x (w ∷ ws) → x < 2 ^ 64) → IsPair t (w ∷ ws) (pairOf t (w ∷ ws))
+unfolding pairOf
+pair-extremes t w ws h word = go (eqb t I64 || eqb t U64) h
+  where
+    least : ℕ
+    least = firstBy (isLess t) w ws
+
+    greatest : ℕ
+    greatest = firstBy (λ v u. isLess t u v) w ws
+
+    least-in : List·Memᴰ least (w ∷ ws)
+    least-in = first-in (less-order t) w ws
+
+    greatest-in : List·Memᴰ greatest (w ∷ ws)
+    greatest-in = first-in (more-order t) w ws
+
+    go : (b : Bool) → T b → IsPair t (w ∷ ws) (cond b (pair least greatest) noPair)
+    go false k = absurd k
+    go true k =
+        record {
+          least-in = least-in;
+          greatest-in = greatest-in;
+          least-low = λ x m. sym (less-integers t x least (word x m) (word least least-in)) ∙ first-low (less-order t) w ws m;
+          greatest-high = λ x m. sym (less-integers t greatest x (word greatest greatest-in) (word x m)) ∙ first-low (more-order t) w ws m;
+        }
 
 -- ---- a test that the first one passes is passed by all, if it goes with the order
 

@@ -10,7 +10,7 @@ use Rattle.definitions.specs.Join.{kindOf, asSegment}
 use Rattle.definitions.specs.Outcome.{Lent, lentOf, Outcome, accepted, refused}
 use Rattle.definitions.specs.TimeOrder.{sorted, timeNumberOf}
 use Rattle.definitions.specs.Book.{Call, Standing, first, result, Entry, callLent, callOutcome, callAnswer, afterCall, answersOf, standsAfter, firstEntry, oneJoin, standingOf, joinedEntry, bookAnswer, bookAfterCall, bookAnswers, bookAfter}
-use Rattle.definitions.specs.Sheet.{plain, withAlive, withPair, none, full, one, str, dropped, a, b, five, oldFive, nine, newKind, numbered, memory, call, stacked, inOrder, lending, outcomeOf, sheetOf, timeSheetOf, accepts, paired, refuses, Case, case}
+use Rattle.definitions.specs.Sheet.{plain, withAlive, withPair, none, full, one, str, dropped, a, b, five, oldFive, nine, newKind, numbered, memory, call, stacked, inOrder, lending, outcomeOf, sheetOf, timeSheetOf, accepts, carrying, refuses, Case, case}
 
 -- ---- C1 to C12
 
@@ -29,24 +29,24 @@ cases =
     -- C4
     ∷ case (stacked 1 (none 3 ∷ [])) (accepts 1 1 3 [] [] [] [] [])
     -- C5
-    ∷ case (stacked 255 (five ∷ [])) (paired 7 9 (accepts 1 2 3 (0 ∷ 2 ∷ []) (0 ∷ 2 ∷ 3 ∷ []) (7 ∷ 8 ∷ 9 ∷ []) [] []))
+    ∷ case (stacked 255 (five ∷ [])) (carrying 7 9 (accepts 1 2 3 (0 ∷ 2 ∷ []) (0 ∷ 2 ∷ 3 ∷ []) (7 ∷ 8 ∷ 9 ∷ []) [] []))
     -- C6
     ∷ case (inOrder 255 (withAlive (5 ∷ []) five ∷ []) (at 0 2 ∷ at 0 0 ∷ []))
-    (paired 7 9 (accepts 1 2 2 (0 ∷ 1 ∷ []) (0 ∷ 1 ∷ 3 ∷ []) (9 ∷ 7 ∷ 8 ∷ []) [] []))
+    (carrying 7 9 (accepts 1 2 2 (0 ∷ 1 ∷ []) (0 ∷ 1 ∷ 3 ∷ []) (9 ∷ 7 ∷ 8 ∷ []) [] []))
     -- C7
-    ∷ case (inOrder 255 (withAlive (4 ∷ []) five ∷ []) (at 0 2 ∷ [])) (paired 9 9 (accepts 1 0 1 [] [] (9 ∷ []) [] []))
+    ∷ case (inOrder 255 (withAlive (4 ∷ []) five ∷ []) (at 0 2 ∷ [])) (carrying 9 9 (accepts 1 0 1 [] [] (9 ∷ []) [] []))
     -- C8
     ∷ case (inOrder 255 (withAlive (2 ∷ []) five ∷ []) (at 0 1 ∷ [])) (accepts 255 0 1 [] [] [] [] [])
     -- C9, without and with an alive set
-    ∷ case (inOrder 255 (nine ∷ []) (at 0 1 ∷ at 0 0 ∷ [])) (paired 5 6 (accepts 1 1 2 (0 ∷ 1 ∷ []) [] (6 ∷ 5 ∷ []) [] []))
-    ∷ case (inOrder 255 (withAlive (3 ∷ []) nine ∷ []) (at 0 1 ∷ at 0 0 ∷ [])) (paired 5 6 (accepts 1 0 2 [] [] (6 ∷ 5 ∷ []) [] []))
+    ∷ case (inOrder 255 (nine ∷ []) (at 0 1 ∷ at 0 0 ∷ [])) (carrying 5 6 (accepts 1 1 2 (0 ∷ 1 ∷ []) [] (6 ∷ 5 ∷ []) [] []))
+    ∷ case (inOrder 255 (withAlive (3 ∷ []) nine ∷ []) (at 0 1 ∷ at 0 0 ∷ [])) (carrying 5 6 (accepts 1 0 2 [] [] (6 ∷ 5 ∷ []) [] []))
     -- C10
     ∷ case (stacked 255 (one 0 0xffffffffffffffff ∷ one 1 9223372036854775806 ∷ []))
-    (paired 0xffffffffffffffff 9223372036854775806 (accepts 0 0 2 [] [] (0xffffffffffffffff ∷ 9223372036854775806 ∷ []) [] []))
+    (carrying 0xffffffffffffffff 9223372036854775806 (accepts 0 0 2 [] [] (0xffffffffffffffff ∷ 9223372036854775806 ∷ []) [] []))
     ∷ case (stacked 255 (one 0 0xffffffffffffffff ∷ one 1 9223372036854775807 ∷ []))
     (accepts 2 0 2 [] [] (0xbff0000000000000 ∷ 0x43e0000000000000 ∷ []) [] [])
     -- C11
-    ∷ case (stacked 0 (one 1 9223372036854775807 ∷ [])) (paired 9223372036854775807 9223372036854775807 (accepts 0 0 1 [] [] (9223372036854775807 ∷ []) [] []))
+    ∷ case (stacked 0 (one 1 9223372036854775807 ∷ [])) (carrying 9223372036854775807 9223372036854775807 (accepts 0 0 1 [] [] (9223372036854775807 ∷ []) [] []))
     ∷ case (stacked 0 (one 1 9223372036854775808 ∷ [])) (refuses 10)
     -- C12
     ∷ case (inOrder 255 (withAlive (2 ∷ []) (str (0 ∷ 1 ∷ []) (a ∷ b ∷ [])) ∷ []) (at 0 1 ∷ [])) (accepts 4 0 1 [] [] (0 ∷ []) (b ∷ []) (0 ∷ 0 ∷ []))
@@ -70,7 +70,7 @@ slips : List Case
 slips =
     -- the offset of a row without values is not kept: C5's segment, which has one, before one and after one
     case (stacked 255 (five ∷ none 1 ∷ five ∷ []))
-    (paired 7 9 (accepts 1 2 7 (0 ∷ 2 ∷ 4 ∷ 6 ∷ []) (0 ∷ 2 ∷ 3 ∷ 5 ∷ 6 ∷ []) (7 ∷ 8 ∷ 9 ∷ 7 ∷ 8 ∷ 9 ∷ []) [] []))
+    (carrying 7 9 (accepts 1 2 7 (0 ∷ 2 ∷ 4 ∷ 6 ∷ []) (0 ∷ 2 ∷ 3 ∷ 5 ∷ 6 ∷ []) (7 ∷ 8 ∷ 9 ∷ 7 ∷ 8 ∷ 9 ∷ []) [] []))
     -- the value of a withdrawn row counts for the type: a U64 value above all of I64, a negative I64 value, and in the coercion to a required type
     ∷ case (inOrder 255 (withAlive (1 ∷ []) (full 1 (5 ∷ 0xffffffffffffffff ∷ [])) ∷ one 0 0xffffffffffffffff ∷ []) (at 1 0 ∷ at 0 0 ∷ []))
     (accepts 2 0 2 [] [] (0xbff0000000000000 ∷ 0x4014000000000000 ∷ []) [] [])
@@ -78,7 +78,7 @@ slips =
     (accepts 2 0 2 [] [] (0x43e0000000000000 ∷ 0x4014000000000000 ∷ []) [] [])
     ∷ case (inOrder 0 (withAlive (1 ∷ []) (full 1 (5 ∷ 9223372036854775808 ∷ [])) ∷ []) (at 0 0 ∷ [])) (refuses 10)
     -- an Optional segment without an alive set is of class 1, though every row has a value
-    ∷ case (stacked 255 (nine ∷ [])) (paired 5 6 (accepts 1 1 2 (0 ∷ 1 ∷ []) [] (5 ∷ 6 ∷ []) [] []))
+    ∷ case (stacked 255 (nine ∷ [])) (carrying 5 6 (accepts 1 1 2 (0 ∷ 1 ∷ []) [] (5 ∷ 6 ∷ []) [] []))
     -- terms are not compared by their lengths first
     ∷ case (stacked 255 (str (0 ∷ []) (b ∷ []) ∷ str (0 ∷ []) ((97 ∷ 97 ∷ []) ∷ []) ∷ []))
     (accepts 4 0 2 [] [] (1 ∷ 0 ∷ []) ((97 ∷ 97 ∷ []) ∷ b ∷ []) (1 ∷ 0 ∷ []))
@@ -102,7 +102,7 @@ exampleAnswer (orders ss space) = timeNumberOf (timeSheetOf ss space .answer)
 examples : List Example
 examples =
     joins (stacked 255 (replicate 257 (none 0)))
-    ∷ joins (announced ((1 ∷ 1 ∷ 1 ∷ 0 ∷ 0 ∷ 1 ∷ 0 ∷ 0 ∷ 1 ∷ 0 ∷ 0 ∷ []) ∷ []))
+    ∷ joins (announced ((1 ∷ 1 ∷ 1 ∷ 0 ∷ 0 ∷ 1 ∷ 0 ∷ 0 ∷ 1 ∷ 5 ∷ 5 ∷ []) ∷ []))
     ∷ joins (stacked 255 (one 8 0 ∷ []))
     ∷ joins (stacked 255 (plain 1 2 2 (1 ∷ 1 ∷ []) [] (5 ∷ 6 ∷ []) [] ∷ []))
     ∷ joins (stacked 255 (str (0 ∷ 1 ∷ []) (b ∷ a ∷ []) ∷ []))

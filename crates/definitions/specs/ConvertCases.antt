@@ -7,7 +7,7 @@ use lib.ListN.{replicate}
 use Rattle.definitions.specs.Words.{ipAddrOf}
 use Rattle.definitions.specs.Segment.{Segment, SegmentRecord, Sections, Address, recordOf, recordFrom, sectionsOf, address as at}
 use Rattle.definitions.specs.Convert.{converted, isConvertible, convertTooShort, convertChecks, convertAnswer, convertedTo, unconverted, ConvertOutcome, convertOutcome}
-use Rattle.definitions.specs.Sheet.{plain, withAlive, counted, withPair, a, b, five, oldFive, nine, outcomeOf, accepts, paired}
+use Rattle.definitions.specs.Sheet.{plain, withAlive, counted, withPair, a, b, five, oldFive, nine, outcomeOf, accepts, carrying}
 use Rattle.definitions.specs.Join.{Column, joinRules}
 
 -- ---- how the tables are written
@@ -207,9 +207,9 @@ oldJoins-hold :
     ∷ oldJoin 1 (withAlive (4 ∷ []) oldFive ∷ []) (at 0 2 ∷ [])
     ∷ oldJoin 1 (withAlive (2 ∷ []) oldFive ∷ []) (at 0 1 ∷ [])
     ∷ [])
-    ≡ (paired 7 9 (accepts 1 2 3 (0 ∷ 2 ∷ []) (0 ∷ 2 ∷ 3 ∷ []) (7 ∷ 8 ∷ 9 ∷ []) [] []) .column
-    ∷ paired 7 9 (accepts 1 2 2 (0 ∷ 1 ∷ []) (0 ∷ 1 ∷ 3 ∷ []) (9 ∷ 7 ∷ 8 ∷ []) [] []) .column
-    ∷ paired 9 9 (accepts 1 0 1 [] [] (9 ∷ []) [] []) .column
+    ≡ (carrying 7 9 (accepts 1 2 3 (0 ∷ 2 ∷ []) (0 ∷ 2 ∷ 3 ∷ []) (7 ∷ 8 ∷ 9 ∷ []) [] []) .column
+    ∷ carrying 7 9 (accepts 1 2 2 (0 ∷ 1 ∷ []) (0 ∷ 1 ∷ 3 ∷ []) (9 ∷ 7 ∷ 8 ∷ []) [] []) .column
+    ∷ carrying 9 9 (accepts 1 0 1 [] [] (9 ∷ []) [] []) .column
     ∷ accepts 255 0 1 [] [] [] [] [] .column
     ∷ [])
 unfolding oldJoin

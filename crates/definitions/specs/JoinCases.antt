@@ -4,7 +4,7 @@ use Prim.Native.Nat.{ℕ}
 use mathlib.Core.Path.{_≡_, refl}
 use mathlib.Core.List.{List, [], _∷_, map}
 use Rattle.definitions.specs.Lists.{upTo}
-use Rattle.definitions.specs.Sheet.{plain, withAlive, none, full, one, str, dropped, a, b, five, nine, newKind, memory, stacked, inOrder, lending, outcomeOf, sheetOf, accepts, paired, refuses, Case, case}
+use Rattle.definitions.specs.Sheet.{plain, withAlive, none, full, one, str, dropped, a, b, five, nine, newKind, memory, stacked, inOrder, lending, outcomeOf, sheetOf, accepts, carrying, refuses, Case, case}
 use Rattle.definitions.specs.Outcome.{Lent, Answer, accepted, refused}
 use Rattle.definitions.specs.Segment.{address as at}
 
@@ -13,14 +13,14 @@ use Rattle.definitions.specs.Segment.{address as at}
 rowCases : List Case
 rowCases =
     -- kind 4: the values between the offsets by rank, none for a row that is not listed
-    case (stacked 255 (newKind ∷ [])) (paired 7 9 (accepts 1 2 4 (1 ∷ 3 ∷ []) (0 ∷ 2 ∷ 3 ∷ []) (7 ∷ 8 ∷ 9 ∷ []) [] []))
+    case (stacked 255 (newKind ∷ [])) (carrying 7 9 (accepts 1 2 4 (1 ∷ 3 ∷ []) (0 ∷ 2 ∷ 3 ∷ []) (7 ∷ 8 ∷ 9 ∷ []) [] []))
     ∷ case (inOrder 255 (newKind ∷ []) (at 0 3 ∷ at 0 2 ∷ at 0 1 ∷ at 0 0 ∷ []))
-    (paired 7 9 (accepts 1 2 4 (0 ∷ 2 ∷ []) (0 ∷ 1 ∷ 3 ∷ []) (9 ∷ 7 ∷ 8 ∷ []) [] []))
+    (carrying 7 9 (accepts 1 2 4 (0 ∷ 2 ∷ []) (0 ∷ 1 ∷ 3 ∷ []) (9 ∷ 7 ∷ 8 ∷ []) [] []))
     -- Optional: the value at the rank, none for a row that is not listed
-    ∷ case (stacked 255 (plain 1 2 5 (1 ∷ 3 ∷ []) [] (7 ∷ 8 ∷ []) [] ∷ [])) (paired 7 8 (accepts 1 1 5 (1 ∷ 3 ∷ []) [] (7 ∷ 8 ∷ []) [] []))
+    ∷ case (stacked 255 (plain 1 2 5 (1 ∷ 3 ∷ []) [] (7 ∷ 8 ∷ []) [] ∷ [])) (carrying 7 8 (accepts 1 1 5 (1 ∷ 3 ∷ []) [] (7 ∷ 8 ∷ []) [] []))
     -- Full: the value at the row's number; rows stand as the addresses say, over both segments
     ∷ case (inOrder 255 (full 1 (5 ∷ 6 ∷ []) ∷ full 1 (7 ∷ 8 ∷ []) ∷ []) (at 1 1 ∷ at 0 0 ∷ at 1 0 ∷ at 0 1 ∷ []))
-    (paired 5 8 (accepts 1 0 4 [] [] (8 ∷ 5 ∷ 7 ∷ 6 ∷ []) [] []))
+    (carrying 5 8 (accepts 1 0 4 [] [] (8 ∷ 5 ∷ 7 ∷ 6 ∷ []) [] []))
     -- each segment's runs follow the previous segment's: ids, offsets, values and alive words
     ∷ case
     (inOrder 255
@@ -29,15 +29,15 @@ rowCases =
     ∷ plain 1 4 2 (1 ∷ []) (0 ∷ 2 ∷ []) (5 ∷ 6 ∷ []) []
     ∷ [])
     (at 2 0 ∷ at 2 1 ∷ at 1 0 ∷ at 0 1 ∷ []))
-    (paired 5 8 (accepts 1 2 4 (1 ∷ 2 ∷ 3 ∷ []) (0 ∷ 2 ∷ 4 ∷ 6 ∷ []) (5 ∷ 6 ∷ 7 ∷ 8 ∷ 7 ∷ 8 ∷ []) [] []))
+    (carrying 5 8 (accepts 1 2 4 (1 ∷ 2 ∷ 3 ∷ []) (0 ∷ 2 ∷ 4 ∷ 6 ∷ []) (5 ∷ 6 ∷ 7 ∷ 8 ∷ 7 ∷ 8 ∷ []) [] []))
     -- 64 rows have one alive word, row 63 in its highest bit
     ∷ case (lending (memory 12 64) (inOrder 255 (withAlive (0x8000000000000000 ∷ []) (full 1 (upTo 64)) ∷ []) (at 0 63 ∷ [])))
-    (paired 63 63 (accepts 1 0 1 [] [] (63 ∷ []) [] []))
+    (carrying 63 63 (accepts 1 0 1 [] [] (63 ∷ []) [] []))
     -- 65 rows have two, row 64 in the second one's lowest bit
     ∷ case (lending (memory 12 65) (inOrder 255 (withAlive (0 ∷ 1 ∷ []) (full 1 (upTo 65)) ∷ []) (at 0 64 ∷ [])))
-    (paired 64 64 (accepts 1 0 1 [] [] (64 ∷ []) [] []))
+    (carrying 64 64 (accepts 1 0 1 [] [] (64 ∷ []) [] []))
     -- 0 rows have none
-    ∷ case (inOrder 255 (withAlive [] (full 1 []) ∷ one 1 5 ∷ []) (at 1 0 ∷ [])) (paired 5 5 (accepts 1 0 1 [] [] (5 ∷ []) [] []))
+    ∷ case (inOrder 255 (withAlive [] (full 1 []) ∷ one 1 5 ∷ []) (at 1 0 ∷ [])) (carrying 5 5 (accepts 1 0 1 [] [] (5 ∷ []) [] []))
     ∷ []
 
 rowCases-hold : map (λ c. sheetOf (c .lent)) rowCases ≡ map (λ c. c .expected) rowCases
@@ -51,26 +51,26 @@ droppedCases =
     -- no values, no type is required: type 255, class 0, and the row count
     case (stacked 255 (dropped 1 2 ∷ [])) (accepts 255 0 2 [] [] [] [] [])
     -- its type does not count, and its rows do
-    ∷ case (stacked 255 (dropped 2 1 ∷ one 0 5 ∷ [])) (paired 5 5 (accepts 0 1 2 (1 ∷ []) [] (5 ∷ []) [] []))
+    ∷ case (stacked 255 (dropped 2 1 ∷ one 0 5 ∷ [])) (carrying 5 5 (accepts 0 1 2 (1 ∷ []) [] (5 ∷ []) [] []))
     -- nor does the type of one without a value in an alive row
     ∷ case (inOrder 255 (withAlive (1 ∷ []) (plain 2 2 2 (1 ∷ []) [] (0x3ff8000000000000 ∷ []) []) ∷ one 0 5 ∷ []) (at 1 0 ∷ at 0 0 ∷ []))
-    (paired 5 5 (accepts 0 1 2 (0 ∷ []) [] (5 ∷ []) [] []))
+    (carrying 5 5 (accepts 0 1 2 (0 ∷ []) [] (5 ∷ []) [] []))
     -- its category counts
     ∷ case (stacked 255 (dropped 5 1 ∷ one 1 5 ∷ [])) (refuses 10)
     -- its values need no coercion
-    ∷ case (inOrder 0 (withAlive (0 ∷ []) (one 1 9223372036854775808) ∷ one 0 5 ∷ []) (at 1 0 ∷ [])) (paired 5 5 (accepts 0 0 1 [] [] (5 ∷ []) [] []))
+    ∷ case (inOrder 0 (withAlive (0 ∷ []) (one 1 9223372036854775808) ∷ one 0 5 ∷ []) (at 1 0 ∷ [])) (carrying 5 5 (accepts 0 0 1 [] [] (5 ∷ []) [] []))
     -- its terms do not count, nor do they stand in the map
     ∷ case (stacked 255 (plain 4 2 2 [] [] [] (a ∷ []) ∷ str (0 ∷ []) (b ∷ []) ∷ [])) (accepts 4 1 3 (2 ∷ []) [] (0 ∷ []) (b ∷ []) (0 ∷ []))
     ∷ case (inOrder 255 (withAlive (0 ∷ []) (str (0 ∷ []) (a ∷ [])) ∷ str (0 ∷ []) (b ∷ []) ∷ []) (at 1 0 ∷ []))
     (accepts 4 0 1 [] [] (0 ∷ []) (b ∷ []) (0 ∷ []))
     -- it counts as Empty: kind 4 without values is of class 1, Optional of 0 rows of class 0
-    ∷ case (stacked 255 (plain 1 4 1 [] (0 ∷ []) [] [] ∷ one 1 5 ∷ [])) (paired 5 5 (accepts 1 1 2 (1 ∷ []) [] (5 ∷ []) [] []))
-    ∷ case (stacked 255 (dropped 1 0 ∷ one 1 5 ∷ [])) (paired 5 5 (accepts 1 0 1 [] [] (5 ∷ []) [] []))
+    ∷ case (stacked 255 (plain 1 4 1 [] (0 ∷ []) [] [] ∷ one 1 5 ∷ [])) (carrying 5 5 (accepts 1 1 2 (1 ∷ []) [] (5 ∷ []) [] []))
+    ∷ case (stacked 255 (dropped 1 0 ∷ one 1 5 ∷ [])) (carrying 5 5 (accepts 1 0 1 [] [] (5 ∷ []) [] []))
     -- with its alive set: of class 0 if no row is alive; so is no column
-    ∷ case (inOrder 255 (withAlive (0 ∷ []) five ∷ one 1 5 ∷ []) (at 1 0 ∷ [])) (paired 5 5 (accepts 1 0 1 [] [] (5 ∷ []) [] []))
-    ∷ case (inOrder 255 (withAlive (0 ∷ []) (none 2) ∷ one 1 5 ∷ []) (at 1 0 ∷ [])) (paired 5 5 (accepts 1 0 1 [] [] (5 ∷ []) [] []))
+    ∷ case (inOrder 255 (withAlive (0 ∷ []) five ∷ one 1 5 ∷ []) (at 1 0 ∷ [])) (carrying 5 5 (accepts 1 0 1 [] [] (5 ∷ []) [] []))
+    ∷ case (inOrder 255 (withAlive (0 ∷ []) (none 2) ∷ one 1 5 ∷ []) (at 1 0 ∷ [])) (carrying 5 5 (accepts 1 0 1 [] [] (5 ∷ []) [] []))
     -- held, for one alive row has a value, though another has none
-    ∷ case (inOrder 255 (withAlive (6 ∷ []) five ∷ []) (at 0 1 ∷ at 0 2 ∷ [])) (paired 9 9 (accepts 1 1 2 (1 ∷ []) [] (9 ∷ []) [] []))
+    ∷ case (inOrder 255 (withAlive (6 ∷ []) five ∷ []) (at 0 1 ∷ at 0 2 ∷ [])) (carrying 9 9 (accepts 1 1 2 (1 ∷ []) [] (9 ∷ []) [] []))
     -- none is held, and a type is required: the class is by the rows
     ∷ case (stacked 2 (dropped 1 1 ∷ [])) (accepts 2 1 1 [] [] [] [] [])
     ∷ []
@@ -84,12 +84,12 @@ droppedCases-hold = refl
 typeCases : List Case
 typeCases =
     -- the only held type, of two segments and beside no column, though the values would fit I64
-    case (stacked 255 (one 1 5 ∷ none 0 ∷ one 1 6 ∷ [])) (paired 5 6 (accepts 1 0 2 [] [] (5 ∷ 6 ∷ []) [] []))
+    case (stacked 255 (one 1 5 ∷ none 0 ∷ one 1 6 ∷ [])) (carrying 5 6 (accepts 1 0 2 [] [] (5 ∷ 6 ∷ []) [] []))
     -- I64 if every held U64 value is below 9223372036854775807, the second value too
-    ∷ case (stacked 255 (one 0 5 ∷ full 1 (6 ∷ 7 ∷ []) ∷ [])) (paired 5 7 (accepts 0 0 3 [] [] (5 ∷ 6 ∷ 7 ∷ []) [] []))
-    ∷ case (stacked 255 (one 0 5 ∷ full 1 (6 ∷ 9223372036854775807 ∷ []) ∷ [])) (paired 5 9223372036854775807 (accepts 1 0 3 [] [] (5 ∷ 6 ∷ 9223372036854775807 ∷ []) [] []))
+    ∷ case (stacked 255 (one 0 5 ∷ full 1 (6 ∷ 7 ∷ []) ∷ [])) (carrying 5 7 (accepts 0 0 3 [] [] (5 ∷ 6 ∷ 7 ∷ []) [] []))
+    ∷ case (stacked 255 (one 0 5 ∷ full 1 (6 ∷ 9223372036854775807 ∷ []) ∷ [])) (carrying 5 9223372036854775807 (accepts 1 0 3 [] [] (5 ∷ 6 ∷ 9223372036854775807 ∷ []) [] []))
     -- else U64 if no I64 value is negative
-    ∷ case (stacked 255 (one 0 5 ∷ one 1 9223372036854775808 ∷ [])) (paired 5 9223372036854775808 (accepts 1 0 2 [] [] (5 ∷ 9223372036854775808 ∷ []) [] []))
+    ∷ case (stacked 255 (one 0 5 ∷ one 1 9223372036854775808 ∷ [])) (carrying 5 9223372036854775808 (accepts 1 0 2 [] [] (5 ∷ 9223372036854775808 ∷ []) [] []))
     -- else F64: the second value is negative; the least I64 value is
     ∷ case (stacked 255 (full 0 (5 ∷ 0xffffffffffffffff ∷ []) ∷ one 1 9223372036854775808 ∷ []))
     (accepts 2 0 3 [] [] (0x4014000000000000 ∷ 0xbff0000000000000 ∷ 0x43e0000000000000 ∷ []) [] [])
@@ -100,11 +100,11 @@ typeCases =
     ∷ case (stacked 255 (one 1 9223372036854775808 ∷ one 2 0x3ff8000000000000 ∷ []))
     (accepts 2 0 2 [] [] (0x43e0000000000000 ∷ 0x3ff8000000000000 ∷ []) [] [])
     -- the required one, before the only held type: to U64, to I64 and to F64
-    ∷ case (stacked 1 (one 0 9223372036854775807 ∷ [])) (paired 9223372036854775807 9223372036854775807 (accepts 1 0 1 [] [] (9223372036854775807 ∷ []) [] []))
-    ∷ case (stacked 0 (one 1 5 ∷ one 1 6 ∷ [])) (paired 5 6 (accepts 0 0 2 [] [] (5 ∷ 6 ∷ []) [] []))
+    ∷ case (stacked 1 (one 0 9223372036854775807 ∷ [])) (carrying 9223372036854775807 9223372036854775807 (accepts 1 0 1 [] [] (9223372036854775807 ∷ []) [] []))
+    ∷ case (stacked 0 (one 1 5 ∷ one 1 6 ∷ [])) (carrying 5 6 (accepts 0 0 2 [] [] (5 ∷ 6 ∷ []) [] []))
     ∷ case (stacked 2 (one 0 5 ∷ one 0 0xffffffffffffffff ∷ [])) (accepts 2 0 2 [] [] (0x4014000000000000 ∷ 0xbff0000000000000 ∷ []) [] [])
     -- and with a column that has it already
-    ∷ case (stacked 0 (one 1 5 ∷ one 0 0xffffffffffffffff ∷ [])) (paired 0xffffffffffffffff 5 (accepts 0 0 2 [] [] (5 ∷ 0xffffffffffffffff ∷ []) [] []))
+    ∷ case (stacked 0 (one 1 5 ∷ one 0 0xffffffffffffffff ∷ [])) (carrying 0xffffffffffffffff 5 (accepts 0 0 2 [] [] (5 ∷ 0xffffffffffffffff ∷ []) [] []))
     ∷ case (stacked 2 (one 0 5 ∷ one 2 0x3ff8000000000000 ∷ [])) (accepts 2 0 2 [] [] (0x4014000000000000 ∷ 0x3ff8000000000000 ∷ []) [] [])
     -- integer to double, the nearest, ties to even: 0, 2^53 + 1, 2^53 + 2, 2^53 + 3, 2^63 + 1024, 2^63 + 1025, 2^64 - 1
     ∷ case
@@ -134,21 +134,21 @@ typeCases-hold = refl
 classCases : List Case
 classCases =
     -- without an alive set: 0 for Empty with 0 rows, 1 for other Empty
-    case (stacked 255 (one 1 5 ∷ none 0 ∷ [])) (paired 5 5 (accepts 1 0 1 [] [] (5 ∷ []) [] []))
-    ∷ case (stacked 255 (one 1 5 ∷ none 1 ∷ [])) (paired 5 5 (accepts 1 1 2 (0 ∷ []) [] (5 ∷ []) [] []))
+    case (stacked 255 (one 1 5 ∷ none 0 ∷ [])) (carrying 5 5 (accepts 1 0 1 [] [] (5 ∷ []) [] []))
+    ∷ case (stacked 255 (one 1 5 ∷ none 1 ∷ [])) (carrying 5 5 (accepts 1 1 2 (0 ∷ []) [] (5 ∷ []) [] []))
     -- 2 for kind 4, though each row has one value
     ∷ case (stacked 255 (plain 1 4 2 (0 ∷ 1 ∷ []) (0 ∷ 1 ∷ 2 ∷ []) (7 ∷ 8 ∷ []) [] ∷ []))
-    (paired 7 8 (accepts 1 2 2 (0 ∷ 1 ∷ []) (0 ∷ 1 ∷ 2 ∷ []) (7 ∷ 8 ∷ []) [] []))
+    (carrying 7 8 (accepts 1 2 2 (0 ∷ 1 ∷ []) (0 ∷ 1 ∷ 2 ∷ []) (7 ∷ 8 ∷ []) [] []))
     -- with one: a row of one value 0, of no value 1, of more 2
-    ∷ case (inOrder 255 (withAlive (8 ∷ []) newKind ∷ []) (at 0 3 ∷ [])) (paired 9 9 (accepts 1 0 1 [] [] (9 ∷ []) [] []))
-    ∷ case (inOrder 255 (withAlive (9 ∷ []) newKind ∷ []) (at 0 0 ∷ at 0 3 ∷ [])) (paired 9 9 (accepts 1 1 2 (1 ∷ []) [] (9 ∷ []) [] []))
+    ∷ case (inOrder 255 (withAlive (8 ∷ []) newKind ∷ []) (at 0 3 ∷ [])) (carrying 9 9 (accepts 1 0 1 [] [] (9 ∷ []) [] []))
+    ∷ case (inOrder 255 (withAlive (9 ∷ []) newKind ∷ []) (at 0 0 ∷ at 0 3 ∷ [])) (carrying 9 9 (accepts 1 1 2 (1 ∷ []) [] (9 ∷ []) [] []))
     ∷ case (inOrder 255 (withAlive (15 ∷ []) newKind ∷ []) (at 0 0 ∷ at 0 1 ∷ at 0 2 ∷ at 0 3 ∷ []))
-    (paired 7 9 (accepts 1 2 4 (1 ∷ 3 ∷ []) (0 ∷ 2 ∷ 3 ∷ []) (7 ∷ 8 ∷ 9 ∷ []) [] []))
-    ∷ case (inOrder 255 (withAlive (1 ∷ []) five ∷ []) (at 0 0 ∷ [])) (paired 7 8 (accepts 1 2 1 (0 ∷ []) (0 ∷ 2 ∷ []) (7 ∷ 8 ∷ []) [] []))
-    ∷ case (inOrder 255 (withAlive (1 ∷ []) (none 1) ∷ one 1 5 ∷ []) (at 0 0 ∷ at 1 0 ∷ [])) (paired 5 5 (accepts 1 1 2 (1 ∷ []) [] (5 ∷ []) [] []))
+    (carrying 7 9 (accepts 1 2 4 (1 ∷ 3 ∷ []) (0 ∷ 2 ∷ 3 ∷ []) (7 ∷ 8 ∷ 9 ∷ []) [] []))
+    ∷ case (inOrder 255 (withAlive (1 ∷ []) five ∷ []) (at 0 0 ∷ [])) (carrying 7 8 (accepts 1 2 1 (0 ∷ []) (0 ∷ 2 ∷ []) (7 ∷ 8 ∷ []) [] []))
+    ∷ case (inOrder 255 (withAlive (1 ∷ []) (none 1) ∷ one 1 5 ∷ []) (at 0 0 ∷ at 1 0 ∷ [])) (carrying 5 5 (accepts 1 1 2 (1 ∷ []) [] (5 ∷ []) [] []))
     -- the greatest over the segments, wherever it stands
-    ∷ case (stacked 255 (one 1 5 ∷ five ∷ nine ∷ [])) (paired 5 9 (accepts 1 2 6 (0 ∷ 1 ∷ 3 ∷ 4 ∷ 5 ∷ []) (0 ∷ 1 ∷ 3 ∷ 4 ∷ 5 ∷ 6 ∷ []) (5 ∷ 7 ∷ 8 ∷ 9 ∷ 5 ∷ 6 ∷ []) [] []))
-    ∷ case (stacked 255 (one 1 4 ∷ nine ∷ [])) (paired 4 6 (accepts 1 1 3 (0 ∷ 1 ∷ 2 ∷ []) [] (4 ∷ 5 ∷ 6 ∷ []) [] []))
+    ∷ case (stacked 255 (one 1 5 ∷ five ∷ nine ∷ [])) (carrying 5 9 (accepts 1 2 6 (0 ∷ 1 ∷ 3 ∷ 4 ∷ 5 ∷ []) (0 ∷ 1 ∷ 3 ∷ 4 ∷ 5 ∷ 6 ∷ []) (5 ∷ 7 ∷ 8 ∷ 9 ∷ 5 ∷ 6 ∷ []) [] []))
+    ∷ case (stacked 255 (one 1 4 ∷ nine ∷ [])) (carrying 4 6 (accepts 1 1 3 (0 ∷ 1 ∷ 2 ∷ []) [] (4 ∷ 5 ∷ 6 ∷ []) [] []))
     ∷ []
 
 classCases-hold : map (λ c. sheetOf (c .lent)) classCases ≡ map (λ c. c .expected) classCases

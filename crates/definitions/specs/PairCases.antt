@@ -31,7 +31,7 @@ pairs =
     -- U64 is not
     ∷ values 1 (0xffffffffffffffff ∷ 1 ∷ []) (pair 1 0xffffffffffffffff)
     ∷ values 1 (9223372036854775807 ∷ 0x8000000000000000 ∷ []) (pair 9223372036854775807 0x8000000000000000)
-    -- the least is not 0 where no value is, nor is the greatest of negative ones; wherever they stand
+    -- 0 is not the least unless a value is 0, nor the greatest of negative ones; wherever they stand
     ∷ values 1 (5 ∷ []) (pair 5 5)
     ∷ values 1 (6 ∷ 5 ∷ 7 ∷ []) (pair 5 7)
     ∷ values 1 (5 ∷ 7 ∷ 6 ∷ []) (pair 5 7)
@@ -104,17 +104,20 @@ untrueCases =
     ∷ case (alone 5 5 nine) (fails 5)
     ∷ case (alone 7 9 newKind) (joins (pair 7 9))
     ∷ case (alone 7 8 newKind) (fails 5)
-    -- other types: F64, Str, Bool, an address, a time
+    -- other types: F64, Str, Bytes, Bool, an address, a time
     ∷ case (alone 0x3ff8000000000000 0x3ff8000000000000 (one 2 0x3ff8000000000000)) (fails 5)
     ∷ case (alone 0 1 (str (0 ∷ []) (a ∷ []))) (fails 5)
+    ∷ case (alone 0 1 (plain 3 1 1 [] [] (0 ∷ []) (a ∷ []))) (fails 5)
     ∷ case (alone 1 1 (one 5 1)) (fails 5)
     ∷ case (alone 5 5 (one 6 5)) (fails 5)
     ∷ case (alone 5 5 (one 7 5)) (fails 5)
     ∷ case (alone 0 0 (one 7 5)) (joins noPair)
-    -- columns without values, dropped ones too, and of kind 0; no column
+    -- columns without values, of each kind and another type too; no column
     ∷ case (alone 1 0 (dropped 1 1)) (fails 5)
     ∷ case (alone 0 1 (dropped 0 1)) (fails 5)
     ∷ case (alone 0 1 (plain 1 0 1 [] [] [] [])) (fails 5)
+    ∷ case (alone 0 1 (plain 1 4 1 [] (0 ∷ []) [] [])) (fails 5)
+    ∷ case (alone 0 1 (dropped 2 1)) (fails 5)
     ∷ case (alone 0 1 (none 1)) (fails 5)
     ∷ case (alone 1 0 (none 0)) (fails 5)
     -- a column that is dropped for its alive set: its pair is that of its values
@@ -162,6 +165,11 @@ joinedCases =
     ∷ case (inOrder 255 (withAlive (2 ∷ []) (full 1 (1 ∷ 9 ∷ [])) ∷ full 1 (4 ∷ 5 ∷ []) ∷ []) (at 0 1 ∷ at 1 0 ∷ at 1 1 ∷ [])) (joins (pair 4 9))
     ∷ case (inOrder 255 (withAlive (8 ∷ []) newKind ∷ []) (at 0 3 ∷ [])) (joins (pair 9 9))
     ∷ case (inOrder 255 (withAlive (0 ∷ []) (full 1 (1 ∷ 9 ∷ [])) ∷ one 1 5 ∷ []) (at 1 0 ∷ [])) (joins (pair 5 5))
+    -- signed, with and without an alive set: -1 and 3, and -9, which is withdrawn; U64 7, 9 withdrawn, as I64 beside -1; a dropped -1
+    ∷ case (inOrder 255 (full 0 (0xffffffffffffffff ∷ 3 ∷ []) ∷ []) (at 0 1 ∷ at 0 0 ∷ [])) (joins (pair 0xffffffffffffffff 3))
+    ∷ case (inOrder 255 (withAlive (3 ∷ []) (full 0 (0xffffffffffffffff ∷ 3 ∷ 0xfffffffffffffff7 ∷ [])) ∷ []) (at 0 1 ∷ at 0 0 ∷ [])) (joins (pair 0xffffffffffffffff 3))
+    ∷ case (inOrder 255 (withAlive (1 ∷ []) (full 1 (7 ∷ 9 ∷ [])) ∷ one 0 0xffffffffffffffff ∷ []) (at 1 0 ∷ at 0 0 ∷ [])) (joins (pair 0xffffffffffffffff 7))
+    ∷ case (inOrder 255 (withAlive (0 ∷ []) (one 0 0xffffffffffffffff) ∷ one 0 3 ∷ []) (at 1 0 ∷ [])) (joins (pair 3 3))
     -- with an alive set of all rows
     ∷ case (inOrder 255 (withAlive (3 ∷ []) (full 1 (1 ∷ 9 ∷ [])) ∷ []) (at 0 1 ∷ at 0 0 ∷ [])) (joins (pair 1 9))
     -- of the joined type: U64 7 as I64; I64 3 as U64, though 2^63 - 1 and 2^63 stand beside it; I64 5 required as U64, U64 6 as I64
@@ -212,6 +220,13 @@ typeCases =
     typed (inOrder 255 (withAlive (1 ∷ []) (full 0 (3 ∷ 0xffffffffffffffff ∷ [])) ∷ one 1 9223372036854775807 ∷ []) (at 0 0 ∷ at 1 0 ∷ [])) 2
     -- a dropped column's does not: I64 -1, none alive, beside I64 3 and U64 2^63 - 1
     ∷ typed (inOrder 255 (withAlive (0 ∷ []) (one 0 0xffffffffffffffff) ∷ one 0 3 ∷ one 1 9223372036854775807 ∷ []) (at 1 0 ∷ at 2 0 ∷ [])) 1
+    -- nor does one of U64: 2^63 - 1, none alive, beside U64 5 and I64 -1
+    ∷ typed (inOrder 255 (withAlive (0 ∷ []) (one 1 9223372036854775807) ∷ one 1 5 ∷ one 0 0xffffffffffffffff ∷ []) (at 1 0 ∷ at 2 0 ∷ [])) 0
+    -- every column of a type counts, the first as the last: U64 1 and 2^63 - 1 beside I64 5, I64 -1 and 5 beside U64 2^63 - 1
+    ∷ typed (stacked 255 (one 1 1 ∷ one 1 9223372036854775807 ∷ one 0 5 ∷ [])) 1
+    ∷ typed (stacked 255 (one 1 9223372036854775807 ∷ one 1 1 ∷ one 0 5 ∷ [])) 1
+    ∷ typed (stacked 255 (one 0 0xffffffffffffffff ∷ one 0 5 ∷ one 1 9223372036854775807 ∷ [])) 2
+    ∷ typed (stacked 255 (one 0 5 ∷ one 0 0xffffffffffffffff ∷ one 1 9223372036854775807 ∷ [])) 2
     -- the greatest U64 value decides for I64, not the least, and the least I64 value for U64
     ∷ typed (stacked 255 (full 1 (1 ∷ 9223372036854775807 ∷ []) ∷ one 0 5 ∷ [])) 1
     ∷ typed (stacked 255 (full 1 (1 ∷ 9223372036854775806 ∷ []) ∷ one 0 5 ∷ [])) 0

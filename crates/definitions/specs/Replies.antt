@@ -192,7 +192,7 @@ replies =
     ∷ case (input (onlyRows 1 0x80000001 [] 0 0)) "answer 6\n"
     ∷ case (input (onlyRows 2 2 (1 ∷ []) 0 0)) "answer 6\n"
     ∷ case (input (onlyRows 2 1 [] 0 0)) "answer 6\n"
-    -- the pair: any word, and never in the listing; I64 -2^63 as both; wrong in its highest bits alone
+    -- the pair: any word, and never in the listing; I64 -2^63 as both; wrong in its upper half alone
     ∷ case (input (bounded 0 0x8000000000000000 0x8000000000000000 0x8000000000000000)) "answer 0\ntype 0\nclass 0\nrows 1\nids 0\noffsets 0\nvalues 1 9223372036854775808\nterms 0\nmaps 0\n"
     ∷ case (input (bounded 1 5 0x100000005 5)) "answer 5\n"
     ∷ case (input (bounded 1 5 5 0x8000000000000005)) "answer 5\n"

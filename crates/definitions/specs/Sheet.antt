@@ -158,7 +158,7 @@ unfoldable pub outcomeOf : Lent → Outcome
 unfolding ofInt toBits wordsPerValue valueWords valuesIn aliveWords recordWords firstSegment afterFirst segmentsOf recordOf sectionsOf rowValues bitAt setBits isAlive aliveRows aliveNumber isDropped isHeld heldOf asEmpty effective isKnownType isNumerical hasTerms sameCategory isLess pairOf hasType everyPair onlyType numericalType typeOf signedOf integerOf doubleOf coerced isCoercible kindClass aliveClass classOf greatestClass rowOrder isUsed keptTerms termsOf ordinalOf mapOf newWord cellOf encode joinedType joinedClass joinedCells joinedColumn joinRules tooManySegments lengthsWrong codesKnown noColumnIsBare segmentCodesWrong codesWrong someOld idsFit offsetsFit emptyFits fullFits optionalFits oldFits newFits listsFit listsWrong pairFits valuesFit valuesWrong bitPastRows aliveSetWrong aliveWrong sumsTooLarge workingTooSmall isAliveAt aliveAddresses listsAliveRows addressesWrong presentTypes oneCategory allCoercible typesWrong outputTooShort joinChecks answer spaceOf numbersOf refusedBuffers acceptedBuffers inputOf joinOutcome readBack lentTo
 outcomeOf l = joinOutcome l
 
--- what a listing shows: the answer, and the column and the map as they stand in the outputs
+-- what a call gives: the answer, and the column and the map as they stand in the outputs. A listing shows all of it but the pair
 pub record Sheet : Type 0 where
   pub answer : ℕ
   pub column : Column
@@ -188,8 +188,8 @@ accepts type class rows ids offsets values terms m =
     record { answer = 0; column = record { type = type; class = class; rows = rows; ids = ids; offsets = offsets; values = values; terms = terms; pair = noPair }; map = m }
 
 -- the same with this pair
-abbrev pub paired : ℕ → ℕ → Sheet → Sheet
-paired least greatest s =
+abbrev pub carrying : ℕ → ℕ → Sheet → Sheet
+carrying least greatest s =
     record {
       answer = s .answer;
       column =

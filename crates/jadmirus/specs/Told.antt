@@ -1,4 +1,4 @@
--- The numbers of an acceptance in lent memory. Assumes nothing.
+-- The numbers of an acceptance, and a pair, in lent memory. Assumes nothing.
 use Prim.Native.Nat.{ℕ}
 use mathlib.Core.List.{List, [], _∷_}
 use Rattle.definitions.specs.Outcome.{Numbers, Answer, accepted, refused}

@@ -1,4 +1,4 @@
-// The joiner, the time order, the converter and the two calls on the alive set for callers in C or Rust: a run of numbers is handed over as a pointer and its length.
+// The joiner, the time order, the converter, the two calls on the alive set, and a column's least and greatest value for callers in C or Rust: a run of numbers is handed over as a pointer and its length.
 ghost use mathlib.Core.Path.{_≡_};
 ghost use mathlib.Core.List.{[], _∷_};
 ghost use lib.ListN.{length};

@@ -8,7 +8,7 @@ ghost use Rattle.definitions.specs.Types.{isLess, pairOf};
 ghost use Rattle.min_max.specs.Pairs.{bothPairs};
 ghost use Rattle.min_max.specs.Keys.{shiftOf, keyOf, wordOf, bothOf, withKey, rangeFrom, allKeys, pairIn};
 
-// Two keys or two words, neither above the other.
+// The least and the greatest of some keys, or the words of these two.
 pub struct Range {
     pub least: u64,
     pub greatest: u64,

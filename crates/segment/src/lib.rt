@@ -54,7 +54,7 @@ pub fn high_half(w: u64) -> u32
     (w / 4294967296) as u32
 }
 
-// This function and `numbers_of` alone know the order of a record's numbers.
+// This function, `numbers_of` and `row_of` alone know the order of a record's numbers.
 pub fn record_of(r: RecordNumbers) -> Record
     ensures { λ x. ⌜ x ≡ structOf r ⌝ }
 {

@@ -30,7 +30,11 @@
 //!
 //! The converter, for which the crate has no counterpart either, is measured by itself, in the same rounds:
 //! the whole call, with all checks, into lists already touched that have place for an id and an offset
-//! of every row; and beside it a plain copy of the stored offsets.
+//! of every row; and beside it a plain copy of the stored offsets, and of the values where they are read for
+//! the pair.
+//!
+//! A column's least and greatest value, asked for, are measured beside a plain search in Rust and a plain copy of
+//! the values.
 //!
 //! Withdraw and reinstate (withdraw.rs) are measured by themselves too, in the same rounds: whole calls of one
 //! row that change it, calls that are refused with 15, and whole calls of a run of rows; and beside them, in
@@ -48,7 +52,7 @@ use tantivy_columnar::{ColumnarReader, ColumnarWriter, merge_columnar};
 
 use crate::convert::{self, Space};
 use crate::order;
-use crate::ours::{Addresses, Joiner, Lists, NewLists};
+use crate::ours::{Addresses, Joiner, Lists, NewLists, Run};
 use crate::run::{merge_order, segment_file};
 use crate::table::Lent;
 use crate::wire::{IP, Input, Sections, width, words_of};
@@ -136,8 +140,8 @@ pub struct MeasuredConversion {
     pub sums: [u64; 2],
 }
 
-fn measure_conversion(rows: u32) -> MeasuredConversion {
-    let old = inputs::stored(rows);
+fn measure_conversion(ty: u32, rows: u32) -> MeasuredConversion {
+    let old = inputs::stored(ty, rows);
     let new = convert::segment(&old);
     let sections = convert::sections(&old);
     let rows = rows as usize;
@@ -145,9 +149,10 @@ fn measure_conversion(rows: u32) -> MeasuredConversion {
     let mut joiner = library();
     let repeats = repeats(rows);
     let mut copy = PlainCopy::default();
+    let read: &[u64] = if ty <= 1 { &sections.values } else { &[] };
     let (Clock { look, .. }, least) = rounds(|| {
         let ours = mean(repeats, || assert_eq!(joiner.convert(&sections, &mut lists), 0));
-        [ours, copy.time((&[], &old.offsets, &[]))]
+        [ours, copy.time((&[], &old.offsets, read))]
     });
     let looks = [look / repeats, look / copy.copies];
     let per_row = |i: usize| least[i].saturating_sub(looks[i]).as_nanos() as f64 / rows as f64;
@@ -161,6 +166,44 @@ fn measure_conversion(rows: u32) -> MeasuredConversion {
         copy: per_row(1),
         sums: [checksum(&new.ids, &new.offsets, &[]), ours],
     }
+}
+
+/// What was measured of a column's least and greatest value: the number of values, ns per value of ours,
+/// of a plain search and of a plain copy, and whether both found the same.
+pub struct MeasuredPair {
+    pub values: usize,
+    pub ours: f64,
+    pub plain: f64,
+    pub copy: f64,
+    pub same: bool,
+}
+
+fn measure_pair(ty: u32, rows: u32) -> MeasuredPair {
+    let words = inputs::column(rows);
+    let mut joiner = library();
+    let repeats = repeats(words.len());
+    let mut copy = PlainCopy::default();
+    let mut lent = Run::new(2, 1);
+    let mut found = [0; 2];
+    let (Clock { look, .. }, least) = rounds(|| {
+        let ours = mean(repeats, || joiner.pair(ty, &words, &mut lent));
+        let plain = mean(repeats, || found = std::hint::black_box(plain_pair(ty, &words)));
+        [ours, plain, copy.time((&[], &[], &words))]
+    });
+    let looks = [look / repeats, look / repeats, look / copy.copies];
+    let per_value = |i: usize| least[i].saturating_sub(looks[i]).as_nanos() as f64 / words.len() as f64;
+    let same = lent.lent()[..] == found;
+    MeasuredPair { values: words.len(), ours: per_value(0), plain: per_value(1), copy: per_value(2), same }
+}
+
+/// In one loop, of I64 or U64.
+fn plain_pair(ty: u32, words: &[u64]) -> [u64; 2] {
+    let first = words[0];
+    if ty == 0 {
+        let both = |[least, most]: [i64; 2], &word: &u64| [least.min(word as i64), most.max(word as i64)];
+        return words.iter().fold([first as i64; 2], both).map(|word| word as u64);
+    }
+    words.iter().fold([first; 2], |[least, most], &word| [least.min(word), most.max(word)])
 }
 
 /// What was measured of the time order: the number of alive rows, ns per such row of ours, of the sort

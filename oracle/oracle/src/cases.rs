@@ -140,7 +140,7 @@ mod tests {
     use crate::convert::{self, Converted, Outcome, Space};
     use crate::run;
     use crate::table;
-    use crate::wire::{Sections, Seg, to_words};
+    use crate::wire::{Record, Sections, Seg, to_words};
 
     #[test]
     fn log_sheets() {
@@ -195,18 +195,27 @@ mod tests {
     fn conversions() {
         let large = Space { ids: 9, offsets: 9 };
         let c5 = "1/3/3/off=0,2,2,3/val=7,8,9";
-        for (words, record, ids, offsets) in [
-            (c5, [1, 4, 3, 2, 3, 3, 0, 0, 3], &[0, 2][..], &[0, 2, 3][..]),
-            ("1/3/0/off=0", [1, 4, 0, 0, 1, 0, 0, 0, 0], &[], &[0]),
-            ("1/3/2/off=0,0,0", [1, 4, 2, 0, 1, 0, 0, 0, 2], &[], &[0]),
-            ("1/3/2/off=0,1,1/val=7/alive=2", [1, 4, 2, 1, 2, 1, 0, 1, 1], &[0], &[0, 1]),
-            ("1/3/0/off=0/alive=", [1, 4, 0, 0, 1, 0, 0, 1, 0], &[], &[0]),
-            ("4/3/2/off=0,0,2/val=1,0/terms=a,b", [4, 4, 2, 1, 2, 2, 2, 0, 2], &[1], &[0, 2]),
-            ("3/3/1/off=0,0/terms=a", [3, 4, 1, 0, 1, 0, 1, 0, 1], &[], &[0]),
-            ("5/3/3/off=0,1,2,3/val=0,1,1", [5, 4, 3, 3, 4, 3, 0, 0, 3], &[0, 1, 2], &[0, 1, 2, 3]),
-            ("6/3/3/off=0,2,2,3/val=1:2,3:4,5:6", [6, 4, 3, 2, 3, 3, 0, 0, 3], &[0, 2], &[0, 2, 3]),
-            ("6/3/2/off=0,0,1/val=0:1/alive=1", [6, 4, 2, 1, 2, 1, 0, 1, 1], &[1], &[0, 1]),
+        for (words, numbers, pair, ids, offsets) in [
+            (c5, [1, 4, 3, 2, 3, 3, 0, 0, 3], [7, 9], &[0, 2][..], &[0, 2, 3][..]),
+            // I64, and a value of a withdrawn row
+            (
+                "0/3/2/off=0,1,2/val=3,-7/alive=1",
+                [0, 4, 2, 2, 3, 2, 0, 1, 1],
+                [-7i64 as u64, 3],
+                &[0, 1],
+                &[0, 1, 2],
+            ),
+            ("1/3/0/off=0", [1, 4, 0, 0, 1, 0, 0, 0, 0], [0, 0], &[], &[0]),
+            ("1/3/2/off=0,0,0", [1, 4, 2, 0, 1, 0, 0, 0, 2], [0, 0], &[], &[0]),
+            ("1/3/2/off=0,1,1/val=7/alive=2", [1, 4, 2, 1, 2, 1, 0, 1, 1], [7, 7], &[0], &[0, 1]),
+            ("1/3/0/off=0/alive=", [1, 4, 0, 0, 1, 0, 0, 1, 0], [0, 0], &[], &[0]),
+            ("4/3/2/off=0,0,2/val=1,0/terms=a,b", [4, 4, 2, 1, 2, 2, 2, 0, 2], [0, 0], &[1], &[0, 2]),
+            ("3/3/1/off=0,0/terms=a", [3, 4, 1, 0, 1, 0, 1, 0, 1], [0, 0], &[], &[0]),
+            ("5/3/3/off=0,1,2,3/val=0,1,1", [5, 4, 3, 3, 4, 3, 0, 0, 3], [0, 0], &[0, 1, 2], &[0, 1, 2, 3]),
+            ("6/3/3/off=0,2,2,3/val=1:2,3:4,5:6", [6, 4, 3, 2, 3, 3, 0, 0, 3], [0, 0], &[0, 2], &[0, 2, 3]),
+            ("6/3/2/off=0,0,1/val=0:1/alive=1", [6, 4, 2, 1, 2, 1, 0, 1, 1], [0, 0], &[1], &[0, 1]),
         ] {
+            let record = Record::new(numbers, pair);
             let new = Converted { record, ids: ids.to_vec(), offsets: offsets.to_vec() };
             assert_eq!(converted(words, large), Outcome::Accepted(new.clone()), "{words}");
             let exact = Space { ids: ids.len(), offsets: offsets.len() };
@@ -241,6 +250,15 @@ mod tests {
             (6, "1/3/2/off=0,1,1/val=7/alive=2/count=2"),
             (6, "1/3/0/off=0/count=1"),
             (5, "5/3/1/off=0,1/val=2/count=0"),
+            (5, "1/3/2/off=0,1,2/val=3,4/pair=0:4"),
+            (5, "1/3/2/off=0,1,2/val=3,4/pair=3:5"),
+            (5, "0/3/2/off=0,1,2/val=-1,1/pair=1:-1"),
+            (5, "1/3/2/off=0,1,2/val=3,9/alive=1/pair=3:3"),
+            (5, "7/3/1/off=0,1/val=5/pair=5:5"),
+            (5, "1/3/0/off=0/pair=1:1"),
+            (5, "1/3/1/off=0,1/val=7/pair=7:8/count=0"),
+            (4, "1/3/1/off=1,3/val=7,8/pair=0:0"),
+            (3, "1/4/1/ids=0/off=0,1/val=7/pair=0:0"),
         ] {
             assert_eq!(converted(words, large), Outcome::Refused(number), "{words}");
             // 11 comes last

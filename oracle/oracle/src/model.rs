@@ -256,7 +256,8 @@ mod tests {
             let ty = if low.ty == 1 { IP } else { 255 };
             all += values.len();
             for half in [high, low] {
-                assert_eq!(join(&input), Listing { ty, values: values.clone(), ..half }, "case {case}");
+                let column = Listing { ty, values: values.clone(), pair: [0, 0], ..half };
+                assert_eq!(join(&input), column, "case {case}");
             }
         }
         assert!(all > 10_000);

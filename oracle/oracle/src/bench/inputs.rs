@@ -178,8 +178,8 @@ impl OrderLine {
 }
 
 /// The segment that is converted.
-pub fn stored(rows: u32) -> Seg {
-    let mut s = Seg { ty: 1, rows, ..Seg::default() };
+pub fn stored(ty: u32, rows: u32) -> Seg {
+    let mut s = Seg { ty, rows, ..Seg::default() };
     multivalued(&mut s, &mut Rng::new(1), 3);
     s
 }
@@ -198,6 +198,12 @@ pub fn alive_row(rng: &mut Rng, set: &AliveSet) -> u32 {
             return row;
         }
     }
+}
+
+/// The words whose least and greatest are found.
+pub fn column(rows: u32) -> Vec<u64> {
+    let rng = &mut Rng::new(1);
+    (0..rows).map(|_| rng.next()).collect()
 }
 
 fn words(rng: &mut Rng, n: u32) -> Vec<u128> {

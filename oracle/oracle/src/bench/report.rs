@@ -1,8 +1,8 @@
 //! The table and the growth series as text, and the machine that they were made on.
 use super::inputs::{IN_TURN, LISTENERS, Line, OrderLine, TERMS, lines, order_lines};
 use super::withdraw::{MeasuredRun, MeasuredSet, RUN, measure_run, measure_set};
-use super::{Measured, MeasuredConversion, MeasuredOrder, ROUNDS};
-use super::{keep_memory, measure, measure_conversion, measure_order};
+use super::{Measured, MeasuredConversion, MeasuredOrder, MeasuredPair, ROUNDS};
+use super::{keep_memory, measure, measure_conversion, measure_order, measure_pair};
 use crate::compare::has_library;
 
 /// The lines whose growth is measured if none are named.
@@ -25,8 +25,9 @@ const MOST_SEGMENTS: usize = 256;
 /// Prints the tables of the lines that have `word` in their name. False if checksums differ.
 pub fn table(segs: usize, rows: u32, word: &str) -> Result<bool, String> {
     let (lines, orders) = (lines(word), order_lines(word));
-    let (converter, withdraw) = (CONVERTER.contains(word), WITHDRAW.contains(word));
-    if lines.is_empty() && orders.is_empty() && !converter && !withdraw {
+    let (converter, pairs) = (CONVERTER.contains(word), PAIRS.contains(word));
+    let withdraw = WITHDRAW.contains(word);
+    if lines.is_empty() && orders.is_empty() && !converter && !pairs && !withdraw {
         return Err("no line has that word in its name".into());
     }
     begin()?;
@@ -43,7 +44,10 @@ pub fn table(segs: usize, rows: u32, word: &str) -> Result<bool, String> {
         all_equal &= time_orders(&orders, segs, rows);
     }
     if converter {
-        all_equal &= conversion((segs as u32).saturating_mul(rows));
+        all_equal &= conversions((segs as u32).saturating_mul(rows));
+    }
+    if pairs {
+        all_equal &= least_and_greatest((segs as u32).saturating_mul(rows));
     }
     if withdraw {
         all_equal &= sets((segs as u32).saturating_mul(rows)) & runs(rows);
@@ -122,20 +126,27 @@ fn order_missed(m: &MeasuredOrder) -> Option<&'static str> {
 /// The converter's name where lines are named.
 const CONVERTER: &str = "converter";
 
-/// The target: within three times a plain copy of the stored offsets.
-fn conversion(rows: u32) -> bool {
-    let m = measure_conversion(rows);
+/// The types that are converted: one whose values are read for the pair, and one whose are not.
+const CONVERTED: [(u32, &str); 2] = [(7, "DateTime"), (1, "U64")];
+
+fn conversions(rows: u32) -> bool {
     println!(
-        "\nThe converter: one segment of kind 3, 0 to 3 values in a row, beside a plain copy of its offsets. \
-         Times in ns per row, processor time, least of {ROUNDS} rounds.\n"
+        "\nThe converter: one segment of kind 3, 0 to 3 values in a row, beside a plain copy of its offsets, and of \
+         its values where they are read for the pair. Times in ns per row, processor time, least of {ROUNDS} \
+         rounds.\n"
     );
     println!(
-        "| Rows | With a value | Values | Ours | Plain copy | Ours / copy | Target met | Checksum of ours and of the model |"
+        "| Type | Rows | With a value | Values | Ours | Plain copy | Ours / copy | Target met | Checksum of ours and of the model |"
     );
-    println!("|--:|--:|--:|--:|--:|--:|---|---|");
-    let MeasuredConversion { rows, ids, values, ours, copy, sums } = m;
+    println!("|---|--:|--:|--:|--:|--:|--:|---|---|");
+    CONVERTED.into_iter().map(|(ty, name)| conversion(ty, name, rows)).fold(true, |all, equal| all & equal)
+}
+
+/// The target: within three times the plain copy.
+fn conversion(ty: u32, name: &str, rows: u32) -> bool {
+    let MeasuredConversion { rows, ids, values, ours, copy, sums } = measure_conversion(ty, rows);
     println!(
-        "| {} | {} | {} | {} | {} | {} | {} | {} |",
+        "| {name} | {} | {} | {} | {} | {} | {} | {} | {} |",
         grouped(rows),
         grouped(ids),
         grouped(values),
@@ -147,8 +158,43 @@ fn conversion(rows: u32) -> bool {
     );
     let equal = if sums[0] == sums[1] { "" } else { ", CHECKSUMS DIFFER" };
     let (ours, copy) = (digits(ours), digits(copy));
-    eprintln!("{CONVERTER:<28} {rows:>10} rows: ours {ours:>8}, copy {copy:>8} ns per row{equal}");
+    let line = format!("{CONVERTER} {name}");
+    eprintln!("{line:<28} {rows:>10} rows: ours {ours:>8}, copy {copy:>8} ns per row{equal}");
     sums[0] == sums[1]
+}
+
+/// The name of a column's least and greatest value where lines are named.
+const PAIRS: &str = "least and greatest";
+
+fn least_and_greatest(rows: u32) -> bool {
+    println!(
+        "\nThe least and the greatest value of a column, asked for, as check 5 finds them: beside a search in plain \
+         Rust, and a plain copy of the values. Times in ns per value, processor time, least of {ROUNDS} rounds.\n"
+    );
+    println!("| Type | Values | Ours | Plain search | Plain / ours | Plain copy | Ours / copy | Same pair |");
+    println!("|---|--:|--:|--:|--:|--:|--:|---|");
+    let both = [(0, "I64"), (1, "U64")];
+    both.into_iter()
+        .map(|(ty, name)| print_pair(name, measure_pair(ty, rows)))
+        .fold(true, |all, same| all & same)
+}
+
+fn print_pair(name: &str, m: MeasuredPair) -> bool {
+    let (ours, plain, copy) = (digits(m.ours), digits(m.plain), digits(m.copy));
+    println!(
+        "| {name} | {} | {ours} | {plain} | {} | {copy} | {} | {} |",
+        grouped(m.values),
+        digits(m.plain / m.ours),
+        digits(m.ours / m.copy),
+        if m.same { "yes" } else { "**no**" }
+    );
+    let line = format!("{PAIRS}, {name}");
+    let same = if m.same { "" } else { ", PAIRS DIFFER" };
+    eprintln!(
+        "{line:<28} {:>10} values: ours {ours:>8}, plain {plain:>8}, copy {copy:>8} ns per value{same}",
+        m.values
+    );
+    m.same
 }
 
 /// The name of withdraw and reinstate where lines are named.
@@ -261,8 +307,8 @@ fn sum(sums: [u64; 2]) -> String {
 }
 
 /// The target that a line misses: at least as fast as the crate; at least four times as fast on
-/// stacked Full, Optional and multivalued, three times on Str; stacked Full within three times a
-/// plain copy, stacked addresses within two and a half.
+/// stacked Full, Optional and multivalued, three times on Str; stacked Full and stacked addresses within two
+/// and a half times a plain copy.
 fn missed(m: &Measured) -> Option<String> {
     let stacked = m.line.order == "stacked";
     let plain = matches!(m.line.column, "full" | "opt" | "optsparse" | "multi");
@@ -278,8 +324,7 @@ fn missed(m: &Measured) -> Option<String> {
         return Some(format!("below {wanted} times the crate"));
     }
     let copies = match m.line.column {
-        "full" if stacked => 3.0,
-        LISTENERS if stacked => 2.5,
+        "full" | LISTENERS if stacked => 2.5,
         _ => return None,
     };
     (m.ours > copies * m.copy).then(|| format!("above {copies} plain copies"))

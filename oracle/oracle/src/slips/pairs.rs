@@ -130,10 +130,6 @@ pub const SLIPS: &[Slip] = &[
         How::Read(|input| decide(input, model::held, |s| [right(s)[0]; 2])),
     ),
     slip(
-        "the type by pairs from 0",
-        How::Read(|input| decide(input, model::held, |s| from_zero(s.ty, &s.values))),
-    ),
-    slip(
         "the type by the unsigned least value",
         How::Read(|input| decide(input, model::held, |s| unsigned(s.ty, &s.values))),
     ),
