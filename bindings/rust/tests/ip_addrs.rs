@@ -2,7 +2,7 @@
 //! address is written here as its two words, the high one first, or as text.
 mod common;
 
-use common::{alive, answers, ordered, sections, stacked};
+use common::{alive, answered, answers, ordered, sections, stacked};
 use jadmirus::{
     Class, ColumnType, Index, Joined, OldSegment, Order, Refusal, Sections, Segment, Value,
     convert, explain, ip_addrs, ip_words, join, sheet, time_order,
@@ -201,12 +201,7 @@ const ANSWERED: &str = "\
 
 #[test]
 fn answers_to_address_columns() {
-    for line in ANSWERED.lines().map(str::trim) {
-        let (join, rest) = line.split_once(' ').unwrap();
-        let (times, sheet) = rest.split_once(' ').unwrap();
-        let numbers = [join, times].map(|number| number.parse().unwrap());
-        assert_eq!(answers(sheet), numbers, "{sheet}");
-    }
+    answered(ANSWERED);
 }
 
 /// Numbers of values in what is said are of addresses.

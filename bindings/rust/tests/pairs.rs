@@ -4,7 +4,7 @@
 mod common;
 
 use common::chance::Chance;
-use common::{addresses, alive, answers, ordered, sections, stacked};
+use common::{addresses, alive, answered, answers, ordered, sections, stacked};
 use jadmirus::{
     Address, ColumnType, Joined, Marked, OldSegment, Order, Pair, Refusal, Sections, Segment,
     Value, WireError, convert, explain, join, sheet, time_order,
@@ -165,12 +165,7 @@ const ANSWERED: &str = "\
 /// Each stated pair is tested, a dropped column's too: after 4 over all segments, and before 6.
 #[test]
 fn pairs_in_sheets() {
-    for line in ANSWERED.lines().map(str::trim) {
-        let (join, rest) = line.split_once(' ').unwrap();
-        let (times, sheet) = rest.split_once(' ').unwrap();
-        let numbers = [join, times].map(|number| number.parse().unwrap());
-        assert_eq!(answers(sheet), numbers, "{sheet}");
-    }
+    answered(ANSWERED);
 }
 
 /// What the record says, and what the values are: the segment, the row, the place.

@@ -40,3 +40,13 @@ pub fn answers(sheet: &str) -> [u32; 2] {
     assert_eq!(found.map(|f| f.map(|f| f.refusal)), answers, "{sheet}");
     answers.map(|answer| answer.map_or(0, Refusal::number))
 }
+
+/// Lines of the answers of a join and of a time order, and the sheet that they are given to.
+pub fn answered(lines: &str) {
+    for line in lines.lines().map(str::trim) {
+        let (join, rest) = line.split_once(' ').unwrap();
+        let (times, sheet) = rest.split_once(' ').unwrap();
+        let numbers = [join, times].map(|number| number.parse().unwrap());
+        assert_eq!(answers(sheet), numbers, "{sheet}");
+    }
+}

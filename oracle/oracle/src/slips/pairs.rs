@@ -216,7 +216,7 @@ pub const SLIPS: &[Slip] = &[
     slip(
         "joined pair: of the integers that became doubles",
         How::Pair(|input, l| {
-            let integers = || input.segs.iter().filter(|s| model::held(s) && s.ty < 2).map(right).flatten();
+            let integers = || input.segs.iter().filter(|s| model::held(s) && s.ty < 2).flat_map(right);
             match l.ty {
                 2 => model::pair(0, &integers().map(u128::from).collect::<Vec<_>>()),
                 _ => l.pair,
