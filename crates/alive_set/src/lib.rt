@@ -1,4 +1,6 @@
 // The alive set of one segment: whether a row is alive, how many are, and a row's bit set or cleared.
+#![tactic(auto)]
+
 ghost use Rattle.std.specs.Prelude.{◌≡◌, ◌<◌, ◌≤◌, ◌*◌, ◌/◌, ◌%◌, length, true, false};
 ghost use Rattle.definitions.specs.Row.{bit_at, set_bits};
 ghost use Rattle.definitions.specs.Lists.{with_bit, without_bit};

@@ -1,4 +1,5 @@
 // Lines of numbers on standard output: a list after its name, each number after a space, in decimal.
+#![tactic(auto)]
 
 fn small(x: u32) -> u64 {
     x as u64

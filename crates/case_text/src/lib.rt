@@ -1,5 +1,7 @@
 // Cases as text: hexadecimal numbers, parted by anything that is no digit, and lists of them, each after its count. A number too wide for its place
 // is taken as the widest, and a list longer than its place is cut.
+#![tactic(auto)]
+
 ghost use Rattle.std.specs.Prelude.{◌≡◌, drop, ◌≤◌};
 ghost use Rattle.case_text.specs.Counts.{Counts};
 ghost use Rattle.case_text.specs.Text.{cap_at, digit_of, skip_from, number_in, capped_in, row_in, Listed};

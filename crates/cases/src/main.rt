@@ -2,6 +2,8 @@
 // stands in the lent memory afterwards. Every element is 9 before a call, so what stands beyond a list is 9, and so is everything after a refusal but the working bytes.
 // cases.txt has the cases and what is expected of them, written from documents 01 and 02; tools/cases.py makes standard input and the expected output of it,
 // and says in what order a case is stored. Each list has place for 300 elements, a name for 100 bytes.
+#![tactic(auto)]
+
 ghost use Rattle.std.specs.Prelude.{ℕ, List, replicate};
 ghost use Rattle.case_text.specs.Counts.{Counts};
 

@@ -1,5 +1,7 @@
 // One count of each segment's rows, and what follows from it: which columns are held, the class of the joined column and the lengths of its lists
 // (columnar/merge/mod.rs, `is_empty_after_merge`; column_index/merge/mod.rs, `detect_cardinality`, `detect_cardinality_single_column_index`).
+#![tactic(auto)]
+
 ghost use Rattle.std.specs.Prelude.{◌≡◌, cond, ◌<◌, ◌≤◌, ◌+◌, ◌-◌, ◌*◌, max, length};
 ghost use Rattle.definitions.specs.Lists.{sum};
 ghost use Rattle.definitions.specs.Row.{bit_at};

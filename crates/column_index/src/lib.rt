@@ -1,5 +1,7 @@
 // Lookups in one segment's index: a row's rank, its range of values.
 // After column_index/mod.rs (`value_row_ids`), multivalued_index.rs (`range`), optional_index/mod.rs (`rank_if_exists`).
+#![tactic(auto)]
+
 ghost use Rattle.std.specs.Prelude.{◌≡◌, ◌<◌, ◌≤◌, ◌+◌, length, get_or, T, leb};
 ghost use Rattle.definitions.specs.Lists.{ascending};
 ghost use Rattle.column_index.specs.Lookup.{rank_in, lesser, is_in, start_of, end_of, Readable, Ranked};

@@ -1,5 +1,7 @@
 // Row ids, offsets and values of an ordered join, in one pass over the addresses: column_index/merge/shuffled.rs (`ShuffledIndex`, `iter_num_values`,
 // `integrate_num_vals`) and the shuffled half of column_values/merge.rs.
+#![tactic(auto)]
+
 ghost use Rattle.std.specs.Prelude.{◌≡◌, ◌∷◌, not, ◌<◌, ◌≤◌, ◌+◌, length, replicate, eqb};
 ghost use Rattle.runs.specs.Put.{put, put_if, RoomIf};
 ghost use Rattle.stands.specs.Width.{id_part, ids_of, totals_of};

@@ -1,4 +1,6 @@
 // Row ids and offsets of a stacked join, segment after segment: column_index/merge/stacked.rs (`get_doc_ids_with_values`, `get_num_values_iterator`).
+#![tactic(auto)]
+
 ghost use Rattle.std.specs.Prelude.{◌≡◌, ◌∷◌, not, ◌<◌, ◌≤◌, ◌+◌, length, eqb};
 ghost use Rattle.definitions.specs.Lists.{sum};
 ghost use Rattle.runs.specs.Put.{put, put_if, RoomIf};

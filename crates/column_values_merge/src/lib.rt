@@ -1,4 +1,6 @@
 // Values of the joined column: column_values/merge.rs (`MergedColumnValues`), merge_dict_column.rs (`RemappedTermOrdinalsValues`) and the coercions of merge/mod.rs.
+#![tactic(auto)]
+
 ghost use Rattle.std.specs.Prelude.{◌≡◌, [], ◌∷◌, ◌<◌, ◌≤◌, ◌+◌, length};
 ghost use Rattle.runs.specs.Put.{put};
 ghost use Rattle.stands.specs.Stand.{part, many, Lies};

@@ -1,5 +1,7 @@
 // The converter of old multivalued segments, kind 3, to kind 4 (added by document 02, (k); no Rust file has it): the rows with a value as ids, and
 // the offsets without those that rows without values repeat.
+#![tactic(auto)]
+
 ghost use Rattle.std.specs.Prelude.{◌≡◌, true, ◌∷◌, ◌<◌, ◌≤◌, ◌+◌, length, ltb};
 ghost use Rattle.definitions.specs.Convert.{convert_outcome};
 ghost use Rattle.segment.specs.Records.{record_in, sections_in};

@@ -135,6 +135,7 @@ module _ (firsts : List Segment) where
 
   equal_head : (ts : List ℕ) {t : ℕ} → T (all_equal ts) → Memᴰ t ts → T (eqb t (head_or ts))
   equal_head (n ∷ ns) h (Memᴰ.head q) = subst (λ (k : ℕ). T (eqb k n)) (sym q) (eqb_refl n)
+  equal_head [] {t = t} h x'' = elim x'' [ ]
   equal_head (n ∷ ns) {t} h (Memᴰ.tail m) = subst (λ (k : ℕ). T (eqb t k)) (sym (eqb→eq n t (all_mem (eqb n) ns h m))) (eqb_refl t)
 
   of_one-type : T (all_equal (present_types no_type firsts)) → OfType (head_or (present_types no_type firsts)) firsts

@@ -54,6 +54,7 @@ any-true {A} p (x ∷ xs) e = go (p x) refl e (λ f. any-true p xs f)
     go false q e f = let t = f e in (t.0, Memᴰ.tail t.1, t.2)
 
 pub any_false : {A : Type 0} (p : A → Bool) (l : List A) {x : A} → any p l ≡ false → Memᴰ x l → p x ≡ false
+any_false {A = A} p [] e x4 = elim x4 [ ]
 any_false p (y ∷ ys) e (Memᴰ.head q) = ap p q ∙ or_left (p y) (any p ys) e
 any_false p (y ∷ ys) e (Memᴰ.tail m) = any_false p ys (or_right (p y) (any p ys) e) m
 
@@ -70,6 +71,7 @@ any_append p [] ys = refl
 any_append p (x ∷ xs) ys = ap (λ (b : Bool). p x || b) (any_append p xs ys) ∙ sym (or_assoc (p x) (any p xs) (any p ys))
 
 pub all_mem : {A : Type 0} (p : A → Bool) (l : List A) {x : A} → T (all p l) → Memᴰ x l → T (p x)
+all_mem {A = A} p [] h x4 = elim x4 [ ]
 all_mem p (y ∷ ys) h (Memᴰ.head q) = subst (λ z. T (p z)) (sym q) (and_l (p y) (all p ys) h)
 all_mem p (y ∷ ys) h (Memᴰ.tail m) = all_mem p ys (and_r (p y) (all p ys) h) m
 
@@ -97,6 +99,7 @@ pub mem_map_back : {A B : Type 0} (f : A → B) (l : List A) {y : B} → Memᴰ 
 mem_map_back f l m = let t = Memᴰ.of_map f l m in (t.0, t.1, sym t.2)
 
 pub mem-filter : {A : Type 0} (p : A → Bool) {x : A} (l : List A) → p x ≡ true → Memᴰ x l → Memᴰ x (filter p l)
+mem-filter {A = A} p {x = x} [] e x3 = elim x3 [ ]
 mem-filter p (y ∷ ys) e (Memᴰ.head q) = rw (ap p (sym q) ∙ e) (Memᴰ.head q)
 mem-filter p {x} (y ∷ ys) e (Memᴰ.tail m) = go (p y) (mem-filter p ys e m)
   where
@@ -170,5 +173,6 @@ pub mem_up_to : (n k : ℕ) → k < n → Memᴰ k (up_to n)
 mem_up_to n k h = subst (λ (m : ℕ). Memᴰ m (up_to n)) (zero-add k) (mem_up_from 0 n k h)
 
 pub up_from-below : (s n : ℕ) {k : ℕ} → Memᴰ k (up_from s n) → k < s + n
+up_from-below s zero {k = k} x' = elim x' [ ]
 up_from-below s (suc n) (Memᴰ.head q) = omega arith
 up_from-below s (suc n) {k} (Memᴰ.tail m) = let h : k < suc s + n = up_from-below (suc s) n m in omega arith

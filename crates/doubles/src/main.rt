@@ -1,6 +1,7 @@
 // Integer to double on words around every power of two, ties among them, and their negatives: each line has the word, the bits of the double of the word as a U64,
 // and of the word as an I64, in hexadecimal. The stored output was made apart from this code, by Python: struct.pack('>d', float(n)) for the unsigned number n of the
 // word and for its two's complement; Python's float of an integer is correctly rounded, ties to even.
+#![tactic(auto)]
 
 const WORDS: [u64; 610] = [
     0,

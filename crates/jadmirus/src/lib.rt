@@ -1,4 +1,6 @@
 // The joiner, the time order, the converter, the two calls on the alive set, and a column's least and greatest value for callers in C or Rust: a run of numbers is handed over as a pointer and its length.
+#![tactic(auto)]
+
 ghost use Rattle.std.specs.Prelude.{◌≡◌, [], ◌∷◌, length};
 ghost use Rattle.definitions.specs.Outcome.{number_of, join_outcome, lent_of};
 ghost use Rattle.definitions.specs.Types.{pair_of};

@@ -1,4 +1,6 @@
 // The joining program: reads the sections from standard input, writes the listing to standard output (document 01, "Answers of the joiner").
+#![tactic(auto)]
+
 fn main() {
     let mut input = reply::input_buffer();
     let mut out = reply::output_buffer();

@@ -1,4 +1,6 @@
 // What the joining program writes: an answer and a column as the lines of document 01's C1. (Added: no file of the crate has it.)
+#![tactic(auto)]
+
 ghost use Rattle.std.specs.Prelude.{◌≡◌, ◌∷◌, [], ◌<◌, ◌≤◌, ◌+◌, length};
 ghost use Rattle.definitions.specs.Lists.{sum};
 ghost use Rattle.definitions.specs.Segment.{cut};

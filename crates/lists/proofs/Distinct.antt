@@ -19,6 +19,7 @@ module _ (f : Address → ℕ) where
     pub others : (b : Address) → Memᴰ b m → (b ≡ a → ⊥) → Memᴰ b rest
 
   without : (a : Address) (m : List Address) → Memᴰ a m → Without a m
+  without a [] x' = elim x' [ ]
   without a (x ∷ xs) (Memᴰ.head q) =
       record {
         rest = xs;

@@ -1,4 +1,6 @@
 // The joiner: columnar/merge/mod.rs (`merge_columnar` for one column name).
+#![tactic(auto)]
+
 ghost use Rattle.definitions.specs.Outcome.{lent_of};
 ghost use Rattle.segment.specs.Records.{records_of};
 ghost use Rattle.merge.specs.Whole.{JoinKept, buffers_of};

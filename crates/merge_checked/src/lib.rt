@@ -1,4 +1,6 @@
 // The join of an input that has passed the checks up to 9 (columnar/merge/mod.rs, `merge_column`).
+#![tactic(auto)]
+
 ghost use Rattle.std.specs.Prelude.{◌≡◌};
 ghost use Rattle.definitions.specs.Outcome.{lent_of, join_outcome};
 ghost use Rattle.segment.specs.Records.{records_of};

@@ -1,5 +1,7 @@
 // One column's join in parts: where the segments stand as they count in it, the checks 10 and 11 with the lengths of all lists, and the fills
 // (columnar/merge/mod.rs, `merge_column`; an error or an assert is an answer).
+#![tactic(auto)]
+
 ghost use Rattle.std.specs.Prelude.{◌≡◌, cond, not, ◌∷◌, ◌<◌, ◌≤◌, eqb};
 ghost use Rattle.runs.specs.Put.{put, put_if};
 ghost use Rattle.stands.specs.Width.{ids_of, totals_of};

@@ -1,4 +1,6 @@
 // The merged dictionary and the map from old ordinals to new ones (columnar/merge/merge_dict_column.rs, `serialize_merged_dict`).
+#![tactic(auto)]
+
 ghost use Rattle.std.specs.Prelude.{◌≡◌};
 ghost use Rattle.term_cursors.specs.Runs.{Runs};
 ghost use Rattle.merge_dict_column.specs.Dict.{Texts, Dictionary};

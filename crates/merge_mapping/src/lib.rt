@@ -1,4 +1,6 @@
 // The row order that addresses give, with the checks 8 and 9 (columnar/merge/merge_mapping.rs: `StackMergeOrder::stack` and `offset`, `ShuffleMergeOrder`).
+#![tactic(auto)]
+
 ghost use Rattle.std.specs.Prelude.{◌≡◌, true, ◌&&◌, cond, ◌<◌, ◌≤◌, ◌+◌, ◌*◌, ◌^◌, length, replicate, ltb};
 ghost use Rattle.definitions.specs.Lists.{all_below};
 ghost use Rattle.definitions.specs.Segment.{address};

@@ -1,4 +1,6 @@
 // The joiner over a run of record structs (columnar/merge/mod.rs: `Vec<Option<..>>` of columns).
+#![tactic(auto)]
+
 ghost use Rattle.std.specs.Prelude.{take};
 ghost use Rattle.definitions.specs.Outcome.{lent_of};
 ghost use Rattle.merge.specs.Whole.{JoinKept, buffers_of};

@@ -1,4 +1,6 @@
 // The joined type, check 10 and the joined pair: merge/mod.rs (GroupedColumns::column_type_after_merge, merged_numerical_columns_type, coerce_columns, coerce_column), where an error is an answer.
+#![tactic(auto)]
+
 ghost use Rattle.std.specs.Prelude.{◌≡◌, ◌<◌};
 ghost use Rattle.definitions.specs.Types.{type_of};
 ghost use Rattle.min_max.specs.Keys.{pair_in};

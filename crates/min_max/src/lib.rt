@@ -1,5 +1,7 @@
 // The least and the greatest of a column's values: column_values/mod.rs (`min_value`, `max_value`) and merge/mod.rs (`min_max_if_numerical`), exact and for integers alone.
 // Words are compared by keys: a word with so much added, without a carry, that unsigned numbers keep the order of the type.
+#![tactic(auto)]
+
 ghost use Rattle.std.specs.Prelude.{◌≡◌, ◌<◌, min, max, length, if◌then◌else◌};
 ghost use Rattle.definitions.specs.Types.{is_less, pair_of};
 ghost use Rattle.min_max.specs.Pairs.{both_pairs};

@@ -1,5 +1,7 @@
 // The segment records lent as one run of record structs: one record is taken out and goes by value to the covered check
 // (columnar/merge/mod.rs: `Vec<Option<..>>` of columns).
+#![tactic(auto)]
+
 ghost use Rattle.std.specs.Prelude.{◌≡◌, ◌<◌, length, get_or, set};
 ghost use Rattle.segment.specs.Records.{record_in};
 ghost use Rattle.segment_fit.specs.Fits.{fits_codes};

@@ -1,4 +1,6 @@
 // The joining program on many inputs in one run: each is a 64-bit length, the lowest byte first, and so many bytes. The listings follow one another.
+#![tactic(auto)]
+
 ghost use Rattle.std.specs.Prelude.{◌≡◌, ◌≤◌, length};
 
 // Place for all inputs. As a function, since a longer array literal in main costs the checker its stack.

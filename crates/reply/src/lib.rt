@@ -1,4 +1,6 @@
 // The joining program's reply: bytes read to bytes written, with the join in the middle. (Added: no file of the crate has it.)
+#![tactic(auto)]
+
 ghost use Rattle.std.specs.Prelude.{◌≡◌, suc, ◌≤◌, length, take};
 ghost use Rattle.definitions.specs.Outcome.{accepted, join_outcome, lent_of};
 ghost use Rattle.segment.specs.Records.{records_of};

@@ -1,5 +1,7 @@
 // The checks of all segments, in their order: each is one walk over the records and the sections that it reads, and `first_to_seven` gives the
 // first of those up to 7 that fails (columnar/merge/mod.rs; asserts become answers).
+#![tactic(auto)]
+
 ghost use Rattle.std.specs.Prelude.{◌≡◌, [], ◌<◌, ◌≤◌, length};
 ghost use Rattle.definitions.specs.Segment.{alive_words};
 ghost use Rattle.definitions.specs.Checks.{first_of};

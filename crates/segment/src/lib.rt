@@ -1,4 +1,6 @@
 // One segment's record by value, and how long its runs are (columnar/merge/mod.rs: `Vec<Option<..>>` of columns is a lent run of records).
+#![tactic(auto)]
+
 ghost use Rattle.std.specs.Prelude.{◌≡◌, [], true, ◌<◌, ◌≤◌, length, get_or, take};
 ghost use Rattle.definitions.specs.Lists.{all_below};
 ghost use Rattle.definitions.specs.Segment.{record_width, narrow_numbers, alive_words, record_words};

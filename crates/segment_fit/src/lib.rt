@@ -1,5 +1,7 @@
 // The checks of one segment, over just the numbers and lists that each reads: 3 codes, 4 lists, 5 values and terms, 6 alive set
 // (columnar/merge/mod.rs; asserts become answers).
+#![tactic(auto)]
+
 ghost use Rattle.std.specs.Prelude.{◌≡◌, ◌&&◌, ◌<◌, ◌≤◌, length, eqb};
 ghost use Rattle.definitions.specs.Lists.{sum};
 ghost use Rattle.segment.specs.Records.{record_in};

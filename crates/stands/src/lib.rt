@@ -1,4 +1,6 @@
 // Where each segment's runs stand in the lent sections, and lookups of a row there (column_index/merge/mod.rs: the columns' indexes, a dropped one as `ColumnIndex::Empty`).
+#![tactic(auto)]
+
 ghost use Rattle.std.specs.Prelude.{◌≡◌, [], ◌<◌, ◌≤◌, ◌+◌, length, get_or};
 ghost use Rattle.runs.specs.Put.{put};
 ghost use Rattle.segment.specs.Records.{record_in};

@@ -1,5 +1,7 @@
 // The cursors of the walk over the dictionaries: where each segment's current term stands, in eight numbers, and the first cursor of every segment
 // (columnar/merge/term_merger.rs, `TermsWithSegmentOrd`; merge_dict_column.rs, the streams in `merge_dict_and_compute_term_ord_mapping`).
+#![tactic(auto)]
+
 ghost use Rattle.std.specs.Prelude.{◌≡◌, false, ◌+◌, ◌<◌, length, set, replicate};
 ghost use Rattle.term_cursors.specs.Cursors.{unmarked_at, cursor_at, Standing};
 ghost use Rattle.term_cursors.specs.Runs.{Runs, Filled};

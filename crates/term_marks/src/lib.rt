@@ -1,4 +1,6 @@
 // Marks of the terms that alive rows use, for an ordered join (columnar/merge/merge_dict_column.rs, `compute_term_bitset` for each column).
+#![tactic(auto)]
+
 ghost use Rattle.std.specs.Prelude.{◌≡◌, ◌<◌, ◌≤◌, length, replicate};
 ghost use Rattle.std.proofs.Math.Seq.{slice};
 ghost use Rattle.runs.specs.Put.{Below};

@@ -1,4 +1,6 @@
 // The heap of segments by their current terms (columnar/merge/term_merger.rs, `Ord for TermsWithSegmentOrd`, and the heap of `TermMerger`).
+#![tactic(auto)]
+
 ghost use Rattle.std.specs.Prelude.{◌≡◌, ◌+◌, ◌-◌, ◌*◌, ◌<◌, ◌≤◌, length, leb};
 ghost use Rattle.term_merger.specs.Order.{key_in, comes_before, TermsInside};
 ghost use Rattle.term_merger.specs.Heap.{empty_heap, Ordered, PushedIfRoom, Risen, FirstChild, Sinking};

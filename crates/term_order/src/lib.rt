@@ -1,4 +1,6 @@
 // The order of terms (columnar/merge/term_merger.rs compares terms as byte strings). The one place that compares them.
+#![tactic(auto)]
+
 ghost use Rattle.std.specs.Prelude.{◌≡◌, length, take, drop};
 ghost use Prim.Native.Nat.{◌+◌, ◌*◌, ◌<◌, ◌≤◌, ◌^◌, compare};
 ghost use Rattle.definitions.specs.Lists.{compare_bytes, by_ordering};

@@ -1,5 +1,7 @@
 // A reader of one dictionary: it holds the dictionary's bytes and where its current term stands. The lengths of the terms are lent beside it
 // (columnar/merge/term_merger.rs: `Streamer`).
+#![tactic(auto)]
+
 ghost use Rattle.std.specs.Prelude.{◌≡◌, ◌+◌, ◌<◌, ◌≤◌, ◌^◌, length, drop, get_or, leb};
 ghost use Rattle.definitions.specs.Lists.{sum, compare_bytes, is_below};
 ghost use Rattle.term_reader.specs.Read.{term_at, next_place, goes_on, started, moved, terms_rise};

@@ -1,5 +1,7 @@
 // The walk over the held segments' dictionaries: the least of the current terms is taken again and again
 // (columnar/merge/term_merger.rs, `TermMerger::advance`; merge_dict_column.rs, `merge_dict_and_compute_term_ord_mapping`, `is_term_present`).
+#![tactic(auto)]
+
 ghost use Rattle.std.specs.Prelude.{◌≡◌, ◌+◌, ◌-◌, ◌<◌, ◌≤◌, length, get_or};
 ghost use Rattle.definitions.specs.Lists.{compare_bytes, is_same};
 ghost use Rattle.runs.specs.Put.{put};

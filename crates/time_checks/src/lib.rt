@@ -1,5 +1,7 @@
 // The answers of the time order (added by document 01, "Time order"; no Rust file has it): the join's checks up to 7, the number of alive rows
 // for 11, and 12.
+#![tactic(auto)]
+
 ghost use Rattle.std.specs.Prelude.{◌≡◌, ◌<◌, ◌≤◌, length};
 ghost use Rattle.definitions.specs.Answer.{total};
 ghost use Rattle.definitions.specs.TimeOrder.{time_of, time_answer};

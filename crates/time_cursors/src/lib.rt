@@ -1,6 +1,8 @@
 // One segment's rows in time order (added by document 01, "Time order"; no Rust file has it): the next alive row with its key, which is its time,
 // else the last time before it in the segment, else the first one after it (document 02, (e)), else before all times. Withdrawn rows are passed over,
 // and still give their time.
+#![tactic(auto)]
+
 ghost use Rattle.std.specs.Prelude.{◌≡◌, cond, suc, ◌+◌, ◌-◌, ◌*◌, ◌<◌, ◌≤◌, length, T};
 ghost use Rattle.definitions.specs.Lists.{ascending};
 ghost use Rattle.column_index.specs.Lookup.{rank_in};

@@ -2,6 +2,8 @@
 // through the heap of the term merger. A row's key stands in its cursor's two words, 0 before all times, else 1, and the time; its term is empty. Where
 // the keys are the same the segment's number decides. Where days follow one another a segment stays at the top: its rows that come before every other
 // segment's next row are then written as a run, and no row's key is looked at.
+#![tactic(auto)]
+
 ghost use Rattle.std.specs.Prelude.{◌≡◌, ◌+◌, ◌*◌, ◌<◌, ◌≤◌, length, replicate};
 ghost use Rattle.definitions.specs.TimeOrder.{time_order};
 ghost use Rattle.runs.specs.Put.{put};

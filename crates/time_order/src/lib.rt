@@ -1,4 +1,6 @@
 // The time order (added by document 01, "Time order"; no Rust file has it): the alive rows of columns of times, sorted by key, segment and row.
+#![tactic(auto)]
+
 ghost use Rattle.std.specs.Prelude.{◌≡◌, length};
 ghost use Rattle.definitions.specs.TimeOrder.{time_order, time_outcome};
 ghost use Rattle.segment.specs.Lent.{addresses_of};

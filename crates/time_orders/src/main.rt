@@ -1,5 +1,7 @@
 // Time orders of stored random cases, against Python's sort: tools/time_orders.py says what standard input and the expected output hold and how they were
 // made. All numbers are hexadecimal.
+#![tactic(auto)]
+
 use time_order::TimeAnswer;
 
 fn show_number(n: u32) {

@@ -1,4 +1,6 @@
 // The first of the checks up to 9 that fails: what can be said of an input before its column is measured (columnar/merge/mod.rs; asserts become answers).
+#![tactic(auto)]
+
 ghost use Rattle.std.specs.Prelude.{◌≡◌, length, replicate};
 ghost use Rattle.segment.specs.Lent.{lent_input};
 ghost use Rattle.verdict.specs.Nine.{answer_to_nine};

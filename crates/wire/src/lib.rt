@@ -1,4 +1,6 @@
 // The joining program's input: bytes to words, and words to sections. (Added: no file of the crate has it.)
+#![tactic(auto)]
+
 ghost use Rattle.std.specs.Prelude.{◌≡◌, true, cond, map, ◌<◌, ◌≤◌, ◌+◌, ◌/◌, length, drop, take, get_or};
 ghost use Rattle.definitions.specs.Wire.{little_endian, words_of, word_sections, section_at, grouped, records_narrow, widths_fit, words_fit, bytes_fit, whole_words, record_groups, address_groups};
 ghost use Rattle.definitions.specs.Segment.{record_width, narrow_numbers};

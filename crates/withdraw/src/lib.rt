@@ -1,4 +1,6 @@
 // Withdrawing and reinstating plays, with the number of alive rows kept in the record (added by document 02, (f); no Rust file has it).
+#![tactic(auto)]
+
 ghost use Rattle.std.specs.Prelude.{◌≡◌, [], false, ◌<◌, ◌-◌};
 ghost use Rattle.definitions.specs.Lists.{all_below};
 ghost use Rattle.definitions.specs.Withdraw.{withdrawing, reinstating, row_absent, mark_number, marked_row, marked_rows, changes_to, mark_outcome, withdraw_outcome, reinstate_outcome};
