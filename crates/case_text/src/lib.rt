@@ -8,26 +8,26 @@ ghost use Rattle.case_text.specs.Text.{cap_at, digit_of, skip_from, number_in, c
 ghost use Rattle.segment.specs.Records.{row_width};
 
 // A number, and the place behind it.
-#[derive(Drop)]
+#[derive(Clone, Copy)]
 pub struct Found {
     pub value: u64,
     pub at: usize,
 }
 
 // How many elements were read, and the place behind them.
-#[derive(Drop)]
+#[derive(Clone, Copy)]
 pub struct Part {
     pub count: usize,
     pub at: usize,
 }
 
-#[derive(Drop)]
+#[derive(Clone, Copy)]
 struct RecordAt {
     record: segment::RecordNumbers,
     at: usize,
 }
 
-#[derive(Drop)]
+#[derive(Clone, Copy)]
 struct PairAt {
     pair: [u32; 2],
     at: usize,

@@ -8,7 +8,7 @@ ghost use Rattle.std.specs.Prelude.{ℕ, List, replicate};
 ghost use Rattle.case_text.specs.Counts.{Counts};
 
 // Which entry is called: 0 join, 1 time order, 2 converter, 3 withdraw, 4 reinstate, 5 and 6 the same of a run of rows; and the numbers that only a join takes.
-#[derive(Drop)]
+#[derive(Clone, Copy)]
 struct Call {
     entry: u64,
     mode: u32,

@@ -14,7 +14,7 @@ ghost use Rattle.census.specs.Settled.{held_by, kept, dropped, settled, census_a
 use stands::{Span, Stand, StandNumbers};
 
 // Of a segment's rows: how many are alive, how many of these have a value, and how many values they have.
-#[derive(Drop)]
+#[derive(Clone, Copy)]
 pub struct Census {
     pub alive: usize,
     pub listed: usize,
@@ -60,7 +60,7 @@ fn id_width(kind: usize, offsets: &[u32], k: usize) -> usize
 }
 
 // Of a list of rows: how many have a value, and how many values they have.
-#[derive(Drop)]
+#[derive(Clone, Copy)]
 struct Counts {
     listed: usize,
     values: usize,
@@ -281,7 +281,7 @@ fn census_as(q: Stand, c: Census) -> Census
 
 // Of the segments so far: the greatest class, all rows, the rows listed and the values of the joined column, the terms and term bytes of held columns, and where the
 // term bytes of all of them end.
-#[derive(Drop)]
+#[derive(Clone, Copy)]
 pub struct Tally {
     pub class: u32,
     pub rows: usize,

@@ -7,7 +7,7 @@ ghost use Rattle.definitions.specs.Lists.{ascending};
 ghost use Rattle.column_index.specs.Lookup.{rank_in, lesser, is_in, start_of, end_of, Readable, Ranked};
 
 // The places of a row's values among its segment's values: from start, before end.
-#[derive(Drop)]
+#[derive(Clone, Copy)]
 pub struct Range {
     pub start: usize,
     pub end: usize,

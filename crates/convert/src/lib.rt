@@ -10,7 +10,7 @@ ghost use Rattle.convert.specs.Risen.{one_if, risen_ids, risen_ends, rises, fall
 ghost use Rattle.convert.specs.Fits.{fits_lengths, fits_kind, fits_old, verdict_of};
 ghost use Rattle.convert.specs.Outcome.{lent_convert, outcome_of, renewed_record};
 
-#[derive(Drop)]
+#[derive(Clone, Copy)]
 pub enum ConvertAnswer {
     Converted(segment::Record),
     Refused(u32),
@@ -77,7 +77,7 @@ fn one_if_below(a: u32, b: u32) -> u32
 }
 
 // How many offsets are above the one before them, and how many below it.
-#[derive(Drop)]
+#[derive(Clone, Copy)]
 struct Steps {
     risen: u32,
     fallen: u32,
@@ -183,7 +183,7 @@ fn old_fits(rows: u32, values: u32, fallen: u32, ids: &[u32], offsets: &[u32]) -
 // ---- 2 to 6
 
 // The first of the checks 2 to 6 that fails, or 0, and with 0 how many rows have a value.
-#[derive(Drop)]
+#[derive(Clone, Copy)]
 struct Verdict {
     answer: u32,
     ids: u32,

@@ -8,7 +8,7 @@ ghost use Rattle.merge_checked.specs.Call.{outcome_of, buffers_of, AfterNine};
 
 // What comes with acceptance: type, class and rows, the number of elements of each list, an address being one, how many term bytes were copied, and the joined
 // column's least and greatest value.
-#[derive(Drop)]
+#[derive(Clone, Copy)]
 pub struct Numbers {
     pub typ: u32,
     pub class: u32,
@@ -24,7 +24,7 @@ pub struct Numbers {
     pub greatest: u64,
 }
 
-#[derive(Drop)]
+#[derive(Clone, Copy)]
 pub enum Answer {
     Accepted(Numbers),
     Refused(u32),

@@ -41,7 +41,7 @@ fn class_of(typ: u32, greatest: u32) -> u32
 }
 
 // How many elements each output has place for, that of values in words.
-#[derive(Drop)]
+#[derive(Clone, Copy)]
 pub struct Space {
     pub ids: usize,
     pub offsets: usize,
@@ -53,7 +53,7 @@ pub struct Space {
 
 // The joined column's type, class and rows, and the number of elements of its lists but the terms', with the words of its values; the map has one for each term
 // of the held columns.
-#[derive(Drop)]
+#[derive(Clone, Copy)]
 pub struct Shape {
     pub typ: u32,
     pub class: u32,
@@ -65,7 +65,7 @@ pub struct Shape {
     pub map: usize,
 }
 
-#[derive(Drop)]
+#[derive(Clone, Copy)]
 pub enum Plan {
     Refused(u32),
     Column(Shape),

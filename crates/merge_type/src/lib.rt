@@ -14,7 +14,7 @@ use min_max::Range;
 use stands::{Stand, StandNumbers};
 
 // Whether the types have one category and every held column becomes the joined type; then that type, 255 for no column.
-#[derive(Drop)]
+#[derive(Clone, Copy)]
 pub enum TypeAnswer {
     Wrong,
     Joined(u32),
@@ -132,7 +132,7 @@ fn all_become(u: u32, stands: &[StandNumbers]) -> bool
 }
 
 // The types of the held columns: the only one, 255 for none, or several.
-#[derive(Drop)]
+#[derive(Clone, Copy)]
 pub enum HeldTypes {
     Only(u32),
     Several,
@@ -210,7 +210,7 @@ pub fn check_types(required: u32, stands: &[StandNumbers]) -> TypeAnswer
 // ---- the joined pair from the held columns' own
 
 // The pairs found so far, put together.
-#[derive(Drop)]
+#[derive(Clone, Copy)]
 pub struct Found {
     pub some: bool,
     pub least: u64,

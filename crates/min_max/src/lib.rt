@@ -8,7 +8,7 @@ ghost use Rattle.min_max.specs.Pairs.{both_pairs};
 ghost use Rattle.min_max.specs.Keys.{shift_of, key_of, word_of, both_of, with_key, range_from, all_keys, pair_in};
 
 // The least and the greatest of some keys, or the words of these two.
-#[derive(Drop)]
+#[derive(Clone, Copy)]
 pub struct Range {
     pub least: u64,
     pub greatest: u64,

@@ -50,37 +50,37 @@ unfolding first_of
 first_old f t h = rw (ne_eqb f 255 h)
 
 module _ (b : Bool) (t : ℕ) (p : Pair) where
-  pub signed_not : not b ≡ true → false ≡ signed_by b t p
+  pub signed_not : b ≡ false → false ≡ signed_by b t p
   unfolding signed_by
-  signed_not h = rw (not-true b h)
+  signed_not h = rw (h)
 
-  pub signed_double : not b ≡ false → t ≡ 2 → false ≡ signed_by b t p
+  pub signed_double : b ≡ true → t ≡ 2 → false ≡ signed_by b t p
   unfolding signed_by
-  signed_double h k = rw (not-false b h, eq-eqb t 2 k)
+  signed_double h k = rw (h, eq-eqb t 2 k)
 
-  pub signed_by_lem : not b ≡ false → t ≡ 1 → ltb p.greatest greatest_i64 ≡ signed_by b t p
+  pub signed_by_lem : b ≡ true → t ≡ 1 → ltb p.greatest greatest_i64 ≡ signed_by b t p
   unfolding signed_by
-  signed_by_lem h k = rw (not-false b h, ne_eqb t 2 (λ x. omega arith), eq-eqb t 1 k)
+  signed_by_lem h k = rw (h, ne_eqb t 2 (λ x. omega arith), eq-eqb t 1 k)
 
-  pub signed_other : not b ≡ false → (t ≡ 2 → ⊥) → (t ≡ 1 → ⊥) → true ≡ signed_by b t p
+  pub signed_other : b ≡ true → (t ≡ 2 → ⊥) → (t ≡ 1 → ⊥) → true ≡ signed_by b t p
   unfolding signed_by
-  signed_other h k l = rw (not-false b h, ne_eqb t 2 k, ne_eqb t 1 l)
+  signed_other h k l = rw (h, ne_eqb t 2 k, ne_eqb t 1 l)
 
-  pub unsigned_not : not b ≡ true → false ≡ unsigned_by b t p
+  pub unsigned_not : b ≡ false → false ≡ unsigned_by b t p
   unfolding unsigned_by
-  unsigned_not h = rw (not-true b h)
+  unsigned_not h = rw (h)
 
-  pub unsigned_double : not b ≡ false → t ≡ 2 → false ≡ unsigned_by b t p
+  pub unsigned_double : b ≡ true → t ≡ 2 → false ≡ unsigned_by b t p
   unfolding unsigned_by
-  unsigned_double h k = rw (not-false b h, eq-eqb t 2 k)
+  unsigned_double h k = rw (h, eq-eqb t 2 k)
 
-  pub unsigned_by_lem : not b ≡ false → t ≡ 0 → ltb p.least (2 ^ 63) ≡ unsigned_by b t p
+  pub unsigned_by_lem : b ≡ true → t ≡ 0 → ltb p.least (2 ^ 63) ≡ unsigned_by b t p
   unfolding unsigned_by
-  unsigned_by_lem h k = sym (not-leb (2 ^ 63) p.least) ∙ rw (not-false b h, ne_eqb t 2 (λ x. omega arith), eq-eqb t 0 k)
+  unsigned_by_lem h k = sym (not-leb (2 ^ 63) p.least) ∙ rw (h, ne_eqb t 2 (λ x. omega arith), eq-eqb t 0 k)
 
-  pub unsigned_other : not b ≡ false → (t ≡ 2 → ⊥) → (t ≡ 0 → ⊥) → true ≡ unsigned_by b t p
+  pub unsigned_other : b ≡ true → (t ≡ 2 → ⊥) → (t ≡ 0 → ⊥) → true ≡ unsigned_by b t p
   unfolding unsigned_by
-  unsigned_other h k l = rw (not-false b h, ne_eqb t 2 k, ne_eqb t 0 l)
+  unsigned_other h k l = rw (h, ne_eqb t 2 k, ne_eqb t 0 l)
 
 module _ (a b : Bool) where
   pub type_signed : a ≡ true → 0 ≡ type_by a b

@@ -13,7 +13,7 @@ ghost use Rattle.sections_fit.specs.Walks.{totals_of, add_to, Below, Grown, leng
 // ---- sums
 
 // The sums of the records' counts, and of the words that their values and alive sets have.
-#[derive(Drop)]
+#[derive(Clone, Copy)]
 pub struct Totals {
     pub rows: usize,
     pub ids: usize,

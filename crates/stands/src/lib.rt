@@ -9,7 +9,7 @@ ghost use Rattle.stands.specs.Stand.{table, stand_of, numbers_of, span, nowhere,
 ghost use Rattle.stands.specs.Look.{start_in, end_in, Within};
 
 // A run's first index, and the one after its last.
-#[derive(Drop)]
+#[derive(Clone, Copy)]
 pub struct Span {
     pub from: usize,
     pub to: usize,
@@ -17,7 +17,7 @@ pub struct Span {
 
 // Where a segment stands: the codes and rows of its record, whether it is held, its first byte where there is a working byte for each row, how many values it has
 // and how many words each of them has, its runs, that of values in words, how many of its rows are alive, and the least and the greatest of its values.
-#[derive(Drop)]
+#[derive(Clone, Copy)]
 pub struct Stand {
     pub typ: usize,
     pub kind: usize,

@@ -24,7 +24,7 @@ fn unmarked_at(marks: &[u8], all: bool, at: usize) -> usize
 }
 
 // Where a segment's current term stands: its first byte, its place among the term lengths, the place after the segment's last term, and its place in the map.
-#[derive(Drop)]
+#[derive(Clone, Copy)]
 pub struct TermPlace {
     pub from: usize,
     pub pos: usize,

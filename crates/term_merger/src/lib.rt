@@ -24,7 +24,7 @@ pub fn key_of(cursor: Cursor) -> Key
 }
 
 // Segment numbers in an array, each not before the one above it.
-#[derive(Drop)]
+#[derive(Clone, Copy)]
 pub struct Heap {
     pub seg: [u8; Heap::CAP],
     pub len: usize,

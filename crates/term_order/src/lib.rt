@@ -7,7 +7,7 @@ ghost use Rattle.definitions.specs.Lists.{compare_bytes, by_ordering};
 ghost use Rattle.term_order.specs.Order.{order_of};
 ghost use Rattle.term_order.specs.Key.{value_of, word_of, term_in, rest_of, keyed, key_at, Inside};
 
-#[derive(Drop)]
+#[derive(Clone, Copy)]
 pub enum TermOrder {
     Before,
     Same,
@@ -15,7 +15,7 @@ pub enum TermOrder {
 }
 
 // A term by where it stands in the term bytes; its first eight bytes and the next eight as words, the first byte highest, zeros after its last.
-#[derive(Drop)]
+#[derive(Clone, Copy)]
 pub struct Key {
     pub from: usize,
     pub till: usize,

@@ -7,7 +7,7 @@ ghost use Rattle.definitions.specs.Lists.{sum, compare_bytes, is_below};
 ghost use Rattle.term_reader.specs.Read.{term_at, next_place, goes_on, started, moved, terms_rise};
 
 // The bytes, where the current term begins in them, and how many terms come before it.
-#[derive(Drop)]
+#[derive(Clone, Copy)]
 pub struct Reader<'a> {
     pub bytes: &'a [u8],
     pub at: usize,
@@ -15,7 +15,7 @@ pub struct Reader<'a> {
 }
 
 // Where a term stands.
-#[derive(Drop)]
+#[derive(Clone, Copy)]
 pub struct Place {
     pub at: usize,
     pub ordinal: usize,

@@ -15,7 +15,7 @@ use term_merger::{Cursor, Heap};
 use term_order::{Key, TermOrder};
 
 // How many terms are kept, how many bytes they have, and how many bytes were copied for them.
-#[derive(Drop)]
+#[derive(Clone, Copy)]
 pub struct Kept {
     pub terms: usize,
     pub bytes: usize,
@@ -23,7 +23,7 @@ pub struct Kept {
 }
 
 // The last term written: how many there are, how many bytes they have and how many were copied, and its key.
-#[derive(Drop)]
+#[derive(Clone, Copy)]
 struct Last {
     terms: usize,
     bytes: usize,
@@ -31,7 +31,7 @@ struct Last {
     key: Key,
 }
 
-#[derive(Drop)]
+#[derive(Clone, Copy)]
 struct Taken {
     last: Last,
     ordinal: usize,

@@ -16,7 +16,7 @@ ghost use Rattle.time_merge.specs.Runs.{alive_up_to, LastListed, addresses, with
 use term_merger::{Cursor, Heap};
 
 // The next row of the first of the other segments: its key, and whether an equal one comes before it.
-#[derive(Drop)]
+#[derive(Clone, Copy)]
 struct Bound {
     first: usize,
     second: usize,
@@ -24,7 +24,7 @@ struct Bound {
 }
 
 // The row after a run, and how many times stand before it.
-#[derive(Drop)]
+#[derive(Clone, Copy)]
 struct Run {
     end: usize,
     times: usize,

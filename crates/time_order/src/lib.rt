@@ -9,7 +9,7 @@ ghost use Rattle.stands.specs.Stand.{stands_in};
 ghost use Rattle.time_merge.specs.Order.{placed_segments, time_written, Ready, Rising};
 ghost use Rattle.time_order.specs.Outcome.{outcome_of, output_of};
 
-#[derive(Drop)]
+#[derive(Clone, Copy)]
 pub enum TimeAnswer {
     Sorted(usize),
     Refused(u32),

@@ -7,7 +7,7 @@ ghost use Rattle.definitions.specs.Withdraw.{withdrawing, reinstating, row_absen
 ghost use Rattle.withdraw.specs.Lent.{set_by, lent_set, outcome_of, record_left, marking_of, Markable};
 
 // How many rows changed, 0 where the rows were so already; or the number of the first check that fails.
-#[derive(Drop)]
+#[derive(Clone, Copy)]
 pub enum MarkAnswer {
     Changed(u32),
     Refused(u32),

@@ -1,0 +1,8 @@
+use Rattle.std.proofs.Common.{rules}
+use Rattle.min_max.proofs.Ranges.{range_is}
+use Rattle.min_max.proofs.Ranges.{range_is}
+use Rattle.min_max.proofs.both.Goals as goal
+
+pub returns : goal.returns
+returns c =
+    range_is c.lower.ensures c.upper.ensures

@@ -1,0 +1,11 @@
+use Rattle.std.proofs.Common.{◌≡◌, ◌+◌, ◌-◌, ◌≤◌, length, drop, sym, refl, ap, ◌∙◌, ap₂, zero-le, arith, rules}
+use Rattle.min_max.specs.Keys.{key_of, with_key, both_of, range_from, all_keys}
+use Rattle.min_max.specs.declared.Range.{Range}
+use Rattle.min_max.proofs.Ranges.{of_four, four_same, four_more, four_end}
+use Rattle.min_max.proofs.range_of.Given as goal
+
+abbrev pub invariant-loop-i : goal.invariant-loop-i
+invariant-loop-i l = (l.i ≤ length l.words) × (range_from (of_four l.a l.b l.c l.d) (all_keys l.shift (drop l.i l.words)) ≡ range_from l.initial.a (all_keys l.shift l.words))
+
+abbrev pub decreases-loop-i : goal.decreases-loop-i
+decreases-loop-i l = length l.words - l.i

@@ -1,0 +1,23 @@
+use mathlib.Core.Path.{◌≡◌, refl, ◌∙◌}
+use Prim.Native.Nat.{ℕ, ◌-◌, ◌≤◌}
+use native.Mathlib.Omega.{arith}
+use lib.ListN.{length, length-set}
+use borrow.Author.Rules.{rules}
+use Rattle.runs.proofs.Laws.{putting, putting-none, putting-more, putting-all}
+use Rattle.runs.proofs.append_bytes.Goals as goal
+
+pub loop-j-init : goal.loop-j-init
+loop-j-init c =
+    (search rules, putting-none _ _ _, refl)
+
+pub loop-j-preserved : goal.loop-j-preserved
+loop-j-preserved c =
+    (search rules, rw (c.loop-j.invariant.1, putting-more {A = ℕ} _ _ _ _ 0 c.requires c.loop-j-test.true), simp length-set (search rules))
+
+pub returns-clause-value : goal.returns-clause-value
+returns-clause-value c =
+    omega (arith, c.loop-j.invariant.0, c.loop-j-test.false)
+
+pub returns-clause-out_after : goal.returns-clause-out_after
+returns-clause-out_after c =
+    c.loop-j.invariant.1 ∙ putting-all _ _ _ _ _ refl c.loop-j.invariant.0 c.loop-j-test.false

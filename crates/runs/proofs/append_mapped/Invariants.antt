@@ -1,0 +1,14 @@
+use borrow.Author.Rules.{rules}
+use native.Mathlib.Omega.{arith}
+use mathlib.Core.Path.{◌≡◌, refl, ◌∙◌}
+use Prim.Native.Nat.{◌-◌, ◌≤◌}
+use lib.ListN.{length, length-set}
+use Rattle.runs.specs.Put.{looked}
+use Rattle.runs.proofs.Laws.{putting, putting-none, putting-next, putting-all, looked-length, looked-at}
+use Rattle.runs.proofs.append_mapped.Given as goal
+
+abbrev pub invariant-loop-j : goal.invariant-loop-j
+invariant-loop-j l = (l.j ≤ length l.vs) × (l.out ≡ putting l.at (looked l.table l.vs) l.initial.out l.j) × (length l.out ≡ length l.initial.out)
+
+abbrev pub decreases-loop-j : goal.decreases-loop-j
+decreases-loop-j l = length l.vs - l.j

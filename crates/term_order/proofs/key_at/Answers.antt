@@ -1,0 +1,6 @@
+use borrow.Author.Rules.{rules}
+use Rattle.term_order.proofs.key_at.Goals as goal
+
+pub returns : goal.returns
+returns c =
+    cc (c.word_at-first.ensures, c.second_word-second.ensures)
