@@ -1,0 +1,12 @@
+use Rattle.case_text.specs.Text.{number_in}
+use Rattle.case_text.proofs.Reading.{Reading, reading_start, reading_step, reading_end}
+use Prim.Native.Nat.{◌-◌}
+use native.Mathlib.Omega.{arith}
+use borrow.Author.Rules.{rules}
+use Rattle.case_text.proofs.read_words.Given as goal
+
+abbrev pub invariant-loop-i : goal.invariant-loop-i
+invariant-loop-i l = Reading (number_in l.text) l.n l.initial.at l.initial.out l.out l.at l.i
+
+abbrev pub decreases-loop-i : goal.decreases-loop-i
+decreases-loop-i l = l.n - l.i
