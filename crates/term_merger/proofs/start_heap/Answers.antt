@@ -6,6 +6,7 @@ use Prim.Native.Nat.{◌+◌, ◌-◌}
 use native.Mathlib.Omega.{arith}
 use Rattle.term_merger.proofs.Begun.{Begun, begun_start, begun_push, begun_pass, begun_end}
 use Rattle.term_merger.proofs.start_heap.Goals as goal
+use Rattle.term_merger.proofs.start_heap.Goals.{then-cursor, else-cursor}
 
 pub loop-s-init : goal.loop-s-init
 loop-s-init c =
@@ -25,10 +26,10 @@ push-h-requires-clause-ordered c =
 
 pub loop-s-preserved : goal.loop-s-preserved
 loop-s-preserved c =
-    ⊎_elim
-    (λ w. subst (λ (h : Heap). Begun c.args.bytes.now c.args.cursors.now h (c.loop-s.s + 1)) (sym w.2) (begun_push c.loop-s.invariant c.loop-s-test.true (w.1.ensures.room (omega (arith, c.loop-s.invariant.len, c.loop-s-test.true))) (omega (arith, w.0.taken))))
-    (λ w. subst (λ (h : Heap). Begun c.args.bytes.now c.args.cursors.now h (c.loop-s.s + 1)) (sym w.1) (begun_pass c.loop-s.invariant c.loop-s-test.true (omega (arith, w.0.left))))
-    c.if-cursor.branch
+    elim c.if-cursor.branch [
+      then-cursor w ↦ subst (λ (h : Heap). Begun c.args.bytes.now c.args.cursors.now h (c.loop-s.s + 1)) (sym w.h-is) (begun_push c.loop-s.invariant c.loop-s-test.true (w.push-h.ensures.room (omega (arith, c.loop-s.invariant.len, c.loop-s-test.true))) (omega (arith, w.if-cursor.true)))
+      | else-cursor w ↦ subst (λ (h : Heap). Begun c.args.bytes.now c.args.cursors.now h (c.loop-s.s + 1)) (sym w.h-is) (begun_pass c.loop-s.invariant c.loop-s-test.true (omega (arith, w.if-cursor.false)))
+    ]
 
 pub returns : goal.returns
 returns c =

@@ -1,0 +1,13 @@
+use mathlib.Core.Path.{◌≡◌, refl, ◌∙◌}
+use Prim.Native.Nat.{◌-◌, ◌≤◌, zero-le}
+use lib.ListN.{length, drop}
+use borrow.Author.Rules.{rules}
+use Rattle.merge_type.specs.Parts.{held_in, all_become}
+use Rattle.merge_type.proofs.Walk.{now_code, become_stop, become_next, become_end}
+use Rattle.merge_type.proofs.all_become.Given as goal
+
+abbrev pub invariant-loop-s : goal.invariant-loop-s
+invariant-loop-s l = (l.s ≤ length l.stands) × (all_become l.u (held_in (drop l.s l.stands)) ≡ all_become l.u (held_in l.stands))
+
+abbrev pub decreases-loop-s : goal.decreases-loop-s
+decreases-loop-s l = length l.stands - l.s

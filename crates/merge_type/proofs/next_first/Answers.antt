@@ -1,0 +1,11 @@
+use Rattle.merge_type.proofs.Only.{next_out, next_in}
+use borrow.Author.Rules.{rules}
+use Rattle.merge_type.proofs.next_first.Goals as goal
+
+pub returns-then-not-is_part : goal.returns-then-not-is_part
+returns-then-not-is_part c =
+    next_out _ _ c.is_part.ensures c.if-not-is_part.true
+
+pub returns : goal.returns
+returns c =
+    next_in _ _ c.is_part.ensures c.if-not-is_part.false c.type_of.ensures c.first_type.ensures

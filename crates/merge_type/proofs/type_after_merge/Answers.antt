@@ -1,0 +1,17 @@
+use mathlib.Core.Path.{sym, ap, ◌∙◌}
+use borrow.Author.Rules.{rules}
+use Rattle.numerical.specs.Seen.{type_seen}
+use Rattle.merge_type.proofs.Only.{joined-required, joined_only, joined-several}
+use Rattle.merge_type.proofs.type_after_merge.Goals as goal
+
+pub returns-then-required-ne255 : goal.returns-then-required-ne255
+returns-then-required-ne255 c =
+    joined-required _ _ c.if-required-ne255.true
+
+pub returns-in-Only : goal.returns-in-Only
+returns-in-Only c =
+    joined_only _ _ c.if-required-ne255.false _ (sym c.in-Only.is ∙ c.held_types.ensures)
+
+pub returns-in-Several : goal.returns-in-Several
+returns-in-Several c =
+    c.joined_type.ensures ∙ ap type_seen c.seen_columns.ensures ∙ joined-several _ _ c.if-required-ne255.false (sym c.in-Several.is ∙ c.held_types.ensures)
