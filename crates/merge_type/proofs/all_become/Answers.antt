@@ -4,6 +4,8 @@ use lib.ListN.{length, drop}
 use borrow.Author.Rules.{rules}
 use Rattle.merge_type.specs.Parts.{held_in, all_become}
 use Rattle.merge_type.proofs.Walk.{now_code, become_stop, become_next, become_end}
+use mathlib.Core.Path.{ap}
+use mathlib.Core.Bool.{not}
 use Rattle.merge_type.proofs.all_become.Goals as goal
 
 pub loop-s-init : goal.loop-s-init
@@ -16,11 +18,11 @@ column_becomes-requires c =
 
 pub returns-then-not-column_becomes : goal.returns-then-not-column_becomes
 returns-then-not-column_becomes c =
-    become_stop _ c.loop-s-test.true c.stand_at-p.ensures _ c.column_becomes.ensures c.if-not-column_becomes.true ∙ c.loop-s.invariant.1
+    become_stop _ c.loop-s-test.true c.stand_at-p.ensures _ c.column_becomes.ensures (ap not c.if-not-column_becomes.true) ∙ c.loop-s.invariant.1
 
 pub loop-s-preserved : goal.loop-s-preserved
 loop-s-preserved c =
-    (search rules, become_next _ c.loop-s-test.true c.stand_at-p.ensures _ c.column_becomes.ensures c.if-not-column_becomes.false ∙ c.loop-s.invariant.1)
+    (search rules, become_next _ c.loop-s-test.true c.stand_at-p.ensures _ c.column_becomes.ensures (ap not c.if-not-column_becomes.false) ∙ c.loop-s.invariant.1)
 
 pub returns : goal.returns
 returns c =

@@ -6,6 +6,7 @@ use Rattle.stands.specs.declared.Stand.{Stand}
 use Rattle.merge_type.specs.Parts.{types_in, same_from}
 use Rattle.merge_type.proofs.Category.{same_stop, same_next, same_end, same-is-one}
 use Rattle.merge_type.proofs.Walk.{now_code}
+use mathlib.Core.Bool.{not}
 use Rattle.merge_type.proofs.one_category.Goals as goal
 
 pub loop-s-init : goal.loop-s-init
@@ -19,12 +20,12 @@ type_of-t-requires c =
 pub returns-then-not-fits_first : goal.returns-then-not-fits_first
 returns-then-not-fits_first c =
     let e = c.type_of-t.ensures ∙ ap (λ (p : Stand). p.typ) c.stand_at-p.ensures in
-    same_stop _ _ c.loop-s-test.true e c.fits_first.ensures c.if-not-fits_first.true ∙ c.loop-s.invariant.1 ∙ same-is-one _ _
+    same_stop _ _ c.loop-s-test.true e c.fits_first.ensures (ap not c.if-not-fits_first.true) ∙ c.loop-s.invariant.1 ∙ same-is-one _ _
 
 pub loop-s-preserved : goal.loop-s-preserved
 loop-s-preserved c =
     let e = c.type_of-t.ensures ∙ ap (λ (p : Stand). p.typ) c.stand_at-p.ensures in
-    (search rules, same_next _ _ c.loop-s-test.true e c.fits_first.ensures c.if-not-fits_first.false c.first_type-first.ensures ∙ c.loop-s.invariant.1)
+    (search rules, same_next _ _ c.loop-s-test.true e c.fits_first.ensures (ap not c.if-not-fits_first.false) c.first_type-first.ensures ∙ c.loop-s.invariant.1)
 
 pub returns : goal.returns
 returns c =
