@@ -2,7 +2,7 @@
 use mathlib.Core.Path.{◌≡◌, refl, sym, ap, ◌∙◌, subst}
 use mathlib.Core.Bool.{Bool, true, false, ◌&&◌}
 use mathlib.Core.List.{List, [], ◌∷◌}
-use Prim.Native.Nat.{ℕ, ◌+◌, ◌≤◌, ◌<◌}
+use Prim.Native.Nat.{ℕ, ◌+◌, ◌-◌, ◌≤◌, ◌<◌, zero-le}
 use native.Mathlib.Numerals.{add-one}
 use native.Mathlib.Omega.{arith}
 use lib.Dec.{ltb, leb}
@@ -12,8 +12,10 @@ use borrow.Author.Tests.{lt-ltb, le-ltb, ltb-true, ltb-false, le-leb, lt-leb, le
 use Rattle.definitions.specs.Lists.{sum, is_below, compare_bytes}
 use Rattle.lists.proofs.Tests.{both_true}
 use Rattle.lists.proofs.Sums.{sum_step}
+use Rattle.std.specs.Borrow.{Bor}
 use Rattle.term_reader.specs.declared.Place.{Place}
-use Rattle.term_reader.specs.Read.{term_at, next_place, goes_on, terms_rise, terms_rise_from}
+use Rattle.term_reader.specs.declared.Reader.{Reader}
+use Rattle.term_reader.specs.Read.{term_at, next_place, goes_on, started, moved, terms_rise, terms_rise_from}
 
 -- the terms after the one at a place
 abbrev pub rises_at : List ℕ → List ℕ → ℕ → ℕ → Bool
@@ -91,3 +93,47 @@ pub compared : (lengths bytes : List ℕ) (at p : ℕ) (q : Place) (s t : List �
 compared lengths bytes at p q s t h e f g k =
     k ∙ ap (λ (x : List ℕ). is_below (compare_bytes x t)) f ∙ ap (λ (x : List ℕ). is_below (compare_bytes (term_at bytes lengths at p) x)) (g ∙ ap (λ (x : Place). term_at bytes lengths x.at x.ordinal) e)
     ∙ sym (goes_on-low lengths bytes at p h)
+
+-- ---- a reader that goes from term to term
+
+-- it is at a term or past the last, the bytes from it on are enough for the terms from it on, and what is left to say of them is what is said of all
+abbrev pub Stands : List ℕ → List ℕ → Reader → Type 0
+Stands lengths bytes r =
+    (r.bytes.now ≡ bytes) × (r.ordinal ≤ length lengths) × (r.at + sum (drop r.ordinal lengths) ≤ length bytes)
+    × (rises_at lengths bytes r.at r.ordinal ≡ terms_rise lengths bytes)
+
+pub stands_start : (lengths : List ℕ) (b : Bor (List ℕ)) (r : Reader) → r ≡ started b → sum lengths ≤ length b.now → Stands lengths b.now r
+stands_start lengths b r e h = subst (Stands lengths b.now) (sym e) (refl, zero-le, omega (arith, h), rises_start lengths b.now)
+
+-- what it says of the next term
+pub told_is : (lengths bytes : List ℕ) (r : Reader) {b t : Bool} → Stands lengths bytes r → b ≡ goes_on r.bytes.now lengths r.at r.ordinal → b ≡ t
+    → goes_on bytes lengths r.at r.ordinal ≡ t
+told_is lengths bytes r s e f = ap (λ (x : List ℕ). goes_on x lengths r.at r.ordinal) (sym s.0) ∙ sym e ∙ f
+
+-- where it goes on
+pub next_in : (lengths bytes : List ℕ) (r : Reader) → Stands lengths bytes r → goes_on bytes lengths r.at r.ordinal ≡ true
+    → (r.ordinal < length lengths) × (r.at + get_or lengths r.ordinal 0 ≤ length bytes)
+next_in lengths bytes r s e =
+    let h : r.ordinal + 1 < length lengths = goes_on-next lengths bytes r.at r.ordinal e in
+    let l : r.ordinal < length lengths = omega (arith, h) in
+    (l, first_in lengths r.at r.ordinal (length bytes) l s.2)
+
+pub stands_next : (lengths bytes : List ℕ) (r q : Reader) → Stands lengths bytes r → goes_on bytes lengths r.at r.ordinal ≡ true
+    → q ≡ moved r (next_place lengths r.at r.ordinal) → Stands lengths bytes q
+stands_next lengths bytes r q s e f =
+    let h : r.ordinal + 1 < length lengths = goes_on-next lengths bytes r.at r.ordinal e in
+    let l : r.ordinal < length lengths = omega (arith, h) in
+    subst (Stands lengths bytes) (sym f)
+    (s.0, omega (arith, h), rest_in lengths r.at r.ordinal (length bytes) l s.2, rises_next lengths bytes r.at r.ordinal e ∙ s.3)
+
+pub nearer : (lengths bytes : List ℕ) (r q : Reader) → Stands lengths bytes r → goes_on bytes lengths r.at r.ordinal ≡ true
+    → q ≡ moved r (next_place lengths r.at r.ordinal) → length lengths - q.ordinal < length lengths - r.ordinal
+nearer lengths bytes r q s e f =
+    let l : r.ordinal < length lengths = (next_in lengths bytes r s e).0 in
+    let o : q.ordinal ≡ r.ordinal + 1 = ap (λ (x : Reader). x.ordinal) f in
+    omega (arith, l, o)
+
+-- where it stops
+pub stands_end : (lengths bytes : List ℕ) (r : Reader) {b : Bool} → Stands lengths bytes r → goes_on bytes lengths r.at r.ordinal ≡ false
+    → b ≡ leb (length lengths) (r.ordinal + 1) → b ≡ terms_rise lengths bytes
+stands_end lengths bytes r s e f = f ∙ rises-end lengths bytes r.at r.ordinal e ∙ s.3

@@ -1,5 +1,4 @@
 use mathlib.Core.Path.{sym, ap, ◌∙◌}
-use borrow.Author.Rules.{rules}
 use Rattle.definitions.specs.Lists.{compare_bytes, is_below}
 use Rattle.term_order.proofs.Laws.{told-lt, told-eq, told_gt}
 use Rattle.term_reader.proofs.comes_before.Goals as goal

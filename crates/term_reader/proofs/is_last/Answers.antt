@@ -1,5 +1,4 @@
 use mathlib.Core.Path.{refl}
-use borrow.Author.Rules.{rules}
 use Rattle.term_reader.proofs.is_last.Goals as goal
 
 -- `term_reader::is_last` meets its contract. Assumes nothing.

@@ -1,4 +1,3 @@
-use borrow.Author.Rules.{rules}
 use Rattle.lists.proofs.Parts.{part-lent}
 use Rattle.term_reader.proofs.term_at.Goals as goal
 
