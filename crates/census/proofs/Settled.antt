@@ -147,7 +147,9 @@ pub record Going (old : List (List ℕ)) (ids offsets lengths words : List ℕ) 
 pub settled-length : (m b : ℕ) (old : List (List ℕ)) (ids offsets lengths words : List ℕ) → length (settled_from m b old ids offsets lengths words) ≡ length old
 unfolding settled_from
 settled-length m b [] ids offsets lengths words = refl
-settled-length m b (r ∷ rs) ids offsets lengths words = ap suc (settled-length _ _ rs ids offsets lengths words)
+settled-length m b (r ∷ rs) ids offsets lengths words =
+    let p = settled (stand_of r) (census_in (stand_of r) ids offsets words) m (text_from (stand_of r) lengths b) in
+    ap suc (settled-length p.map.to p.text.to rs ids offsets lengths words)
 
 pub going_start : (old : List (List ℕ)) (ids offsets lengths words : List ℕ) → Going old ids offsets lengths words old no_tally 0
 going_start old ids offsets lengths words =

@@ -146,7 +146,8 @@ module _ (ids offsets lengths words : List ℕ) where
       let y : b ≡ b + 0 = omega arith in
       ap₂ (λ (n : ℕ) (w : Span). settled (stand_of r) (census_in (stand_of r) ids offsets words) n w) x (ap (text_from (stand_of r) lengths) y)
   settled_at_lem m b (r ∷ rs) (suc k) h =
-      settled_at_lem _ _ rs k (le_of_suc-le-suc h)
+      let p = settled (stand_of r) (census_in (stand_of r) ids offsets words) m (text_from (stand_of r) lengths b) in
+      settled_at_lem p.map.to p.text.to rs k (le_of_suc-le-suc h)
       ∙ ap₂ (λ (n : ℕ) (w : Span). settled (stand_at rs k) (census_in (stand_at rs k) ids offsets words) n w) map_on (ap (text_from (stand_at rs k) lengths) text-on)
     where
       map_on : (settled (stand_of r) (census_in (stand_of r) ids offsets words) m (text_from (stand_of r) lengths b)).map.to + sum_below (λ j. held_terms (stand_at rs j)) k

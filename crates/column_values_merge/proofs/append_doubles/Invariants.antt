@@ -1,0 +1,14 @@
+use mathlib.Core.Path.{◌≡◌, refl, ◌∙◌}
+use Prim.Native.Nat.{◌-◌, ◌≤◌}
+use lib.ListN.{length, length-set}
+use borrow.Author.Rules.{rules}
+use Rattle.runs.proofs.Laws.{putting, putting-none, putting-next, putting-all}
+use Rattle.column_values_merge.specs.Word.{doubles}
+use Rattle.column_values_merge.proofs.Laws.{doubles-length, doubles-at}
+use Rattle.column_values_merge.proofs.append_doubles.Given as goal
+
+abbrev pub invariant-loop-j : goal.invariant-loop-j
+invariant-loop-j l = (l.j ≤ length l.vs) × (l.out ≡ putting l.at (doubles l.t l.vs) l.initial.out l.j) × (length l.out ≡ length l.initial.out)
+
+abbrev pub decreases-loop-j : goal.decreases-loop-j
+decreases-loop-j l = length l.vs - l.j

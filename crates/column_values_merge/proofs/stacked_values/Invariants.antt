@@ -1,0 +1,14 @@
+use Prim.Native.Nat.{◌-◌, ◌≤◌}
+use native.Mathlib.Omega.{arith}
+use lib.ListN.{length, drop}
+use borrow.Author.Rules.{rules}
+use Rattle.runs.proofs.Laws.{Filling, fill_start, fill_end}
+use Rattle.column_values_merge.specs.Stack.{stacked_words}
+use Rattle.column_values_merge.proofs.Laws.{now_lies, now_worded, now_length, words-room, words_more, words_done}
+use Rattle.column_values_merge.proofs.stacked_values.Given as goal
+
+abbrev pub invariant-loop-s : goal.invariant-loop-s
+invariant-loop-s l = (l.s ≤ length l.stands) × Filling 0 (stacked_words l.to l.stands l.values l.map) l.initial.out (stacked_words l.to (drop l.s l.stands) l.values l.map) l.out l.at
+
+abbrev pub decreases-loop-s : goal.decreases-loop-s
+decreases-loop-s l = length l.stands - l.s

@@ -1,0 +1,107 @@
+use borrow.Author.Rules.{rules}
+use mathlib.Core.Path.{refl}
+use mathlib.Core.List.{List, []}
+use Prim.Native.Nat.{ℕ}
+use native.Mathlib.Omega.{arith}
+use Rattle.term_cursors.specs.Cursors.{terms_in, sum_over}
+use Rattle.term_merger.proofs.Walk.{sinking_new}
+use Rattle.term_walk.proofs.Going.{Going, going_start, going_more, cursor_in, terms-room, texts-room, place_in, end-s, fits-s, stepped, small-ordinal, size-new, readable-new, fewer}
+use Rattle.term_walk.proofs.Ends.{walked, cursors_passed}
+use Rattle.term_walk.proofs.merge_terms.Goals as goal
+
+pub loop-h-init : goal.loop-h-init
+loop-h-init c =
+    ((λ x. 0), [], going_start _ _ _ _ _ _ _ _ _ _ c.requires.ready c.requires.started (search rules) (record { byte = λ i. (c.shared_slice_known-2-1.given i).fits }) refl refl refl refl)
+
+pub bounds-h-0 : goal.bounds-h-0
+bounds-h-0 c =
+    omega (arith, c.loop-h.invariant.2.heap.full)
+
+pub slice_copy_out-cursor : goal.slice_copy_out-cursor
+slice_copy_out-cursor c =
+    omega (arith, c.byte-s.ensures.1, c.loop-h.invariant.2.size)
+
+pub take_term-t-requires-clause-inside : goal.take_term-t-requires-clause-inside
+take_term-t-requires-clause-inside c =
+    cursor_in c.requires.ready c.loop-h.invariant.2 c.loop-h-test.true c.byte-s.ensures.0
+
+pub take_term-t-requires-clause-inside_2 : goal.take_term-t-requires-clause-inside_2
+take_term-t-requires-clause-inside_2 c =
+    (c.loop-h.invariant.2.last_in, omega (arith, c.loop-h.invariant.2.used, c.loop-h.invariant.2.counted))
+
+pub take_term-t-requires-clause-terms_in_bounds : goal.take_term-t-requires-clause-terms_in_bounds
+take_term-t-requires-clause-terms_in_bounds c =
+    (terms-room c.requires.ready c.loop-h.invariant.2 c.loop-h-test.true c.byte-s.ensures.0, texts-room c.requires.ready c.loop-h.invariant.2 c.loop-h-test.true c.byte-s.ensures.0)
+
+pub overflow_cast-map : goal.overflow_cast-map
+overflow_cast-map c =
+    omega (arith, small-ordinal c.requires.ready c.loop-h.invariant.2 c.loop-h-test.true c.byte-s.ensures.0 _ _ _ (stepped c.requires.ready c.loop-h.invariant.2 c.loop-h-test.true c.byte-s.ensures.0 _ _ _ c.take_term-t.ensures).1)
+
+pub bounds-map-to : goal.bounds-map-to
+bounds-map-to c =
+    omega (arith, place_in c.requires.ready c.loop-h.invariant.2 c.loop-h-test.true c.byte-s.ensures.0)
+
+pub overflow_add-at : goal.overflow_add-at
+overflow_add-at c =
+    omega (arith, (cursor_in c.requires.ready c.loop-h.invariant.2 c.loop-h-test.true c.byte-s.ensures.0).1)
+
+pub overflow_add-at-in-loop-h : goal.overflow_add-at-in-loop-h
+overflow_add-at-in-loop-h c =
+    omega (arith, place_in c.requires.ready c.loop-h.invariant.2 c.loop-h-test.true c.byte-s.ensures.0, c.loop-h.invariant.2.size-map)
+
+pub put_cursor-requires-clause-standing : goal.put_cursor-requires-clause-standing
+put_cursor-requires-clause-standing c =
+    record {
+        inside = omega (arith, end-s c.requires.ready c.loop-h.invariant.2 c.loop-h-test.true c.byte-s.ensures.0, c.requires.ready.inside c.byte-s.result);
+        marked = λ e. omega (arith, end-s c.requires.ready c.loop-h.invariant.2 c.loop-h-test.true c.byte-s.ensures.0, c.requires.ready.marked c.byte-s.result e);
+        text = fits-s c.requires.ready c.loop-h.invariant.2 c.loop-h-test.true c.byte-s.ensures.0;
+      }
+
+pub put_cursor-requires-clause-s_in_bounds : goal.put_cursor-requires-clause-s_in_bounds
+put_cursor-requires-clause-s_in_bounds c =
+    omega (arith, c.byte-s.ensures.1, c.loop-h.invariant.2.size)
+
+pub settle_top-requires-clause-in_bounds : goal.settle_top-requires-clause-in_bounds
+settle_top-requires-clause-in_bounds c =
+    (omega (arith, size-new c.requires.ready c.loop-h.invariant.2 c.loop-h-test.true c.byte-s.ensures.0 c.put_cursor.ensures), readable-new c.requires.ready c.loop-h.invariant.2 c.loop-h-test.true c.byte-s.ensures.0 c.put_cursor.ensures)
+
+pub settle_top-requires-clause-seg_len : goal.settle_top-requires-clause-seg_len
+settle_top-requires-clause-seg_len c =
+    (c.loop-h.invariant.2.heap.full, c.loop-h-test.true, c.loop-h.invariant.2.heap.len, sinking_new c.loop-h.invariant.2.heap c.loop-h-test.true c.byte-s.ensures.0 _ c.put_cursor.ensures)
+
+pub loop-h-smaller : goal.loop-h-smaller
+loop-h-smaller c =
+    fewer c.requires.ready c.loop-h.invariant.2 c.loop-h-test.true c.byte-s.ensures.0 c.put_cursor.ensures
+
+pub loop-h-preserved : goal.loop-h-preserved
+loop-h-preserved c =
+    let st = stepped c.requires.ready c.loop-h.invariant.2 c.loop-h-test.true c.byte-s.ensures.0 _ _ _ c.take_term-t.ensures in
+    (_, st.0, going_more c.requires.ready c.loop-h.invariant.2 c.loop-h-test.true c.byte-s.ensures.0 c.put_cursor.ensures _ _ _ _ st.1 _ refl c.settle_top.ensures)
+
+pub shape_of-cursors : goal.shape_of-cursors
+shape_of-cursors c =
+    omega (arith, c.loop-h.invariant.2.size, c.requires.ready.size)
+
+pub shape_of-out_lengths : goal.shape_of-out_lengths
+shape_of-out_lengths c =
+    c.loop-h.invariant.2.size_lens
+
+pub shape_of-out_bytes : goal.shape_of-out_bytes
+shape_of-out_bytes c =
+    c.loop-h.invariant.2.size_outs
+
+pub shape_of-map : goal.shape_of-map
+shape_of-map c =
+    c.loop-h.invariant.2.size-map
+
+pub returns-clause-merged : goal.returns-clause-merged
+returns-clause-merged c =
+    walked c.requires.ready c.loop-h.invariant.2 c.loop-h-test.false _ _ _ refl refl refl
+
+pub returns-clause-cursors_after : goal.returns-clause-cursors_after
+returns-clause-cursors_after c =
+    cursors_passed c.requires.ready c.loop-h.invariant.2 c.loop-h-test.false
+
+pub offset_bounds-map-to : goal.offset_bounds-map-to
+offset_bounds-map-to c =
+    omega (arith, place_in c.requires.ready c.loop-h.invariant.2 c.loop-h-test.true c.byte-s.ensures.0, c.loop-h.invariant.2.size-map, c.well_formed)
