@@ -1,0 +1,20 @@
+use mathlib.Core.Path.{◌≡◌, refl, ap, ◌∙◌}
+use Prim.Native.Nat.{ℕ, ◌+◌, ◌-◌, ◌≤◌, zero-le}
+use native.Mathlib.Omega.{arith}
+use lib.ListN.{length, drop}
+use borrow.Author.Rules.{rules}
+use borrow.Author.Tests.{not-true, not-false}
+use Rattle.segment.proofs.Walk.{total_step}
+use Rattle.sections_fit.proofs.Walks.{lists_step, lists_end}
+use Rattle.sections_fit.specs.Walks.{lists_from}
+use Rattle.segment.specs.Records.{records_of}
+use Rattle.definitions.specs.Segment.{SegmentRecord}
+use Rattle.definitions.specs.Answer.{total}
+use Rattle.lists.proofs.Tests.{fell, went}
+use Rattle.sections_fit.proofs.all_lists_fit.Given as goal
+
+abbrev pub invariant-loop-s : goal.invariant-loop-s
+invariant-loop-s l = (l.s ≤ length l.records) × (l.i + total (λ (r : SegmentRecord). r.ids) (records_of (drop l.s l.records)) ≤ length l.ids) × (l.o + total (λ (r : SegmentRecord). r.offsets) (records_of (drop l.s l.records)) ≤ length l.offsets) × (lists_from (records_of (drop l.s l.records)) (drop l.i l.ids) (drop l.o l.offsets) ≡ lists_from (records_of l.records) l.ids l.offsets)
+
+abbrev pub decreases-loop-s : goal.decreases-loop-s
+decreases-loop-s l = length l.records - l.s

@@ -1,0 +1,16 @@
+use mathlib.Core.Path.{◌≡◌, refl, ap, ◌∙◌}
+use Prim.Native.Nat.{ℕ, ◌+◌, ◌-◌, ◌*◌, ◌≤◌, zero-le}
+use native.Mathlib.Omega.{arith}
+use lib.ListN.{length, drop}
+use borrow.Author.Rules.{rules}
+use Rattle.sections_fit.proofs.Walks.{totals_from, no_totals, totals_step, totals_end, totals_all}
+use Rattle.sections_fit.specs.Walks.{Below}
+use Rattle.segment.specs.Records.{records_of}
+use Rattle.sections_fit.specs.declared.Totals.{Totals}
+use Rattle.sections_fit.proofs.totals_of.Given as goal
+
+abbrev pub invariant-loop-i : goal.invariant-loop-i
+invariant-loop-i l = (l.i ≤ length l.records) × (totals_from l.t (records_of (drop l.i l.records)) ≡ totals_from no_totals (records_of l.records)) × Below l.t (l.i * 8589934592)
+
+abbrev pub decreases-loop-i : goal.decreases-loop-i
+decreases-loop-i l = length l.records - l.i
