@@ -1,0 +1,16 @@
+use Rattle.std.proofs.Common.{◌≡◌, ℕ, ◌+◌, ◌-◌, ◌≤◌, length, drop, refl, ap, ◌∙◌, zero-le, arith, rules}
+use borrow.Author.Tests.{not-true, not-false}
+use Rattle.segment.proofs.Walk.{total_step}
+use Rattle.time_checks.proofs.Laws.{times_step, times-end}
+use Rattle.time_checks.specs.Times.{times_from}
+use Rattle.segment.specs.Records.{records_of}
+use Rattle.definitions.specs.Segment.{SegmentRecord, record_words}
+use Rattle.definitions.specs.Answer.{total}
+use Rattle.lists.proofs.Tests.{fell, went}
+use Rattle.time_checks.proofs.all_times_fit.Given as goal
+
+abbrev pub invariant-loop-s : goal.invariant-loop-s
+invariant-loop-s l = (l.s ≤ length l.records) × (l.o + total (λ (r : SegmentRecord). r.offsets) (records_of (drop l.s l.records)) ≤ length l.offsets) × (l.v + total record_words (records_of (drop l.s l.records)) ≤ length l.values) × (times_from (records_of (drop l.s l.records)) (drop l.o l.offsets) (drop l.v l.values) ≡ times_from (records_of l.records) l.offsets l.values)
+
+abbrev pub decreases-loop-s : goal.decreases-loop-s
+decreases-loop-s l = length l.records - l.s

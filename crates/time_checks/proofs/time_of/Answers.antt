@@ -1,0 +1,6 @@
+use Rattle.std.proofs.Common.{rules}
+use Rattle.time_checks.proofs.time_of.Goals as goal
+
+pub returns : goal.returns
+returns c =
+    c.wrapping_add_u64.ensures.value
