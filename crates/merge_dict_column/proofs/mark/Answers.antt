@@ -1,0 +1,15 @@
+use Rattle.merge_dict_column.proofs.Given.{unmarked, marked}
+use borrow.Author.Rules.{rules}
+use Rattle.merge_dict_column.proofs.mark.Goals as goal
+
+pub returns-then-mode-eq0 : goal.returns-then-mode-eq0
+returns-then-mode-eq0 c =
+    unmarked _ _ _ _ _ _ _ c.if-mode-eq0.true
+
+pub mark_terms-requires : goal.mark_terms-requires
+mark_terms-requires c =
+    c.requires.columns c.if-mode-eq0.false
+
+pub returns : goal.returns
+returns c =
+    marked _ _ _ _ _ _ _ c.if-mode-eq0.false c.mark_terms.ensures

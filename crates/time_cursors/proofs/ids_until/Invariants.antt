@@ -1,0 +1,15 @@
+use Prim.Native.Nat.{ℕ, suc, ◌-◌, ◌≤◌, ◌<◌}
+use native.Mathlib.Omega.{arith}
+use lib.ListN.{length, get_or}
+use borrow.Author.Rules.{rules}
+use Rattle.time_cursors.proofs.Laws.{ids_start, ids-here, ids-end}
+use borrow.Author.Count.{below_more}
+use mathlib.Core.Path.{subst}
+use Rattle.column_index.proofs.Laws.{rank-fits}
+use Rattle.time_cursors.proofs.ids_until.Given as goal
+
+abbrev pub invariant-loop-n : goal.invariant-loop-n
+invariant-loop-n l = (l.n ≤ length l.ids) × ((j : ℕ) → j < l.n → get_or l.ids j 0 ≤ l.row)
+
+abbrev pub decreases-loop-n : goal.decreases-loop-n
+decreases-loop-n l = length l.ids - l.n

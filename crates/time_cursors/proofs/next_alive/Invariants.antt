@@ -1,0 +1,13 @@
+use mathlib.Core.Path.{◌≡◌, refl, sym, ◌∙◌}
+use Prim.Native.Nat.{◌-◌, ◌≤◌}
+use native.Mathlib.Omega.{arith}
+use borrow.Author.Rules.{rules}
+use Rattle.time_cursors.proofs.Laws.{next-plain, next_here, next_later, next-none}
+use Rattle.time_cursors.specs.Cursors.{next_row}
+use Rattle.time_cursors.proofs.next_alive.Given as goal
+
+abbrev pub invariant-loop-n : goal.invariant-loop-n
+invariant-loop-n l = (l.n ≤ l.rows) × (next_row l.flag l.alive l.rows l.n ≡ next_row l.flag l.alive l.rows l.from)
+
+abbrev pub decreases-loop-n : goal.decreases-loop-n
+decreases-loop-n l = l.rows - l.n

@@ -1,0 +1,14 @@
+use native.Mathlib.Omega.{arith}
+use mathlib.Core.Path.{ap}
+use mathlib.Core.Logic.{inl, inr}
+use Rattle.time_merge.specs.Runs.{bound_at}
+use borrow.Author.Rules.{rules}
+use Rattle.time_merge.proofs.bound_of.Goals as goal
+
+pub returns-then-len-lt2 : goal.returns-then-len-lt2
+returns-then-len-lt2 c =
+    inl (omega (arith, c.if-len-lt2.true))
+
+pub returns : goal.returns
+returns c =
+    inr (_, c.first_child-c.ensures, ap (bound_at c.args.cursors.now c.args.s) c.byte-other.ensures.0)

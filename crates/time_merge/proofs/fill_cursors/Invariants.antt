@@ -1,0 +1,14 @@
+use borrow.Author.Rules.{rules}
+use mathlib.Core.Path.{ap}
+use Prim.Native.Nat.{◌-◌, ◌≤◌, zero-le}
+use native.Mathlib.Omega.{arith}
+use lib.ListN.{length}
+use Rattle.time_merge.proofs.Keyed.{timed-at}
+use Rattle.time_merge.proofs.Filled.{Filled, filled_start, all_left, filled_more, filled-end}
+use Rattle.time_merge.proofs.fill_cursors.Given as goal
+
+abbrev pub invariant-loop-s : goal.invariant-loop-s
+invariant-loop-s l = (l.s ≤ length l.stands) × Filled l.stands l.ids l.values l.alive l.cursors l.s
+
+abbrev pub decreases-loop-s : goal.decreases-loop-s
+decreases-loop-s l = length l.stands - l.s

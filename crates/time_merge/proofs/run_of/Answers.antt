@@ -1,0 +1,15 @@
+use Rattle.time_merge.proofs.Reaching.{run_fits, run-one, run_more}
+use borrow.Author.Rules.{rules}
+use Rattle.time_merge.proofs.run_of.Goals as goal
+
+pub returns-then-not-stays : goal.returns-then-not-stays
+returns-then-not-stays c =
+    run-one c.requires.left
+
+pub times_within-m-requires : goal.times_within-m-requires
+times_within-m-requires c =
+    run_fits c.requires.left c.requires.times_at
+
+pub returns : goal.returns
+returns c =
+    run_more c.requires.left c.requires.times_at _ c.bound_of-bound.ensures _ c.times_within-m.ensures _ c.row_of.ensures
