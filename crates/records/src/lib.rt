@@ -71,7 +71,8 @@ pub fn rows_of(records: &[segment::Record]) -> [segment::RecordNumbers; 257]
     let mut i: usize = 0;
     while i < n {
         let row = row_of(records, i);
-        table = put_row(table, i, row);
+        let next = put_row(table, i, row);
+        table = next;
         i += 1;
     }
     table
