@@ -8,7 +8,6 @@ use Rattle.runs.proofs.Laws.{Filling, fill-from, fill_as, fill_room, fill_more, 
 use Rattle.listing.proofs.Lines as lines
 use native.Mathlib.Nat.{zero-add}
 use Rattle.definitions.specs.Segment.{cut}
-use borrow.Author.Rules.{rules}
 use Rattle.listing.proofs.put_accepted.Goals as goal
 
 module _ (t k r : ℕ) (ids offsets : List ℕ) (n : ℕ) (words : List ℕ) (ts : List (List ℕ)) (m out : List ℕ) (room : length (accepted_text t k r ids offsets n words ts m) ≤ length out) where

@@ -1,6 +1,5 @@
 use mathlib.Core.Path.{refl}
 use Rattle.runs.proofs.Laws.{put_one}
-use borrow.Author.Rules.{rules}
 use Rattle.listing.proofs.put_byte.Goals as goal
 
 pub returns-clause-value : goal.returns-clause-value

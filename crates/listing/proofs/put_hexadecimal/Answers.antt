@@ -1,11 +1,11 @@
 use borrow.Author.Rules.{rules}
 use mathlib.Core.Path.{refl}
 use mathlib.Core.List.{List, [], ◌∷◌, ◌++◌}
-use Prim.Native.Nat.{ℕ, ◌+◌, ◌-◌, ◌≤◌}
+use Prim.Native.Nat.{ℕ, ◌+◌}
 use native.Mathlib.Omega.{arith}
-use lib.ListN.{length, drop, get_or}
+use lib.ListN.{drop, get_or}
 use Rattle.definitions.specs.Listing.{hexadecimal}
-use Rattle.runs.proofs.Laws.{Filling, fill-from, fill_as, fill_room, fill_more, fill_done}
+use Rattle.runs.proofs.Laws.{fill-from, fill_as, fill_room, fill_more, fill_done}
 use Rattle.listing.proofs.Lines as lines
 use Rattle.listing.proofs.put_hexadecimal.Goals as goal
 
@@ -15,7 +15,7 @@ loop-i-init c =
 
 pub digit-requires : goal.digit-requires
 digit-requires c =
-    omega (arith, c.shared_slice_known-in-loop-i-1.given c.loop-i.i)
+    omega (arith, c.type_inv.bytes c.loop-i.i)
 
 pub put_byte-e-requires : goal.put_byte-e-requires
 put_byte-e-requires c =

@@ -1,12 +1,7 @@
-use borrow.Author.Rules.{rules}
-use mathlib.Core.Path.{refl}
-use mathlib.Core.List.{List, [], ◌∷◌, ◌++◌}
-use Prim.Native.Nat.{ℕ, ◌+◌, ◌-◌, ◌≤◌}
-use native.Mathlib.Omega.{arith}
-use lib.ListN.{length, drop, get_or}
+use Prim.Native.Nat.{◌-◌, ◌≤◌}
+use lib.ListN.{length, drop}
 use Rattle.definitions.specs.Listing.{hexadecimal}
-use Rattle.runs.proofs.Laws.{Filling, fill-from, fill_as, fill_room, fill_more, fill_done}
-use Rattle.listing.proofs.Lines as lines
+use Rattle.runs.proofs.Laws.{Filling}
 use Rattle.listing.proofs.put_hexadecimal.Given as goal
 
 abbrev pub invariant-loop-i : goal.invariant-loop-i

@@ -6,7 +6,6 @@ use lib.ListN.{length}
 use Rattle.definitions.specs.Listing.{decimal, newline, numbers_text, list_line}
 use Rattle.runs.proofs.Laws.{fill-from, fill_as, fill_room, fill_more, fill_last}
 use Rattle.listing.proofs.Lines as lines
-use borrow.Author.Rules.{rules}
 use Rattle.listing.proofs.put_list.Goals as goal
 
 pub put_bytes-a-requires : goal.put_bytes-a-requires

@@ -4,7 +4,6 @@ use Prim.Native.Nat.{ℕ}
 use Rattle.definitions.specs.Listing.{counted_line, list_line, ids_name, offsets_name, values_name}
 use Rattle.runs.proofs.Laws.{fill-from, fill_as, fill_room, fill_more, fill_last, fill_all}
 use Rattle.listing.proofs.Lines as lines
-use borrow.Author.Rules.{rules}
 use Rattle.listing.proofs.put_lists_part.Goals as goal
 
 pub put_list-a-requires : goal.put_list-a-requires

@@ -4,7 +4,6 @@ use Prim.Native.Nat.{ℕ}
 use Rattle.definitions.specs.Listing.{value_line, type_name, class_name, rows_name}
 use Rattle.runs.proofs.Laws.{fill-from, fill_as, fill_room, fill_more, fill_last, fill_all}
 use Rattle.listing.proofs.Lines as lines
-use borrow.Author.Rules.{rules}
 use Rattle.listing.proofs.put_numbers_part.Goals as goal
 
 pub put_value-a-requires : goal.put_value-a-requires

@@ -1,7 +1,6 @@
 use native.Mathlib.Omega.{arith}
 use Rattle.definitions.specs.Listing.{answer_name}
 use Rattle.listing.proofs.Lengths.{value-length}
-use borrow.Author.Rules.{rules}
 use Rattle.listing.proofs.put_refusal.Goals as goal
 
 pub put_value-requires : goal.put_value-requires

@@ -2,7 +2,6 @@ use mathlib.Core.Path.{ap}
 use native.Mathlib.Omega.{arith}
 use lib.ListN.{length}
 use Rattle.listing.proofs.Lines as lines
-use borrow.Author.Rules.{rules}
 use Rattle.listing.proofs.put_term.Goals as goal
 
 pub put_byte-requires : goal.put_byte-requires

@@ -1,14 +1,13 @@
 use borrow.Author.Rules.{rules}
 use mathlib.Core.Path.{refl}
 use mathlib.Core.List.{List, [], ◌++◌}
-use Prim.Native.Nat.{ℕ, ◌+◌, ◌-◌, ◌≤◌}
+use Prim.Native.Nat.{ℕ, ◌+◌, ◌-◌}
 use native.Mathlib.Omega.{arith}
-use lib.ListN.{length, drop, take}
+use lib.ListN.{drop, take}
 use Rattle.definitions.specs.Listing.{space, term_text, terms_text}
-use Rattle.runs.proofs.Laws.{Filling, fill-from, fill_as, fill_room, fill_more, fill_done}
+use Rattle.runs.proofs.Laws.{fill-from, fill_as, fill_room, fill_more, fill_done}
 use Rattle.lists.proofs.Sums.{sum_step}
 use Rattle.listing.proofs.Lines as lines
-use Rattle.definitions.specs.Lists.{sum}
 use Rattle.definitions.specs.Segment.{cut}
 use Rattle.listing.proofs.put_terms.Goals as goal
 

@@ -1,13 +1,7 @@
-use borrow.Author.Rules.{rules}
-use mathlib.Core.Path.{refl}
-use mathlib.Core.List.{List, [], ◌++◌}
-use Prim.Native.Nat.{ℕ, ◌+◌, ◌-◌, ◌≤◌}
-use native.Mathlib.Omega.{arith}
-use lib.ListN.{length, drop, take}
-use Rattle.definitions.specs.Listing.{space, term_text, terms_text}
-use Rattle.runs.proofs.Laws.{Filling, fill-from, fill_as, fill_room, fill_more, fill_done}
-use Rattle.lists.proofs.Sums.{sum_step}
-use Rattle.listing.proofs.Lines as lines
+use Prim.Native.Nat.{◌+◌, ◌-◌, ◌≤◌}
+use lib.ListN.{length, drop}
+use Rattle.definitions.specs.Listing.{terms_text}
+use Rattle.runs.proofs.Laws.{Filling}
 use Rattle.definitions.specs.Lists.{sum}
 use Rattle.definitions.specs.Segment.{cut}
 use Rattle.listing.proofs.put_terms.Given as goal

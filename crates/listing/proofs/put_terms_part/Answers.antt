@@ -5,7 +5,6 @@ use Rattle.definitions.specs.Listing.{list_line, terms_line, terms_part, terms_n
 use Rattle.runs.proofs.Laws.{fill-from, fill_as, fill_room, fill_more, fill_last, fill_all}
 use Rattle.listing.proofs.Lines as lines
 use Rattle.definitions.specs.Segment.{cut}
-use borrow.Author.Rules.{rules}
 use Rattle.listing.proofs.put_terms_part.Goals as goal
 
 pub put_term_list-a-requires-clause-lengths_in_bounds : goal.put_term_list-a-requires-clause-lengths_in_bounds

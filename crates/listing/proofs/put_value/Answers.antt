@@ -5,7 +5,6 @@ use native.Mathlib.Omega.{arith}
 use Rattle.definitions.specs.Listing.{decimal, newline, value_line}
 use Rattle.runs.proofs.Laws.{fill-from, fill_as, fill_room, fill_more, fill_last}
 use Rattle.listing.proofs.Lines.{value-is}
-use borrow.Author.Rules.{rules}
 use Rattle.listing.proofs.put_value.Goals as goal
 
 pub put_bytes-a-requires : goal.put_bytes-a-requires

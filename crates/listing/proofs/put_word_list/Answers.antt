@@ -5,7 +5,6 @@ use native.Mathlib.Omega.{arith}
 use Rattle.definitions.specs.Listing.{decimal, newline, numbers_text, counted_line}
 use Rattle.runs.proofs.Laws.{fill-from, fill_as, fill_room, fill_more, fill_last}
 use Rattle.listing.proofs.Lines as lines
-use borrow.Author.Rules.{rules}
 use Rattle.listing.proofs.put_word_list.Goals as goal
 
 pub put_bytes-a-requires : goal.put_bytes-a-requires

@@ -1,11 +1,11 @@
 use borrow.Author.Rules.{rules}
 use mathlib.Core.Path.{refl}
 use mathlib.Core.List.{List, [], ◌++◌}
-use Prim.Native.Nat.{ℕ, ◌+◌, ◌-◌, ◌≤◌}
+use Prim.Native.Nat.{ℕ, ◌+◌}
 use native.Mathlib.Omega.{arith}
-use lib.ListN.{length, drop, get_or}
+use lib.ListN.{drop, get_or}
 use Rattle.definitions.specs.Listing.{decimal, space, numbers_text}
-use Rattle.runs.proofs.Laws.{Filling, fill-from, fill_as, fill_room, fill_more, fill_done}
+use Rattle.runs.proofs.Laws.{fill-from, fill_as, fill_room, fill_more, fill_done}
 use Rattle.listing.proofs.Lines as lines
 use Rattle.listing.proofs.put_words.Goals as goal
 
