@@ -16,7 +16,6 @@ use Rattle.definitions.proofs.Fit.{not_old}
 use Rattle.segment.proofs.Kind.{by_index_lem}
 use Rattle.lists.proofs.Lists.{empty-length}
 use Rattle.stands.specs.declared.Stand.{Stand}
-use Rattle.stands.specs.Stand.{many}
 use Rattle.stands.specs.Width.{id_part}
 use Rattle.stands.specs.Look.{alive_set_at, width_in}
 use Rattle.stands.specs.Stack.{segment_widths}

@@ -1,5 +1,5 @@
 -- Rows of one word each, copied as they stand, are the join's words. Assumes nothing.
-use Prim.Native.Nat.{ℕ, zero, suc, ◌+◌, ◌-◌, ◌*◌, ◌≤◌, ◌<◌, zero-le, suc-le-suc}
+use Prim.Native.Nat.{ℕ, suc, ◌+◌, ◌-◌, ◌*◌, ◌≤◌, ◌<◌, zero-le, suc-le-suc}
 use native.Mathlib.Nat.{mul-one}
 use native.Mathlib.Numerals.{add-one}
 use native.Mathlib.Omega.{arith}
@@ -9,12 +9,9 @@ use mathlib.Core.Bool.{Bool, true, false, cond, not, ◌&&◌, ◌||◌}
 use lib.Dec.{T, eqb, eqb→eq}
 use lib.ListN.{length, get_or, take, drop, set, drop_of_length-le, length-map}
 use lib.Seq.{drop-cons}
-use lib.Ieee.Bits.{is_true}
 use borrow.Author.Tests.{eq-eqb, ne_eqb, eqb-true, eqb-false, not-true, not-false}
-use Rattle.definitions.specs.Lists.{all}
 use Rattle.definitions.specs.Types.{F64, has_terms}
 use Rattle.definitions.proofs.Lists.{all_mem, mem_at, and4, get_or_in}
-use Rattle.definitions.proofs.Accept.{or_cases}
 use Rattle.lists.proofs.Tests.{true-T}
 use Rattle.stands.specs.declared.Stand.{Stand}
 use Rattle.stands.specs.Stand.{run, stand_of, stand_at}

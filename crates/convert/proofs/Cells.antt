@@ -12,7 +12,6 @@ use lib.Ieee.Fits.{and_l, and_r}
 use borrow.Author.Tests.{lt-ltb, le-ltb, ltb-true, ltb-false}
 use Rattle.definitions.specs.Lists.{up_from, up_to, last, not_falling, not_falling_from}
 use Rattle.definitions.specs.Segment.{Segment}
-use Rattle.definitions.specs.Row.{between}
 use Rattle.definitions.specs.Join.{ids_from, totals_from}
 use Rattle.definitions.specs.Answer.{lists_fit}
 use Rattle.definitions.specs.Convert.{row_cells, converted}

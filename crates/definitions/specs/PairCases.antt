@@ -6,7 +6,7 @@ use Rattle.definitions.specs.Segment.{Segment, Pair, pair, no_pair, address as a
 use Rattle.definitions.specs.Types.{is_less, pair_of}
 use Rattle.definitions.specs.Outcome.{Lent, Answer, accepted, refused}
 use Rattle.definitions.specs.TimeOrder.{time_number_of}
-use Rattle.definitions.specs.Sheet.{plain, with_alive, counted, with_pair, none, full, one, str, dropped, a, five, old_five, nine, new_kind, stacked, in_order, outcome_of, time_sheet_of}
+use Rattle.definitions.specs.Sheet.{plain, with_alive, counted, with_pair, none, full, one, str, dropped, a, old_five, nine, new_kind, stacked, in_order, outcome_of, time_sheet_of}
 
 -- ---- the pair of values of a type
 

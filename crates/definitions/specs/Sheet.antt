@@ -2,7 +2,7 @@
 use Rattle.std.specs.Prelude.{ℕ, List, [], ◌∷◌, map, length, take, replicate}
 use Rattle.std.specs.Float.Ieee.{of_int, to_bits}
 use Rattle.definitions.specs.Words.{words_per_value, value_words, values_in}
-use Rattle.definitions.specs.Segment.{Segment, SegmentRecord, Pair, pair, no_pair, Address, record_from, alive_words, record_words, first_segment, after_first, segments_of, record_of, sections_of, address as at}
+use Rattle.definitions.specs.Segment.{Segment, SegmentRecord, pair, no_pair, Address, record_from, alive_words, record_words, first_segment, after_first, segments_of, record_of, sections_of, address as at}
 use Rattle.definitions.specs.Row.{row_values, bit_at, set_bits, is_alive, alive_rows, alive_number, is_dropped, is_held, held_of, as_empty, effective, no_type}
 use Rattle.definitions.specs.Types.{is_known_type, is_numerical, has_terms, same_category, is_less, pair_of, has_type, every_pair, only_type, numerical_type, type_of, signed_of, integer_of, double_of, coerced, is_coercible}
 use Rattle.definitions.specs.Class.{kind_class, alive_class, class_of, greatest_class}

@@ -2,7 +2,7 @@
 use Prim.Native.Nat.{ℕ, ◌+◌, ◌≤◌, zero-le}
 use native.Mathlib.Omega.{arith}
 use mathlib.Core.Path.{◌≡◌, refl, sym, ap, ◌∙◌, subst}
-use mathlib.Core.List.{List, [], ◌∷◌, map}
+use mathlib.Core.List.{List, [], ◌∷◌}
 use mathlib.Core.Bool.{Bool, true, false, not, cond, ◌||◌, false≢true}
 use lib.ListN.{length, take}
 use lib.Seq.{take_at, length-take-le}
@@ -14,7 +14,6 @@ use Rattle.definitions.specs.Lists.{filter}
 use Rattle.definitions.specs.Row.{is_held, held_of}
 use Rattle.definitions.specs.Join.{Column, row_order, encode, terms_of, map_of, joined_column, join_rules}
 use Rattle.definitions.specs.Answer.{answer, sum_over, terms_in, bytes_in, types_wrong, output_too_short}
-use Rattle.definitions.specs.Outcome as Outcome
 use Rattle.definitions.specs.Outcome.{Buffers, Lent, accepted, refused, space_of, input_of, numbers_of, refused_buffers, accepted_buffers, join_outcome, lent_of}
 use Rattle.definitions.proofs.Words.{AllWords}
 use Rattle.runs.specs.Put.{put, put_if}

@@ -1,5 +1,5 @@
 -- Keys of words, which unsigned numbers compare as the type does, and the least and the greatest of them. Assumes nothing.
-use Rattle.std.specs.Prelude.{ℕ, ◌+◌, ◌-◌, ◌%◌, ◌^◌, min, max, cond, List, [], ◌∷◌, map, ◌==◌}
+use Rattle.std.specs.Prelude.{ℕ, ◌+◌, ◌-◌, ◌%◌, min, max, cond, List, [], ◌∷◌, map, ◌==◌}
 use Rattle.definitions.specs.Segment.{Pair, pair}
 use Rattle.definitions.specs.Types.{I64}
 use Rattle.min_max.specs.declared.Range.{Range}

@@ -1,7 +1,6 @@
 -- What the coercion test and the running state need of the definitions. Assumes nothing.
-use Rattle.std.proofs.Common.{◌≡◌, ℕ, ◌^◌, Bool, true, false, not, ltb, leb, sym, ◌∙◌, arith, eq-eqb, ne_eqb}
+use Rattle.std.proofs.Common.{◌≡◌, ℕ, ◌^◌, Bool, true, false, ltb, leb, sym, ◌∙◌, arith, eq-eqb, ne_eqb}
 use mathlib.Core.Bool.{or-false}
-use borrow.Author.Tests.{not-true, not-false}
 use Rattle.definitions.specs.Segment.{Pair}
 use Rattle.definitions.specs.Types.{is_numerical, is_coercible, greatest_i64}
 use Rattle.lists.proofs.Numbers.{not-leb, leb-suc}

@@ -1,5 +1,5 @@
 -- Record structs, and the rows of numbers that stand for them. Assumes nothing.
-use Rattle.std.specs.Prelude.{ℕ, zero, suc, List, [], ◌∷◌, map, cond, ltb, get_or, set, replicate}
+use Rattle.std.specs.Prelude.{ℕ, zero, suc, List, map, cond, ltb, get_or, set, replicate}
 use Rattle.definitions.specs.Segment.{SegmentRecord}
 use Rattle.segment.specs.Records.{row_width, record_row, record_in}
 use Rattle.segment.specs.declared.Record.{Record}

@@ -2,7 +2,6 @@ use mathlib.Core.Path.{ap}
 use Prim.Native.Nat.{ℕ, ◌-◌, ◌/◌, ◌%◌}
 use native.Mathlib.Omega.{arith}
 use lib.ListN.{get_or, set}
-use borrow.Author.Rules.{rules}
 use Rattle.definitions.proofs.Bits.{weight_is}
 use Rattle.alive_set.proofs.Weight.{weight_there}
 use Rattle.alive_set.proofs.clear_alive.Goals as goal

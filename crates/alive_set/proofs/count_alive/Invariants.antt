@@ -1,12 +1,7 @@
 use mathlib.Core.Path.{◌≡◌}
-use Prim.Native.Nat.{◌+◌, ◌*◌, ◌-◌, ◌≤◌, ◌<◌, zero-le, ◌^◌}
-use native.Mathlib.Nat.{zero-add}
-use native.Mathlib.Omega.{arith}
-use lib.ListN.{length, drop, get_or}
-use lib.Count.{ones-le}
-use borrow.Author.Rules.{rules}
+use Prim.Native.Nat.{◌+◌, ◌*◌, ◌-◌, ◌≤◌}
+use lib.ListN.{length, drop}
 use Rattle.definitions.specs.Row.{set_bits}
-use Rattle.alive_set.proofs.Ones.{count_step, count-end}
 use Rattle.alive_set.proofs.count_alive.Given as goal
 
 abbrev pub invariant-loop-i : goal.invariant-loop-i

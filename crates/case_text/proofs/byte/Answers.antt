@@ -1,5 +1,4 @@
 use Rattle.case_text.proofs.Reading.{cap_below, cap_above}
-use borrow.Author.Rules.{rules}
 use Rattle.case_text.proofs.byte.Goals as goal
 
 pub returns-then-n-lt255 : goal.returns-then-n-lt255

@@ -1,6 +1,5 @@
 use native.Mathlib.Omega.{arith}
 use Rattle.case_text.proofs.Reading.{digit-below, digit_ten, digit-between, digit_letter, digit-above}
-use borrow.Author.Rules.{rules}
 use Rattle.case_text.proofs.digit.Goals as goal
 
 pub returns-then-b-lt48 : goal.returns-then-b-lt48

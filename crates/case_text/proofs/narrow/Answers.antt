@@ -1,5 +1,4 @@
 use Rattle.case_text.proofs.Reading.{cap_below, cap_above}
-use borrow.Author.Rules.{rules}
 use Rattle.case_text.proofs.narrow.Goals as goal
 
 pub returns-then-n-lt4294967295 : goal.returns-then-n-lt4294967295

@@ -1,9 +1,5 @@
-use Rattle.case_text.specs.Text.{digits_from, number_in}
 use Rattle.case_text.proofs.Reading.{number_start, digits_end, digits-stop, digits_wide, digits_on}
-use mathlib.Core.Path.{◌≡◌, ◌∙◌}
-use Prim.Native.Nat.{◌-◌}
-use lib.ListN.{length, drop}
-use borrow.Author.Rules.{rules}
+use mathlib.Core.Path.{◌∙◌}
 use Rattle.case_text.proofs.number.Goals as goal
 
 pub loop-i-init : goal.loop-i-init

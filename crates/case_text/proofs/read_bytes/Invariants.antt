@@ -1,8 +1,6 @@
 use Rattle.case_text.specs.Text.{capped_in}
-use Rattle.case_text.proofs.Reading.{Reading, reading_start, reading_step, reading_end, capped_is}
+use Rattle.case_text.proofs.Reading.{Reading}
 use Prim.Native.Nat.{◌-◌}
-use native.Mathlib.Omega.{arith}
-use borrow.Author.Rules.{rules}
 use Rattle.case_text.proofs.read_bytes.Given as goal
 
 abbrev pub invariant-loop-i : goal.invariant-loop-i

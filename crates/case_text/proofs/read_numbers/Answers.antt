@@ -1,8 +1,5 @@
-use Rattle.case_text.specs.Text.{capped_in}
-use Rattle.case_text.proofs.Reading.{Reading, reading_start, reading_step, reading_end, capped_is}
-use Prim.Native.Nat.{◌-◌}
+use Rattle.case_text.proofs.Reading.{reading_start, reading_step, reading_end, capped_is}
 use native.Mathlib.Omega.{arith}
-use borrow.Author.Rules.{rules}
 use Rattle.case_text.proofs.read_numbers.Goals as goal
 
 pub loop-i-init : goal.loop-i-init

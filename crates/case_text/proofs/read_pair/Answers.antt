@@ -1,7 +1,4 @@
 use Rattle.case_text.proofs.Reading.{capped_is, row-none, row_more}
-use borrow.Author.Rules.{rules}
-use Rattle.case_text.proofs.narrow.Reads as narrow-reads
-use Rattle.case_text.proofs.number.Reads as number-reads
 use Rattle.case_text.proofs.read_pair.Goals as goal
 
 pub returns : goal.returns

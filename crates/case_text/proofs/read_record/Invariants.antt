@@ -1,10 +1,7 @@
-use mathlib.Core.Path.{refl}
 use Prim.Native.Nat.{◌-◌}
-use native.Mathlib.Omega.{arith}
-use borrow.Author.Rules.{rules}
 use Rattle.segment.specs.Records.{row_width}
 use Rattle.case_text.specs.Text.{capped_in}
-use Rattle.case_text.proofs.Reading.{Reading, reading_start, reading_step, reading_row, capped_is}
+use Rattle.case_text.proofs.Reading.{Reading}
 use Rattle.case_text.proofs.read_record.Given as goal
 
 abbrev pub invariant-loop-i : goal.invariant-loop-i

@@ -1,9 +1,5 @@
-use Rattle.segment.specs.Records.{row_width}
-use Rattle.case_text.specs.Text.{row_in}
-use Rattle.case_text.proofs.Reading.{Reading, reading_start, reading_step, reading_end}
-use Prim.Native.Nat.{◌-◌}
+use Rattle.case_text.proofs.Reading.{reading_start, reading_step, reading_end}
 use native.Mathlib.Omega.{arith}
-use borrow.Author.Rules.{rules}
 use Rattle.case_text.proofs.read_records.Goals as goal
 
 pub loop-i-init : goal.loop-i-init

@@ -1,9 +1,5 @@
-use Rattle.case_text.specs.Text.{skip_from}
 use Rattle.case_text.proofs.Reading.{skip_end, skip_here, skip_on}
-use mathlib.Core.Path.{◌≡◌, refl, ◌∙◌}
-use Prim.Native.Nat.{◌-◌}
-use lib.ListN.{length, drop}
-use borrow.Author.Rules.{rules}
+use mathlib.Core.Path.{refl, ◌∙◌}
 use Rattle.case_text.proofs.skip.Goals as goal
 
 pub loop-i-init : goal.loop-i-init

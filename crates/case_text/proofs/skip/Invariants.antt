@@ -1,9 +1,7 @@
 use Rattle.case_text.specs.Text.{skip_from}
-use Rattle.case_text.proofs.Reading.{skip_end, skip_here, skip_on}
-use mathlib.Core.Path.{◌≡◌, refl, ◌∙◌}
+use mathlib.Core.Path.{◌≡◌}
 use Prim.Native.Nat.{◌-◌}
 use lib.ListN.{length, drop}
-use borrow.Author.Rules.{rules}
 use Rattle.case_text.proofs.skip.Given as goal
 
 abbrev pub invariant-loop-i : goal.invariant-loop-i

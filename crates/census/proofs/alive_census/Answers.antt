@@ -1,7 +1,6 @@
 use mathlib.Core.Path.{◌∙◌}
 use Rattle.stands.specs.Look.{alive_set_at}
 use Rattle.census.proofs.Rows.{ids-ready, ids-values, ids-many, empty-sum, empty-count, full-sum, full-count}
-use borrow.Author.Rules.{rules}
 use Rattle.census.proofs.alive_census.Goals as goal
 
 pub returns-then-p-eq0 : goal.returns-then-p-eq0

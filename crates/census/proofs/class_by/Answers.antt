@@ -2,7 +2,6 @@ use mathlib.Core.Path.{sym, ap, ◌∙◌}
 use mathlib.Core.Bool.{Bool, cond}
 use borrow.Author.Tests.{eq-eqb, ne_eqb}
 use Rattle.census.specs.Class.{kind_class_of, count_class, class_by}
-use borrow.Author.Rules.{rules}
 use Rattle.census.proofs.class_by.Goals as goal
 
 pub returns-then-p-eq1 : goal.returns-then-p-eq1

@@ -1,7 +1,6 @@
 use mathlib.Core.Path.{sym, ◌∙◌}
 use Rattle.stands.proofs.Bulk.{seg-sum}
 use Rattle.census.proofs.Rows.{listed-is, census_alive, census_whole}
-use borrow.Author.Rules.{rules}
 use Rattle.census.proofs.count.Goals as goal
 
 pub returns-then-p-eq1 : goal.returns-then-p-eq1

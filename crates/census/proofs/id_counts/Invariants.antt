@@ -1,13 +1,8 @@
-use mathlib.Core.Path.{◌≡◌, refl, sym, ap, ap₂, ◌∙◌, subst}
-use mathlib.Core.Bool.{cond}
-use Prim.Native.Nat.{ℕ, ◌-◌, ◌*◌, ◌≤◌, ◌<◌, zero-le}
-use native.Mathlib.Omega.{arith}
+use mathlib.Core.Path.{◌≡◌}
+use Prim.Native.Nat.{◌-◌, ◌≤◌}
 use lib.ListN.{length}
-use borrow.Author.Rules.{rules}
-use Rattle.definitions.specs.Row.{bit_at}
 use Rattle.lists.specs.Sums.{sum_below}
 use Rattle.census.specs.Census.{listed_by, values_by}
-use Rattle.census.proofs.Rows.{sum-next, sum_fits, one_at_most}
 use Rattle.census.proofs.id_counts.Given as goal
 
 abbrev pub invariant-loop-k : goal.invariant-loop-k

@@ -1,6 +1,5 @@
 use native.Mathlib.Omega.{arith}
 use Rattle.census.proofs.Rows.{width_one, width-between}
-use borrow.Author.Rules.{rules}
 use Rattle.census.proofs.id_width.Goals as goal
 
 pub returns-then-kind-eq2 : goal.returns-then-kind-eq2

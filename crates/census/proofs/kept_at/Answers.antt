@@ -1,4 +1,3 @@
-use borrow.Author.Rules.{rules}
 use Rattle.census.proofs.kept_at.Goals as goal
 
 pub returns : goal.returns

@@ -1,5 +1,4 @@
 use Rattle.census.proofs.Rows.{listed-none, listed_every, listed-ids}
-use borrow.Author.Rules.{rules}
 use Rattle.census.proofs.listed_rows.Goals as goal
 
 pub returns-then-p-eq0 : goal.returns-then-p-eq0

@@ -2,7 +2,6 @@ use native.Mathlib.Omega.{arith}
 use mathlib.Core.Path.{ap, ◌∙◌}
 use Prim.Native.Nat.{◌+◌, ◌-◌, max}
 use Rattle.census.specs.Settled.{plus_tally}
-use borrow.Author.Rules.{rules}
 use Rattle.census.proofs.plus.Goals as goal
 
 pub overflow_sub-result : goal.overflow_sub-result

@@ -1,7 +1,6 @@
 use mathlib.Core.Path.{sym, ap, ◌∙◌}
 use mathlib.Core.Bool.{Bool, cond}
 use Rattle.census.specs.Settled.{kept, dropped, settled}
-use borrow.Author.Rules.{rules}
 use Rattle.census.proofs.settle.Goals as goal
 
 pub returns-then-is_held : goal.returns-then-is_held

@@ -1,9 +1,7 @@
-use mathlib.Core.Path.{◌≡◌, refl}
-use Prim.Native.Nat.{◌-◌}
+use mathlib.Core.Path.{refl}
 use native.Mathlib.Omega.{arith}
-use lib.ListN.{length, length-set}
-use borrow.Author.Rules.{rules}
-use Rattle.census.proofs.Settled.{Going, going_start, going_end, going_ready, going_map, going_low, going_few, going_text, going_more}
+use lib.ListN.{length-set}
+use Rattle.census.proofs.Settled.{going_start, going_end, going_ready, going_map, going_low, going_few, going_text, going_more}
 use Rattle.census.proofs.settle_all.Goals as goal
 
 pub loop-s-init : goal.loop-s-init

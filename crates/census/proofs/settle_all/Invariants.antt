@@ -1,9 +1,7 @@
-use mathlib.Core.Path.{◌≡◌, refl}
+use mathlib.Core.Path.{◌≡◌}
 use Prim.Native.Nat.{◌-◌}
-use native.Mathlib.Omega.{arith}
-use lib.ListN.{length, length-set}
-use borrow.Author.Rules.{rules}
-use Rattle.census.proofs.Settled.{Going, going_start, going_end, going_ready, going_map, going_low, going_few, going_text, going_more}
+use lib.ListN.{length}
+use Rattle.census.proofs.Settled.{Going}
 use Rattle.census.proofs.settle_all.Given as goal
 
 abbrev pub invariant-loop-s : goal.invariant-loop-s

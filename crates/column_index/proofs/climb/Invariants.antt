@@ -1,9 +1,6 @@
-use borrow.Author.Rules.{rules}
-use native.Mathlib.Omega.{arith}
 use Prim.Native.Nat.{◌+◌, ◌-◌, ◌≤◌}
 use lib.ListN.{length}
 use Rattle.column_index.specs.Lookup.{rank_in}
-use Rattle.column_index.proofs.Laws.{rank-fits, rank_most, rank-least, lesser-first, lesser-second}
 use Rattle.column_index.proofs.climb.Given as goal
 
 abbrev pub invariant-loop-k : goal.invariant-loop-k

@@ -1,4 +1,3 @@
-use borrow.Author.Rules.{rules}
 use Rattle.column_index.proofs.Laws.{listed_past, listed-at}
 use Rattle.column_index.proofs.is_listed.Goals as goal
 

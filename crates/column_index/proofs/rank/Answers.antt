@@ -1,7 +1,7 @@
 use borrow.Author.Rules.{rules}
 use Prim.Native.Nat.{◌≤◌, zero-le}
 use Rattle.column_index.specs.Lookup.{rank_in}
-use borrow.Author.Tests.{not-false, leb-true}
+use borrow.Author.Tests.{leb-true}
 use mathlib.Core.Path.{sym, ◌∙◌}
 use Rattle.column_index.proofs.Laws.{rank-fits, lesser-below, lesser-le}
 use Rattle.column_index.proofs.rank.Goals as goal

@@ -1,7 +1,6 @@
 use borrow.Author.Rules.{rules}
 use native.Mathlib.Omega.{arith}
-use Prim.Native.Nat.{ℕ, ◌+◌, ◌-◌, ◌/◌, ◌≤◌, ◌<◌}
-use lib.ListN.{length, get_or}
+use Prim.Native.Nat.{◌+◌, ◌-◌, ◌/◌}
 use Rattle.column_index.proofs.Laws.{counted, asc-sorted, below-rank, rank-fits}
 use Rattle.column_index.proofs.rank_above.Goals as goal
 

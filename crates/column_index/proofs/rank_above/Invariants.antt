@@ -1,8 +1,5 @@
-use borrow.Author.Rules.{rules}
-use native.Mathlib.Omega.{arith}
-use Prim.Native.Nat.{ℕ, ◌+◌, ◌-◌, ◌/◌, ◌≤◌, ◌<◌}
+use Prim.Native.Nat.{ℕ, ◌-◌, ◌≤◌, ◌<◌}
 use lib.ListN.{length, get_or}
-use Rattle.column_index.proofs.Laws.{counted, asc-sorted, below-rank, rank-fits}
 use Rattle.column_index.proofs.rank_above.Given as goal
 
 abbrev pub invariant-loop-from : goal.invariant-loop-from

@@ -1,7 +1,6 @@
 use borrow.Author.Rules.{rules}
 use native.Mathlib.Omega.{arith}
 use mathlib.Core.Path.{sym, ◌∙◌}
-use borrow.Author.Tests.{not-true, not-false}
 use Rattle.column_index.proofs.Laws.{range_none, range_optional, range_multi, listed_below, three_le}
 use Rattle.column_index.proofs.ranked_range.Goals as goal
 

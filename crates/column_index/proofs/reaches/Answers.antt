@@ -1,4 +1,3 @@
-use borrow.Author.Rules.{rules}
 use native.Mathlib.Omega.{arith}
 use Rattle.column_index.proofs.Laws.{reaches_none, reaches_past, reaches_at}
 use Rattle.column_index.proofs.reaches.Goals as goal

@@ -1,4 +1,3 @@
-use borrow.Author.Rules.{rules}
 use Rattle.column_index.proofs.Laws.{range_empty, range_full}
 use Rattle.column_index.proofs.value_range.Goals as goal
 

@@ -1,8 +1,6 @@
-use Prim.Native.Nat.{◌≤◌, ◌-◌, zero-le}
-use mathlib.Core.Path.{◌≡◌, refl, ◌∙◌}
-use lib.ListN.{length, drop}
+use Prim.Native.Nat.{zero-le}
+use mathlib.Core.Path.{refl, ◌∙◌}
 use borrow.Author.Rules.{rules}
-use Rattle.column_index_shuffled.specs.Plain.{all_plain}
 use Rattle.column_index_shuffled.proofs.Plain.{plain_stop, plain-next, plain_end}
 use mathlib.Core.Path.{ap}
 use mathlib.Core.Bool.{not}

@@ -1,11 +1,7 @@
-use Prim.Native.Nat.{◌≤◌, ◌-◌, zero-le}
-use mathlib.Core.Path.{◌≡◌, refl, ◌∙◌}
+use Prim.Native.Nat.{◌≤◌, ◌-◌}
+use mathlib.Core.Path.{◌≡◌}
 use lib.ListN.{length, drop}
-use borrow.Author.Rules.{rules}
 use Rattle.column_index_shuffled.specs.Plain.{all_plain}
-use Rattle.column_index_shuffled.proofs.Plain.{plain_stop, plain-next, plain_end}
-use mathlib.Core.Path.{ap}
-use mathlib.Core.Bool.{not}
 use Rattle.column_index_shuffled.proofs.all_plain.Given as goal
 
 abbrev pub invariant-loop-s : goal.invariant-loop-s

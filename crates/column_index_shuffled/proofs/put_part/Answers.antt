@@ -1,5 +1,3 @@
-use borrow.Author.Rules.{rules}
-use borrow.Author.Tests.{not-true, not-false}
 use Rattle.column_index_shuffled.proofs.Laws.{part_unwanted, part-bare, part_room, part-set}
 use Rattle.column_index_shuffled.proofs.put_part.Goals as goal
 

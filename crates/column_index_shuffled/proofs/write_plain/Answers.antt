@@ -1,10 +1,8 @@
 use borrow.Author.Rules.{rules}
 use native.Mathlib.Omega.{arith}
-use mathlib.Core.Path.{◌≡◌, refl}
-use Prim.Native.Nat.{◌-◌, ◌≤◌}
-use lib.ListN.{length, length-set}
-use Rattle.runs.proofs.Laws.{putting, putting-none}
-use Rattle.column_index_shuffled.specs.Plain.{plain_words}
+use mathlib.Core.Path.{refl}
+use lib.ListN.{length-set}
+use Rattle.runs.proofs.Laws.{putting-none}
 use Rattle.column_index_shuffled.proofs.Plain.{plain_in, plain-place, plain_more, plain-all}
 use Rattle.column_index_shuffled.proofs.write_plain.Goals as goal
 

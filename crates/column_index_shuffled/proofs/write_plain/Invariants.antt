@@ -1,11 +1,8 @@
-use borrow.Author.Rules.{rules}
-use native.Mathlib.Omega.{arith}
-use mathlib.Core.Path.{◌≡◌, refl}
+use mathlib.Core.Path.{◌≡◌}
 use Prim.Native.Nat.{◌-◌, ◌≤◌}
-use lib.ListN.{length, length-set}
-use Rattle.runs.proofs.Laws.{putting, putting-none}
+use lib.ListN.{length}
+use Rattle.runs.proofs.Laws.{putting}
 use Rattle.column_index_shuffled.specs.Plain.{plain_words}
-use Rattle.column_index_shuffled.proofs.Plain.{plain_in, plain-place, plain_more, plain-all}
 use Rattle.column_index_shuffled.proofs.write_plain.Given as goal
 
 abbrev pub invariant-loop-j : goal.invariant-loop-j

@@ -1,19 +1,13 @@
-use mathlib.Core.Path.{◌≡◌, refl, ◌∙◌}
-use mathlib.Core.Bool.{not}
-use mathlib.Core.List.{◌∷◌}
-use Prim.Native.Nat.{◌+◌, ◌-◌, ◌≤◌}
+use mathlib.Core.Path.{refl, ◌∙◌}
 use native.Mathlib.Nat.{zero-add}
 use native.Mathlib.Omega.{arith}
 use lib.Dec.{eqb}
-use lib.ListN.{length, drop}
 use borrow.Author.Rules.{rules}
-use Rattle.definitions.specs.Lists.{sum}
-use Rattle.runs.proofs.Laws.{Filling, fill_start, fill_end}
-use Rattle.stands.specs.Width.{ids_of, totals_of}
+use Rattle.runs.proofs.Laws.{fill_start, fill_end}
+use Rattle.stands.specs.Width.{totals_of}
 use Rattle.stands.specs.Look.{widths}
 use Rattle.stands.proofs.Laws.{ids-end, totals_end}
-use Rattle.column_index_shuffled.specs.Order.{ordered_words}
-use Rattle.column_index_shuffled.proofs.Laws.{Partly, partly_start, partly_end, first-room, partly_second, partly_first, segment-in, row_inside, row-rises, total-fits, total-more, row_lies, row-worded, words-room, words_more, words-none, ids-room, ids_more, totals_room, totals_more}
+use Rattle.column_index_shuffled.proofs.Laws.{partly_start, partly_end, first-room, partly_second, partly_first, segment-in, row_inside, row-rises, total-fits, total-more, row_lies, row-worded, words-room, words_more, words-none, ids-room, ids_more, totals_room, totals_more}
 use Rattle.column_index_shuffled.proofs.write_rows.Goals as goal
 
 pub put_part-requires : goal.put_part-requires

@@ -1,12 +1,7 @@
 use borrow.Author.Rules.{rules}
 use native.Mathlib.Omega.{arith}
-use mathlib.Core.Path.{◌≡◌}
-use Prim.Native.Nat.{◌+◌, ◌-◌, ◌≤◌}
 use native.Mathlib.Nat.{zero-add}
-use lib.ListN.{length, drop}
-use Rattle.runs.proofs.Laws.{Filling, fill_start, fill_end}
-use Rattle.stands.specs.Width.{ids_of}
-use Rattle.stands.specs.Stack.{stacked_widths, all_rows}
+use Rattle.runs.proofs.Laws.{fill_start, fill_end}
 use Rattle.column_index_stacked.proofs.Turn.{now_sound, now_rows, ids-room, ids_more, ids-end}
 use Rattle.column_index_stacked.proofs.stacked_ids.Goals as goal
 

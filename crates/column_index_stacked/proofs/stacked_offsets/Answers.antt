@@ -1,14 +1,9 @@
 use borrow.Author.Rules.{rules}
 use native.Mathlib.Omega.{arith}
-use mathlib.Core.Path.{◌≡◌, ◌∙◌}
-use mathlib.Core.List.{◌∷◌}
-use Prim.Native.Nat.{◌+◌, ◌-◌, ◌≤◌}
+use mathlib.Core.Path.{◌∙◌}
 use native.Mathlib.Nat.{zero-add}
-use lib.ListN.{length, drop, length-set}
-use Rattle.definitions.specs.Lists.{sum}
-use Rattle.runs.proofs.Laws.{Filling, fill_end}
-use Rattle.stands.specs.Width.{totals_of}
-use Rattle.stands.specs.Stack.{stacked_widths}
+use lib.ListN.{length-set}
+use Rattle.runs.proofs.Laws.{fill_end}
 use Rattle.stands.proofs.Laws.{fill_second, first-set}
 use Rattle.column_index_stacked.proofs.Turn.{now_sound, now_values, totals_room, totals_more, totals_end}
 use Rattle.column_index_stacked.proofs.stacked_offsets.Goals as goal

@@ -1,16 +1,11 @@
-use borrow.Author.Rules.{rules}
-use native.Mathlib.Omega.{arith}
-use mathlib.Core.Path.{◌≡◌, ◌∙◌}
+use mathlib.Core.Path.{◌≡◌}
 use mathlib.Core.List.{◌∷◌}
 use Prim.Native.Nat.{◌+◌, ◌-◌, ◌≤◌}
-use native.Mathlib.Nat.{zero-add}
-use lib.ListN.{length, drop, length-set}
+use lib.ListN.{length, drop}
 use Rattle.definitions.specs.Lists.{sum}
-use Rattle.runs.proofs.Laws.{Filling, fill_end}
+use Rattle.runs.proofs.Laws.{Filling}
 use Rattle.stands.specs.Width.{totals_of}
 use Rattle.stands.specs.Stack.{stacked_widths}
-use Rattle.stands.proofs.Laws.{fill_second, first-set}
-use Rattle.column_index_stacked.proofs.Turn.{now_sound, now_values, totals_room, totals_more, totals_end}
 use Rattle.column_index_stacked.proofs.stacked_offsets.Given as goal
 
 abbrev pub invariant-loop-s : goal.invariant-loop-s

@@ -1,4 +1,3 @@
-use borrow.Author.Rules.{rules}
 use Rattle.column_index_stacked.proofs.Class.{ids_off, ids-on, offsets_off, offsets-none, offsets-on, ids-room, offsets-room}
 use Rattle.column_index_stacked.proofs.stacked_rows.Goals as goal
 

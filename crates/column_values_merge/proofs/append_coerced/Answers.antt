@@ -1,7 +1,6 @@
 use mathlib.Core.Path.{ap, ◌∙◌}
 use mathlib.Core.List.{List}
 use Prim.Native.Nat.{ℕ}
-use borrow.Author.Rules.{rules}
 use Rattle.runs.specs.Put.{put}
 use Rattle.column_values_merge.proofs.Laws.{coerced-other, coerced_double, coerced_integer}
 use Rattle.column_values_merge.proofs.append_coerced.Goals as goal

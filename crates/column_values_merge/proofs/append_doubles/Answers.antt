@@ -1,9 +1,7 @@
-use mathlib.Core.Path.{◌≡◌, refl, ◌∙◌}
-use Prim.Native.Nat.{◌-◌, ◌≤◌}
-use lib.ListN.{length, length-set}
+use mathlib.Core.Path.{refl, ◌∙◌}
+use lib.ListN.{length-set}
 use borrow.Author.Rules.{rules}
-use Rattle.runs.proofs.Laws.{putting, putting-none, putting-next, putting-all}
-use Rattle.column_values_merge.specs.Word.{doubles}
+use Rattle.runs.proofs.Laws.{putting-none, putting-next, putting-all}
 use Rattle.column_values_merge.proofs.Laws.{doubles-length, doubles-at}
 use Rattle.column_values_merge.proofs.append_doubles.Goals as goal
 

@@ -1,10 +1,8 @@
-use mathlib.Core.Path.{◌≡◌, refl, ◌∙◌}
+use mathlib.Core.Path.{◌≡◌}
 use Prim.Native.Nat.{◌-◌, ◌≤◌}
-use lib.ListN.{length, length-set}
-use borrow.Author.Rules.{rules}
-use Rattle.runs.proofs.Laws.{putting, putting-none, putting-next, putting-all}
+use lib.ListN.{length}
+use Rattle.runs.proofs.Laws.{putting}
 use Rattle.column_values_merge.specs.Word.{doubles}
-use Rattle.column_values_merge.proofs.Laws.{doubles-length, doubles-at}
 use Rattle.column_values_merge.proofs.append_doubles.Given as goal
 
 abbrev pub invariant-loop-j : goal.invariant-loop-j

@@ -2,7 +2,6 @@ use native.Mathlib.Omega.{arith}
 use Rattle.lists.proofs.Parts.{run_length}
 use Rattle.stands.specs.Look.{words_of}
 use Rattle.column_values_merge.proofs.Laws.{no_words, value-words, none-put, one-worded, one-put, two-worded, two-put}
-use borrow.Author.Rules.{rules}
 use Rattle.column_values_merge.proofs.append_row.Goals as goal
 
 pub returns-then-n-eq0-clause-value : goal.returns-then-n-eq0-clause-value

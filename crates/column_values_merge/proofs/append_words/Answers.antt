@@ -1,7 +1,6 @@
 use mathlib.Core.Path.{sym, ap, ◌∙◌}
 use mathlib.Core.List.{List}
 use Prim.Native.Nat.{ℕ}
-use native.Mathlib.Omega.{arith}
 use Rattle.runs.specs.Put.{put}
 use Rattle.column_values_merge.proofs.Laws.{words-looked, words-coerced}
 use borrow.Author.Rules.{rules}

@@ -3,7 +3,6 @@ use mathlib.Core.Path.{ap, ◌∙◌}
 use mathlib.Core.List.{List}
 use Rattle.runs.specs.Put.{put}
 use Rattle.runs.proofs.Laws.{put_one}
-use borrow.Author.Rules.{rules}
 use Rattle.column_values_merge.proofs.put_word.Goals as goal
 
 pub returns : goal.returns

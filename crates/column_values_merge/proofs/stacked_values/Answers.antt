@@ -1,9 +1,5 @@
-use Prim.Native.Nat.{◌-◌, ◌≤◌}
-use native.Mathlib.Omega.{arith}
-use lib.ListN.{length, drop}
 use borrow.Author.Rules.{rules}
-use Rattle.runs.proofs.Laws.{Filling, fill_start, fill_end}
-use Rattle.column_values_merge.specs.Stack.{stacked_words}
+use Rattle.runs.proofs.Laws.{fill_start, fill_end}
 use Rattle.column_values_merge.proofs.Laws.{now_lies, now_worded, now_length, words-room, words_more, words_done}
 use Rattle.column_values_merge.proofs.stacked_values.Goals as goal
 

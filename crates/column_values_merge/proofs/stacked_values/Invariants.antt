@@ -1,10 +1,7 @@
 use Prim.Native.Nat.{◌-◌, ◌≤◌}
-use native.Mathlib.Omega.{arith}
 use lib.ListN.{length, drop}
-use borrow.Author.Rules.{rules}
-use Rattle.runs.proofs.Laws.{Filling, fill_start, fill_end}
+use Rattle.runs.proofs.Laws.{Filling}
 use Rattle.column_values_merge.specs.Stack.{stacked_words}
-use Rattle.column_values_merge.proofs.Laws.{now_lies, now_worded, now_length, words-room, words_more, words_done}
 use Rattle.column_values_merge.proofs.stacked_values.Given as goal
 
 abbrev pub invariant-loop-s : goal.invariant-loop-s

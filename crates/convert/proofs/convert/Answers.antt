@@ -1,7 +1,6 @@
 use native.Mathlib.Omega.{arith}
 use Rattle.convert.proofs.Risen.{ids-narrow}
 use Rattle.convert.proofs.Outcomes.{refused, stopped, counted, few-ids, few-offsets, converts}
-use borrow.Author.Rules.{rules}
 use Rattle.convert.proofs.convert.Goals as goal
 
 pub returns-then-v-ne0 : goal.returns-then-v-ne0

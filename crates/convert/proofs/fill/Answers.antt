@@ -1,9 +1,9 @@
 use mathlib.Core.Path.{◌≡◌, ap, ◌∙◌}
-use Prim.Native.Nat.{ℕ, ◌+◌, ◌-◌, ◌≤◌, zero-le}
+use Prim.Native.Nat.{ℕ, ◌+◌, zero-le}
 use native.Mathlib.Omega.{arith}
 use lib.Dec.{ltb}
 use lib.ListN.{length, drop, get_or, length-set}
-use Rattle.runs.proofs.Laws.{Filling, fill-from, fill_done, fill_if}
+use Rattle.runs.proofs.Laws.{fill-from, fill_done, fill_if}
 use Rattle.convert.specs.Risen.{risen_ids, risen_ends}
 use Rattle.convert.proofs.Risen.{ids_step, ends_step, ends-ids, none_left, turn, put_first}
 use borrow.Author.Rules.{rules}

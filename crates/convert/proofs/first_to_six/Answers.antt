@@ -1,9 +1,7 @@
 use mathlib.Core.Path.{sym, ◌∙◌}
 use native.Mathlib.Omega.{arith}
-use borrow.Author.Tests.{not-false}
 use Rattle.segment.specs.Records.{record_in, sections_in}
 use Rattle.convert.proofs.Own.{exact, two, three, four, five, six, none}
-use borrow.Author.Rules.{rules}
 use mathlib.Core.Path.{ap}
 use mathlib.Core.Bool.{not}
 use Rattle.convert.proofs.first_to_six.Goals as goal

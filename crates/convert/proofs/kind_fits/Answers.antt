@@ -3,7 +3,6 @@ use mathlib.Core.Bool.{not}
 use borrow.Author.Tests.{eq-eqb, ne_eqb, lt-ltb, le-ltb}
 use Rattle.lists.proofs.Tests.{stop, past, denied, granted}
 use Rattle.convert.specs.Fits.{fits_kind}
-use borrow.Author.Rules.{rules}
 use Rattle.convert.proofs.kind_fits.Goals as goal
 
 pub returns-then-not-is_known : goal.returns-then-not-is_known

@@ -4,7 +4,6 @@ use lib.Dec.{eqb}
 use borrow.Author.Tests.{eq-eqb, ne_eqb}
 use Rattle.lists.proofs.Tests.{stop, past, denied, granted}
 use Rattle.convert.specs.Fits.{fits_old}
-use borrow.Author.Rules.{rules}
 use mathlib.Core.Bool.{not}
 use Rattle.convert.proofs.old_fits.Goals as goal
 

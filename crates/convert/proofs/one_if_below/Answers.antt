@@ -5,7 +5,6 @@ use native.Mathlib.Omega.{arith}
 use lib.Dec.{ltb}
 use mir.Val.{bool_byte}
 use Rattle.convert.specs.Risen.{one_if}
-use borrow.Author.Rules.{rules}
 use Rattle.convert.proofs.one_if_below.Goals as goal
 
 byte-is : (b : Bool) → (bool_byte b ≡ one_if b) × (bool_byte b ≤ 1)

@@ -1,11 +1,7 @@
 use mathlib.Core.Path.{◌≡◌}
 use Prim.Native.Nat.{◌+◌, ◌-◌, ◌≤◌}
-use native.Mathlib.Omega.{arith}
 use lib.ListN.{length, drop}
-use lib.Dec.{ltb}
-use borrow.Author.Rules.{rules}
 use Rattle.convert.specs.Risen.{rises, falls}
-use Rattle.convert.proofs.Risen.{steps_step, steps_end}
 use Rattle.convert.proofs.steps_in.Given as goal
 
 abbrev pub invariant-loop-i : goal.invariant-loop-i

@@ -1,5 +1,4 @@
 use mathlib.Core.Path.{◌∙◌}
-use borrow.Author.Rules.{rules}
 use Rattle.merge.proofs.Call.{first-end, passed, same_outcome}
 use Rattle.merge.proofs.join.Goals as goal
 

@@ -6,7 +6,6 @@ use Rattle.merge_column.proofs.Stand.{all-ready}
 use Rattle.merge_checked.proofs.Given.{checked}
 use Rattle.merge_checked.proofs.Planned.{front_in, front_long, prepared_of, types_coded, listed-low, values_low}
 use Rattle.merge_checked.proofs.Ends.{refused_end, words-in, words_long, dictionary_given, rows-given, accepted-end}
-use borrow.Author.Rules.{rules}
 use Rattle.merge_checked.proofs.join_checked.Goals as goal
 
 pub slice_bounds-stands-end : goal.slice_bounds-stands-end

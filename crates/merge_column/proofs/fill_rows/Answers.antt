@@ -1,6 +1,5 @@
 use mathlib.Core.Path.{◌∙◌}
 use Rattle.merge_column.proofs.Laws.{widths-stacked, widths-ordered, words_stacked, words-ordered, ids-place, offsets-place, values-place, filled-ids, filled-offsets, filled-values, left-stacked, left-ordered}
-use borrow.Author.Rules.{rules}
 use Rattle.merge_column.proofs.fill_rows.Goals as goal
 
 pub stacked_rows-requires-clause-stacked : goal.stacked_rows-requires-clause-stacked

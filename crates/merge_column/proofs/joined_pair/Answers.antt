@@ -1,5 +1,4 @@
 use mathlib.Core.Path.{◌∙◌}
-use borrow.Author.Rules.{rules}
 use Rattle.merge_column.proofs.Laws.{pair-written, pair_held}
 use Rattle.merge_column.proofs.joined_pair.Goals as goal
 

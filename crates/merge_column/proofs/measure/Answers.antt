@@ -1,5 +1,4 @@
 use Rattle.merge_column.proofs.Laws.{planned_wrong, planned_column}
-use borrow.Author.Rules.{rules}
 use Rattle.merge_column.proofs.measure.Goals as goal
 
 pub returns-in_default : goal.returns-in_default

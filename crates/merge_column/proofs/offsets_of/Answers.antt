@@ -1,4 +1,3 @@
-use borrow.Author.Rules.{rules}
 use Rattle.merge_column.proofs.Laws.{offsets-some, offsets-none}
 use Rattle.merge_column.proofs.offsets_of.Goals as goal
 

@@ -4,7 +4,6 @@ use Prim.Native.Nat.{ℕ}
 use mathlib.Core.List.{List}
 use Rattle.census.specs.Settled.{settled_from, AllReady}
 use Rattle.merge_column.proofs.Laws.{filled_raw}
-use borrow.Author.Rules.{rules}
 use Rattle.merge_column.proofs.prepare.Goals as goal
 
 pub fill_stands-requires-clause-records_len_bound : goal.fill_stands-requires-clause-records_len_bound

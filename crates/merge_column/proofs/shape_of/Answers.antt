@@ -1,7 +1,6 @@
 use native.Mathlib.Nat.{mul-le-mul}
 use native.Mathlib.Omega.{arith}
 use Rattle.merge_column.proofs.Laws.{plan-refused, plan-column}
-use borrow.Author.Rules.{rules}
 use mathlib.Core.Path.{ap}
 use mathlib.Core.Bool.{not}
 use Rattle.merge_column.proofs.shape_of.Goals as goal

@@ -3,7 +3,6 @@ use native.Mathlib.Omega.{arith}
 use lib.Seq.{length-take-le}
 use Rattle.runs.proofs.Zeros.{front-within, front_long}
 use Rattle.merge_dict_column.proofs.Given.{marks_fit, marks-given, merge_given, left}
-use borrow.Author.Rules.{rules}
 use Rattle.merge_dict_column.proofs.fill_dictionary.Goals as goal
 
 pub slice_bounds-mark-end : goal.slice_bounds-mark-end

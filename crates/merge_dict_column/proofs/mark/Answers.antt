@@ -1,5 +1,4 @@
 use Rattle.merge_dict_column.proofs.Given.{unmarked, marked}
-use borrow.Author.Rules.{rules}
 use Rattle.merge_dict_column.proofs.mark.Goals as goal
 
 pub returns-then-mode-eq0 : goal.returns-then-mode-eq0

@@ -1,6 +1,5 @@
 use Rattle.merge_dict_column.proofs.Ends.{ready, readable, terms-same, map_same}
 use Rattle.term_walk.proofs.Ends.{merged-same}
-use borrow.Author.Rules.{rules}
 use Rattle.merge_dict_column.proofs.merge_dict.Goals as goal
 
 pub start_heap-heap-requires : goal.start_heap-heap-requires

@@ -6,7 +6,6 @@ use Rattle.segment.specs.Lent.{addresses_of}
 use Rattle.runs.proofs.Zeros.{part-zero, front-within, front_long, cleared}
 use Rattle.merge_mapping.proofs.Own.{right_stacked, right_ordered}
 use Rattle.merge_mapping.proofs.Turns.{front_again}
-use borrow.Author.Rules.{rules}
 use Rattle.merge_mapping.proofs.addresses_fit.Goals as goal
 
 pub returns-then-mode-eq0-clause-value : goal.returns-then-mode-eq0-clause-value

@@ -6,7 +6,6 @@ use borrow.Author.Tests.{eq-eqb, ne_eqb}
 use Rattle.lists.proofs.Tests.{chosen, other}
 use Rattle.merge_mapping.specs.Mapping.{alive_byte}
 use Rattle.merge_mapping.proofs.Turns.{whole-byte}
-use borrow.Author.Rules.{rules}
 use Rattle.merge_mapping.proofs.alive_byte.Goals as goal
 
 pub bounds-words-i : goal.bounds-words-i

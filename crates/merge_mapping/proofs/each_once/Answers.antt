@@ -4,12 +4,10 @@ use mathlib.Core.Bool.{false≢true}
 use Prim.Native.Nat.{◌≤◌}
 use lib.ListN.{length}
 use lib.Seq.{length-take-le}
-use borrow.Author.Tests.{not-true, not-false}
 use Rattle.segment.specs.Lent.{addresses_of}
 use Rattle.segment.proofs.Walk.{records-long}
 use Rattle.stands.proofs.Fill.{lent-stands}
 use Rattle.merge_mapping.proofs.Stood.{words-lent, room-lent, room_then, once_bad, once_good, once_clean}
-use borrow.Author.Rules.{rules}
 use Rattle.merge_mapping.proofs.each_once.Goals as goal
 
 pub fill_stands-requires-clause-records_len_bound : goal.fill_stands-requires-clause-records_len_bound

@@ -1,10 +1,9 @@
 use native.Mathlib.Omega.{arith}
 use mathlib.Core.Path.{◌≡◌, refl, ap, ◌∙◌}
-use Prim.Native.Nat.{◌-◌, ◌≤◌, zero-le}
+use Prim.Native.Nat.{zero-le}
 use lib.ListN.{length}
 use Rattle.merge_mapping.specs.Mapping.{laid_out}
 use Rattle.merge_mapping.proofs.Turns.{worded-here, words_reach, room-here, laid_start, laid_next, put-long}
-use borrow.Author.Rules.{rules}
 use Rattle.merge_mapping.proofs.fill_all.Goals as goal
 
 pub loop-s-init : goal.loop-s-init

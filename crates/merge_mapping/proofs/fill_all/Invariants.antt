@@ -1,10 +1,7 @@
-use native.Mathlib.Omega.{arith}
-use mathlib.Core.Path.{◌≡◌, refl, ap, ◌∙◌}
-use Prim.Native.Nat.{◌-◌, ◌≤◌, zero-le}
+use mathlib.Core.Path.{◌≡◌}
+use Prim.Native.Nat.{◌-◌, ◌≤◌}
 use lib.ListN.{length}
 use Rattle.merge_mapping.specs.Mapping.{laid_out}
-use Rattle.merge_mapping.proofs.Turns.{worded-here, words_reach, room-here, laid_start, laid_next, put-long}
-use borrow.Author.Rules.{rules}
 use Rattle.merge_mapping.proofs.fill_all.Given as goal
 
 abbrev pub invariant-loop-s : goal.invariant-loop-s

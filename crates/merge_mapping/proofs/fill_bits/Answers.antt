@@ -1,11 +1,9 @@
 use native.Mathlib.Omega.{arith}
-use mathlib.Core.Path.{◌≡◌, refl, ◌∙◌}
-use Prim.Native.Nat.{◌-◌, ◌≤◌, zero-le}
-use lib.ListN.{length, length-set}
-use Rattle.runs.proofs.Laws.{putting, putting-none, putting-next, putting-all}
-use Rattle.merge_mapping.specs.Mapping.{bytes_for, alive_bytes}
+use mathlib.Core.Path.{refl, ◌∙◌}
+use Prim.Native.Nat.{zero-le}
+use lib.ListN.{length-set}
+use Rattle.runs.proofs.Laws.{putting-none, putting-next, putting-all}
 use Rattle.merge_mapping.proofs.Turns.{bytes-length, bytes-at}
-use borrow.Author.Rules.{rules}
 use Rattle.merge_mapping.proofs.fill_bits.Goals as goal
 
 pub loop-i-init : goal.loop-i-init

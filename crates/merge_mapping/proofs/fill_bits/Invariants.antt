@@ -1,11 +1,8 @@
-use native.Mathlib.Omega.{arith}
-use mathlib.Core.Path.{◌≡◌, refl, ◌∙◌}
-use Prim.Native.Nat.{◌-◌, ◌≤◌, zero-le}
-use lib.ListN.{length, length-set}
-use Rattle.runs.proofs.Laws.{putting, putting-none, putting-next, putting-all}
+use mathlib.Core.Path.{◌≡◌}
+use Prim.Native.Nat.{◌-◌, ◌≤◌}
+use lib.ListN.{length}
+use Rattle.runs.proofs.Laws.{putting}
 use Rattle.merge_mapping.specs.Mapping.{bytes_for, alive_bytes}
-use Rattle.merge_mapping.proofs.Turns.{bytes-length, bytes-at}
-use borrow.Author.Rules.{rules}
 use Rattle.merge_mapping.proofs.fill_bits.Given as goal
 
 abbrev pub invariant-loop-i : goal.invariant-loop-i

@@ -1,11 +1,8 @@
 use native.Mathlib.Omega.{arith}
-use mathlib.Core.Path.{◌≡◌, sym, ◌∙◌}
-use mathlib.Core.Bool.{◌&&◌, and-true}
-use Prim.Native.Nat.{◌-◌, ◌≤◌, zero-le}
-use lib.ListN.{length, drop}
-use Rattle.definitions.specs.Lists.{all_below}
+use mathlib.Core.Path.{sym, ◌∙◌}
+use mathlib.Core.Bool.{and-true}
+use Prim.Native.Nat.{zero-le}
 use Rattle.merge_mapping.proofs.Turns.{none-next, none_end}
-use borrow.Author.Rules.{rules}
 use Rattle.merge_mapping.proofs.none_left.Goals as goal
 
 pub loop-i-init : goal.loop-i-init

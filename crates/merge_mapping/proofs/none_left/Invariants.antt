@@ -1,11 +1,8 @@
-use native.Mathlib.Omega.{arith}
-use mathlib.Core.Path.{◌≡◌, sym, ◌∙◌}
-use mathlib.Core.Bool.{◌&&◌, and-true}
-use Prim.Native.Nat.{◌-◌, ◌≤◌, zero-le}
+use mathlib.Core.Path.{◌≡◌}
+use mathlib.Core.Bool.{◌&&◌}
+use Prim.Native.Nat.{◌-◌, ◌≤◌}
 use lib.ListN.{length, drop}
 use Rattle.definitions.specs.Lists.{all_below}
-use Rattle.merge_mapping.proofs.Turns.{none-next, none_end}
-use borrow.Author.Rules.{rules}
 use Rattle.merge_mapping.proofs.none_left.Given as goal
 
 abbrev pub invariant-loop-i : goal.invariant-loop-i

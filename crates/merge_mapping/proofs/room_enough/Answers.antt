@@ -1,6 +1,5 @@
 use mathlib.Core.Path.{sym}
 use Prim.Native.Nat.{◌+◌}
-use borrow.Author.Rules.{rules}
 use borrow.Author.Tests.{eq-eqb, ne_eqb}
 use Rattle.merge_mapping.specs.Mapping.{room_enough}
 use Rattle.lists.proofs.Numbers.{not-ltb}

@@ -1,12 +1,7 @@
 use native.Mathlib.Omega.{arith}
-use mathlib.Core.Path.{◌≡◌, refl, ◌∙◌}
-use Prim.Native.Nat.{◌-◌, ◌≤◌, zero-le}
-use lib.ListN.{length, drop}
-use borrow.Author.Tests.{not-true, not-false}
-use Rattle.segment.specs.Lent.{addresses_of}
-use Rattle.merge_mapping.specs.Mapping.{takes, left_by}
+use mathlib.Core.Path.{refl, ◌∙◌}
+use Prim.Native.Nat.{zero-le}
 use Rattle.merge_mapping.proofs.Turns.{turn-long, turn-none, turn-some, turn_end}
-use borrow.Author.Rules.{rules}
 use Rattle.merge_mapping.proofs.take_all.Goals as goal
 
 pub loop-j-init : goal.loop-j-init

@@ -1,12 +1,8 @@
-use native.Mathlib.Omega.{arith}
-use mathlib.Core.Path.{◌≡◌, refl, ◌∙◌}
-use Prim.Native.Nat.{◌-◌, ◌≤◌, zero-le}
+use mathlib.Core.Path.{◌≡◌}
+use Prim.Native.Nat.{◌-◌, ◌≤◌}
 use lib.ListN.{length, drop}
-use borrow.Author.Tests.{not-true, not-false}
 use Rattle.segment.specs.Lent.{addresses_of}
 use Rattle.merge_mapping.specs.Mapping.{takes, left_by}
-use Rattle.merge_mapping.proofs.Turns.{turn-long, turn-none, turn-some, turn_end}
-use borrow.Author.Rules.{rules}
 use Rattle.merge_mapping.proofs.take_all.Given as goal
 
 abbrev pub invariant-loop-j : goal.invariant-loop-j

@@ -3,7 +3,6 @@ use mathlib.Core.Path.{refl}
 use Prim.Native.Nat.{◌%◌}
 use Rattle.definitions.proofs.Bits.{cleared}
 use Rattle.merge_mapping.proofs.Turns.{room-here, left-absent, left_past, left_no, left_yes, left_out}
-use borrow.Author.Rules.{rules}
 use Rattle.merge_mapping.proofs.take_bit.Goals as goal
 
 pub returns-then-stands-seg-clause-value : goal.returns-then-stands-seg-clause-value

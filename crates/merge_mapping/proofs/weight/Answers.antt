@@ -1,6 +1,5 @@
 use native.Mathlib.Omega.{arith}
 use Rattle.definitions.proofs.Bits.{weight_is}
-use borrow.Author.Rules.{rules}
 use Rattle.merge_mapping.proofs.weight.Goals as goal
 
 pub returns : goal.returns

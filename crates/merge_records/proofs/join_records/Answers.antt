@@ -12,8 +12,8 @@ returns c =
     let b = buffers_of a.out_ids.now a.out_offsets.now a.out_values.now a.out_lengths.now a.out_bytes.now a.out_map.now a.work.now in
     c.join_rows.ensures
     ∙ ap
-        (λ (t : List (List ℕ)).
-            join_outcome
-                (lent_of a.mode a.required (records_of (take (count_of (length a.records.now)) t)) a.ids.now a.offsets.now a.values.now a.lengths.now a.bytes.now a.alive.now a.addresses.now b))
-        c.rows_of.ensures
+    (λ (t : List (List ℕ)).
+    join_outcome
+    (lent_of a.mode a.required (records_of (take (count_of (length a.records.now)) t)) a.ids.now a.offsets.now a.values.now a.lengths.now a.bytes.now a.alive.now a.addresses.now b))
+    c.rows_of.ensures
     ∙ rows_join a.records.now a.mode a.required a.ids.now a.offsets.now a.values.now a.lengths.now a.bytes.now a.alive.now a.addresses.now b

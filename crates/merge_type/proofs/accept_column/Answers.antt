@@ -1,4 +1,3 @@
-use borrow.Author.Rules.{rules}
 use Rattle.merge_type.proofs.Walk.{seen_out, seen-in}
 use mathlib.Core.Path.{ap}
 use mathlib.Core.Bool.{not}

@@ -1,8 +1,6 @@
-use mathlib.Core.Path.{◌≡◌, refl, ◌∙◌}
-use Prim.Native.Nat.{◌-◌, ◌≤◌, zero-le}
-use lib.ListN.{length, drop}
+use mathlib.Core.Path.{refl, ◌∙◌}
+use Prim.Native.Nat.{zero-le}
 use borrow.Author.Rules.{rules}
-use Rattle.merge_type.specs.Parts.{held_in, all_become}
 use Rattle.merge_type.proofs.Walk.{now_code, become_stop, become_next, become_end}
 use mathlib.Core.Path.{ap}
 use mathlib.Core.Bool.{not}

@@ -1,11 +1,7 @@
-use mathlib.Core.Path.{◌≡◌, refl, ◌∙◌}
-use Prim.Native.Nat.{◌-◌, ◌≤◌, zero-le}
+use mathlib.Core.Path.{◌≡◌}
+use Prim.Native.Nat.{◌-◌, ◌≤◌}
 use lib.ListN.{length, drop}
-use borrow.Author.Rules.{rules}
 use Rattle.merge_type.specs.Parts.{held_in, all_become}
-use Rattle.merge_type.proofs.Walk.{now_code, become_stop, become_next, become_end}
-use mathlib.Core.Path.{ap}
-use mathlib.Core.Bool.{not}
 use Rattle.merge_type.proofs.all_become.Given as goal
 
 abbrev pub invariant-loop-s : goal.invariant-loop-s

@@ -1,8 +1,6 @@
-use Prim.Native.Nat.{◌≤◌, ◌-◌, zero-le}
-use mathlib.Core.Path.{◌≡◌, refl, ◌∙◌}
-use lib.ListN.{length, drop}
+use Prim.Native.Nat.{zero-le}
+use mathlib.Core.Path.{refl, ◌∙◌}
 use borrow.Author.Rules.{rules}
-use Rattle.merge_type.specs.Parts.{any_thinned}
 use Rattle.merge_type.proofs.Pair.{thinned_stop, thinned_next, thinned_end}
 use Rattle.merge_type.proofs.any_thinned.Goals as goal
 

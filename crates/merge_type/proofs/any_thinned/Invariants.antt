@@ -1,9 +1,7 @@
-use Prim.Native.Nat.{◌≤◌, ◌-◌, zero-le}
-use mathlib.Core.Path.{◌≡◌, refl, ◌∙◌}
+use Prim.Native.Nat.{◌≤◌, ◌-◌}
+use mathlib.Core.Path.{◌≡◌}
 use lib.ListN.{length, drop}
-use borrow.Author.Rules.{rules}
 use Rattle.merge_type.specs.Parts.{any_thinned}
-use Rattle.merge_type.proofs.Pair.{thinned_stop, thinned_next, thinned_end}
 use Rattle.merge_type.proofs.any_thinned.Given as goal
 
 abbrev pub invariant-loop-s : goal.invariant-loop-s

@@ -1,4 +1,3 @@
-use borrow.Author.Rules.{rules}
 use Rattle.merge_type.proofs.Rules.{wrong_types, wrong_value, right_type}
 use mathlib.Core.Path.{ap}
 use mathlib.Core.Bool.{not}

@@ -1,5 +1,4 @@
 use mathlib.Core.Path.{◌∙◌}
-use borrow.Author.Rules.{rules}
 use Rattle.merge_type.proofs.Pair.{found_out, found_first, found-more}
 use mathlib.Core.Path.{ap}
 use mathlib.Core.Bool.{not}

@@ -1,5 +1,4 @@
 use Rattle.merge_type.proofs.Category.{fits-none, fits-absent, fits_both}
-use borrow.Author.Rules.{rules}
 use Rattle.merge_type.proofs.fits_first.Goals as goal
 
 pub returns-then-first-eq255 : goal.returns-then-first-eq255

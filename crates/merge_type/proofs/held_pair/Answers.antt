@@ -1,8 +1,6 @@
-use Prim.Native.Nat.{◌≤◌, ◌-◌, zero-le}
-use mathlib.Core.Path.{◌≡◌, refl, ◌∙◌}
-use lib.ListN.{length, drop}
+use Prim.Native.Nat.{zero-le}
+use mathlib.Core.Path.{refl, ◌∙◌}
 use borrow.Author.Rules.{rules}
-use Rattle.merge_type.specs.Found.{none_found, found_from}
 use Rattle.merge_type.proofs.Pair.{found-next, found-end, found-is, found-other}
 use Rattle.merge_type.proofs.held_pair.Goals as goal
 

@@ -1,9 +1,7 @@
-use Prim.Native.Nat.{◌≤◌, ◌-◌, zero-le}
-use mathlib.Core.Path.{◌≡◌, refl, ◌∙◌}
+use Prim.Native.Nat.{◌≤◌, ◌-◌}
+use mathlib.Core.Path.{◌≡◌}
 use lib.ListN.{length, drop}
-use borrow.Author.Rules.{rules}
 use Rattle.merge_type.specs.Found.{none_found, found_from}
-use Rattle.merge_type.proofs.Pair.{found-next, found-end, found-is, found-other}
 use Rattle.merge_type.proofs.held_pair.Given as goal
 
 abbrev pub invariant-loop-s : goal.invariant-loop-s

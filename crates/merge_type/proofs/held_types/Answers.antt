@@ -1,8 +1,6 @@
-use mathlib.Core.Path.{◌≡◌, refl, ◌∙◌}
-use Prim.Native.Nat.{◌-◌, ◌≤◌, zero-le}
-use lib.ListN.{length, drop}
+use mathlib.Core.Path.{refl, ◌∙◌}
+use Prim.Native.Nat.{zero-le}
 use borrow.Author.Rules.{rules}
-use Rattle.merge_type.specs.Only.{types_from}
 use Rattle.merge_type.proofs.Walk.{now_code}
 use Rattle.merge_type.proofs.Only.{types_stop, types_next, types_end}
 use Rattle.merge_type.proofs.held_types.Goals as goal

@@ -1,10 +1,7 @@
-use mathlib.Core.Path.{◌≡◌, refl, ◌∙◌}
-use Prim.Native.Nat.{◌-◌, ◌≤◌, zero-le}
+use mathlib.Core.Path.{◌≡◌}
+use Prim.Native.Nat.{◌-◌, ◌≤◌}
 use lib.ListN.{length, drop}
-use borrow.Author.Rules.{rules}
 use Rattle.merge_type.specs.Only.{types_from}
-use Rattle.merge_type.proofs.Walk.{now_code}
-use Rattle.merge_type.proofs.Only.{types_stop, types_next, types_end}
 use Rattle.merge_type.proofs.held_types.Given as goal
 
 abbrev pub invariant-loop-s : goal.invariant-loop-s

@@ -1,5 +1,4 @@
 use Rattle.merge_type.proofs.Only.{second_out, second_none, second-some}
-use borrow.Author.Rules.{rules}
 use mathlib.Core.Path.{ap}
 use mathlib.Core.Bool.{not}
 use Rattle.merge_type.proofs.is_second.Goals as goal

@@ -1,4 +1,3 @@
-use borrow.Author.Rules.{rules}
 use Rattle.merge_type.proofs.Pair.{thinned_not, thinned_held}
 use Rattle.merge_type.proofs.is_thinned.Goals as goal
 

@@ -1,5 +1,4 @@
 use Rattle.merge_type.proofs.Only.{next_out, next_in}
-use borrow.Author.Rules.{rules}
 use mathlib.Core.Path.{ap}
 use mathlib.Core.Bool.{not}
 use Rattle.merge_type.proofs.next_first.Goals as goal

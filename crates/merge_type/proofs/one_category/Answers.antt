@@ -1,9 +1,7 @@
-use mathlib.Core.Path.{◌≡◌, refl, ap, ◌∙◌}
-use Prim.Native.Nat.{◌-◌, ◌≤◌, zero-le}
-use lib.ListN.{length, drop}
+use mathlib.Core.Path.{refl, ap, ◌∙◌}
+use Prim.Native.Nat.{zero-le}
 use borrow.Author.Rules.{rules}
 use Rattle.stands.specs.declared.Stand.{Stand}
-use Rattle.merge_type.specs.Parts.{types_in, same_from}
 use Rattle.merge_type.proofs.Category.{same_stop, same_next, same_end, same-is-one}
 use Rattle.merge_type.proofs.Walk.{now_code}
 use mathlib.Core.Bool.{not}

@@ -1,12 +1,7 @@
-use mathlib.Core.Path.{◌≡◌, refl, ap, ◌∙◌}
-use Prim.Native.Nat.{◌-◌, ◌≤◌, zero-le}
+use mathlib.Core.Path.{◌≡◌}
+use Prim.Native.Nat.{◌-◌, ◌≤◌}
 use lib.ListN.{length, drop}
-use borrow.Author.Rules.{rules}
-use Rattle.stands.specs.declared.Stand.{Stand}
 use Rattle.merge_type.specs.Parts.{types_in, same_from}
-use Rattle.merge_type.proofs.Category.{same_stop, same_next, same_end, same-is-one}
-use Rattle.merge_type.proofs.Walk.{now_code}
-use mathlib.Core.Bool.{not}
 use Rattle.merge_type.proofs.one_category.Given as goal
 
 abbrev pub invariant-loop-s : goal.invariant-loop-s

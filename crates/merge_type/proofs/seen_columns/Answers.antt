@@ -1,11 +1,10 @@
-use mathlib.Core.Path.{◌≡◌, ap, ◌∙◌}
-use Prim.Native.Nat.{◌-◌, ◌≤◌, zero-le}
-use lib.ListN.{length, drop}
+use mathlib.Core.Path.{ap, ◌∙◌}
+use Prim.Native.Nat.{zero-le}
 use borrow.Author.Rules.{rules}
 use Rattle.merge_type.proofs.Walk.{now_code, seen_next, seen_end}
 use Rattle.numerical.specs.declared.Compatible.{Compatible}
 use Rattle.merge_type.specs.Parts.{held_in}
-use Rattle.numerical.specs.Seen.{seen_from, none_seen}
+use Rattle.numerical.specs.Seen.{seen_from}
 use Rattle.merge_type.proofs.seen_columns.Goals as goal
 
 pub loop-s-init : goal.loop-s-init

@@ -1,5 +1,4 @@
 use mathlib.Core.Path.{sym, ap, ◌∙◌}
-use borrow.Author.Rules.{rules}
 use Rattle.numerical.specs.Seen.{type_seen}
 use Rattle.merge_type.proofs.Only.{joined-required, joined_only, joined-several}
 use Rattle.merge_type.proofs.type_after_merge.Goals as goal

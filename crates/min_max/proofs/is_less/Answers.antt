@@ -1,4 +1,4 @@
-use Rattle.std.proofs.Common.{ℕ, ltb, ap, ◌∙◌, ap₂, arith, rules}
+use Rattle.std.proofs.Common.{ℕ, ltb, ap, ◌∙◌, ap₂, arith}
 use Rattle.min_max.specs.Keys.{key_of}
 use Rattle.min_max.proofs.Order.{key_less}
 use Rattle.min_max.proofs.is_less.Goals as goal

@@ -1,6 +1,6 @@
-use Rattle.std.proofs.Common.{ℕ, length, get_or, ap, ◌∙◌, ap₂, arith, rules}
+use Rattle.std.proofs.Common.{ℕ, get_or, ap, ◌∙◌, ap₂, arith}
 use Rattle.definitions.specs.Segment.{pair}
-use Rattle.min_max.specs.Keys.{shift_of, key_of, word_of, range_of, range_from, all_keys}
+use Rattle.min_max.specs.Keys.{key_of, word_of, range_of, range_from, all_keys}
 use Rattle.min_max.proofs.Order.{extremes-found, pair-other, pair-none, pair-some}
 use Rattle.min_max.proofs.pair_of.Goals as goal
 

@@ -1,5 +1,5 @@
-use Rattle.std.proofs.Common.{◌≡◌, ◌+◌, ◌-◌, ◌≤◌, length, drop, sym, refl, ap, ◌∙◌, ap₂, zero-le, arith, rules}
-use Rattle.min_max.specs.Keys.{key_of, with_key, both_of, range_from, all_keys}
+use Rattle.std.proofs.Common.{◌+◌, drop, sym, ap, ◌∙◌, zero-le, arith}
+use Rattle.min_max.specs.Keys.{with_key, range_from, all_keys}
 use Rattle.min_max.specs.declared.Range.{Range}
 use Rattle.min_max.proofs.Ranges.{of_four, four_same, four_more, four_end}
 use Rattle.min_max.proofs.range_of.Goals as goal
@@ -10,8 +10,7 @@ loop-i-init c =
 
 pub loop-i-preserved : goal.loop-i-preserved
 loop-i-preserved c =
-    let l = c.loop-i in
-    (
+    let l = c.loop-i in (
       omega arith,
       (λ j. range_from (of_four ((c.with_key-a.ensures ∙ ap (with_key l.a) c.key_of.ensures.value) j) ((c.with_key-b.ensures ∙ ap (with_key l.b) c.key_of-in-loop-i.ensures.value) j) ((c.with_key-c.ensures ∙ ap (with_key l.c) c.key_of-in-loop-i-2.ensures.value) j) ((c.with_key-d.ensures ∙ ap (with_key l.d) c.key_of-in-loop-i-3.ensures.value) j)) (all_keys c.args.shift (drop (l.i + 4) c.args.words.now)))
           ∙ sym (four_more c.args.shift c.args.words.now l.i c.loop-i-test.true l.a l.b l.c l.d)

@@ -1,7 +1,6 @@
-use Rattle.std.proofs.Common.{◌≡◌, ◌+◌, ◌-◌, ◌≤◌, length, drop, sym, refl, ap, ◌∙◌, ap₂, zero-le, arith, rules}
-use Rattle.min_max.specs.Keys.{key_of, with_key, both_of, range_from, all_keys}
-use Rattle.min_max.specs.declared.Range.{Range}
-use Rattle.min_max.proofs.Ranges.{of_four, four_same, four_more, four_end}
+use Rattle.std.proofs.Common.{◌≡◌, ◌-◌, ◌≤◌, length, drop}
+use Rattle.min_max.specs.Keys.{range_from, all_keys}
+use Rattle.min_max.proofs.Ranges.{of_four}
 use Rattle.min_max.proofs.range_of.Given as goal
 
 abbrev pub invariant-loop-i : goal.invariant-loop-i

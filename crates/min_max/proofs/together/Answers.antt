@@ -1,4 +1,4 @@
-use Rattle.std.proofs.Common.{Bool, cond, ap, ◌∙◌, rules}
+use Rattle.std.proofs.Common.{Bool, cond, ap, ◌∙◌}
 use Rattle.min_max.specs.Pairs.{both_pairs}
 use Rattle.min_max.proofs.together.Goals as goal
 

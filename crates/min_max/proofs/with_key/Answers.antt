@@ -1,4 +1,3 @@
-use Rattle.std.proofs.Common.{rules}
 use Rattle.min_max.proofs.Ranges.{range_is}
 use Rattle.min_max.proofs.Ranges.{range_is}
 use Rattle.min_max.proofs.with_key.Goals as goal

@@ -1,5 +1,5 @@
-use Rattle.std.proofs.Common.{◌≡◌, ◌+◌, ◌-◌, ◌≤◌, length, drop, sym, refl, ap, ◌∙◌, ap₂, zero-le, arith, rules}
-use Rattle.min_max.specs.Keys.{key_of, with_key, range_from, all_keys}
+use Rattle.std.proofs.Common.{◌+◌, drop, sym, refl, ap, ◌∙◌, zero-le, arith}
+use Rattle.min_max.specs.Keys.{with_key, range_from, all_keys}
 use Rattle.min_max.specs.declared.Range.{Range}
 use Rattle.min_max.proofs.Ranges.{from_step, from_end}
 use Rattle.min_max.proofs.with_words.Goals as goal
@@ -10,8 +10,7 @@ loop-i-init c =
 
 pub loop-i-preserved : goal.loop-i-preserved
 loop-i-preserved c =
-    let l = c.loop-i in
-    (
+    let l = c.loop-i in (
       omega arith,
       ap (λ (p : Range). range_from p (all_keys c.args.shift (drop (l.i + 1) c.args.words.now))) (c.with_key-q.ensures ∙ ap (with_key l.q) c.key_of.ensures.value)
           ∙ sym (from_step l.q c.args.shift c.args.words.now l.i c.loop-i-test.true)

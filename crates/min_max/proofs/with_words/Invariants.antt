@@ -1,7 +1,5 @@
-use Rattle.std.proofs.Common.{◌≡◌, ◌+◌, ◌-◌, ◌≤◌, length, drop, sym, refl, ap, ◌∙◌, ap₂, zero-le, arith, rules}
-use Rattle.min_max.specs.Keys.{key_of, with_key, range_from, all_keys}
-use Rattle.min_max.specs.declared.Range.{Range}
-use Rattle.min_max.proofs.Ranges.{from_step, from_end}
+use Rattle.std.proofs.Common.{◌≡◌, ◌-◌, ◌≤◌, length, drop}
+use Rattle.min_max.specs.Keys.{range_from, all_keys}
 use Rattle.min_max.proofs.with_words.Given as goal
 
 abbrev pub invariant-loop-i : goal.invariant-loop-i

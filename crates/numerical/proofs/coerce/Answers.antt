@@ -1,4 +1,4 @@
-use Rattle.std.proofs.Common.{◌∙◌, rules}
+use Rattle.std.proofs.Common.{◌∙◌}
 use Rattle.numerical.proofs.Laws.{coerced-other, coerced_double, coerced_integer}
 use Rattle.numerical.proofs.coerce.Goals as goal
 

@@ -1,4 +1,4 @@
-use Rattle.std.proofs.Common.{◌∙◌, rules}
+use Rattle.std.proofs.Common.{◌∙◌}
 use Rattle.numerical.proofs.Laws.{integer_signed, integer_unsigned}
 use Rattle.numerical.proofs.integer_to_double.Goals as goal
 

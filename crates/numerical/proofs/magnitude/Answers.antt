@@ -1,4 +1,4 @@
-use Rattle.std.proofs.Common.{arith, rules}
+use Rattle.std.proofs.Common.{arith}
 use Rattle.numerical.proofs.Laws.{size_low, size-high}
 use Rattle.numerical.proofs.magnitude.Goals as goal
 

@@ -1,4 +1,4 @@
-use Rattle.std.proofs.Common.{arith, rules}
+use Rattle.std.proofs.Common.{arith}
 use Rattle.numerical.proofs.Laws.{rounded_down, rounded_up, rounded_tie}
 use Rattle.numerical.proofs.rounded.Goals as goal
 

@@ -1,4 +1,4 @@
-use Rattle.std.proofs.Common.{ℕ, ◌+◌, pos, ap, ◌∙◌, arith, rules}
+use Rattle.std.proofs.Common.{ℕ, ◌+◌, pos, ap, ◌∙◌, arith}
 use Rattle.definitions.specs.Types.{double_of}
 use Rattle.numerical.proofs.Laws.{signed_low, signed_high}
 use Rattle.numerical.proofs.signed_to_double.Goals as goal

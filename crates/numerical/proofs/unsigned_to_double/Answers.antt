@@ -1,4 +1,4 @@
-use Rattle.std.proofs.Common.{ℕ, ◌+◌, ◌-◌, ◌*◌, pos, sym, ap, ◌∙◌, arith, rules}
+use Rattle.std.proofs.Common.{ℕ, ◌+◌, ◌-◌, ◌*◌, pos, sym, ap, ◌∙◌, arith}
 use lib.Count.{count_leading_zeros}
 use Rattle.definitions.specs.Types.{double_of}
 use Rattle.numerical.proofs.Laws.{leading_64, shifted, double_zero, double_some}

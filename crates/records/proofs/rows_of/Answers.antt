@@ -1,5 +1,4 @@
-use Rattle.std.proofs.Common.{◌≡◌, ◌+◌, ◌≤◌, ◌<◌, List, ℕ, length, set, sym, ap, ap₂, ◌∙◌, arith, zero-le}
-use Rattle.records.specs.Rows.{numbers_of, count_of, laid_to}
+use Rattle.std.proofs.Common.{List, ℕ, length, set, ap₂, ◌∙◌, arith, zero-le}
 use Rattle.records.proofs.Laws.{laid_none, laid_more, count-within, count-few}
 use Rattle.records.proofs.rows_of.Goals as goal
 
@@ -17,11 +16,10 @@ put_row-next-requires c =
     omega (arith, c.loop-i.invariant.1, c.loop-i-test.true)
 
 pub loop-i-preserved : goal.loop-i-preserved
-loop-i-preserved c =
-    (
-      omega arith,
-      c.loop-i.invariant.1,
-      c.put_row-next.ensures
-          ∙ ap₂ (λ (t : List (List ℕ)) (r : List ℕ). set t c.loop-i.i r) c.loop-i.invariant.2 c.row_of-row.ensures
-          ∙ laid_more c.args.records.now c.loop-i.i,
-    )
+loop-i-preserved c = (
+  omega arith,
+  c.loop-i.invariant.1,
+  c.put_row-next.ensures
+      ∙ ap₂ (λ (t : List (List ℕ)) (r : List ℕ). set t c.loop-i.i r) c.loop-i.invariant.2 c.row_of-row.ensures
+      ∙ laid_more c.args.records.now c.loop-i.i,
+)

@@ -1,10 +1,7 @@
-use mathlib.Core.Path.{◌≡◌, refl, ◌∙◌}
-use Prim.Native.Nat.{◌-◌, ◌≤◌, zero-le}
+use mathlib.Core.Path.{refl, ◌∙◌}
+use Prim.Native.Nat.{zero-le}
 use native.Mathlib.Omega.{arith}
-use lib.ListN.{length, drop}
-use borrow.Author.Rules.{rules}
 use Rattle.runs.proofs.Scans.{below-high, below_next, below_end}
-use Rattle.definitions.specs.Lists.{all_below}
 use Rattle.runs.proofs.all_below.Goals as goal
 
 pub loop-i-init : goal.loop-i-init

@@ -1,8 +1,8 @@
-use mathlib.Core.Path.{◌≡◌, refl, ◌∙◌}
-use Prim.Native.Nat.{ℕ, ◌-◌, ◌≤◌}
-use lib.ListN.{length, length-set}
+use mathlib.Core.Path.{refl, ◌∙◌}
+use Prim.Native.Nat.{ℕ}
+use lib.ListN.{length-set}
 use borrow.Author.Rules.{rules}
-use Rattle.runs.proofs.Laws.{putting, putting-none, putting-more, putting-all}
+use Rattle.runs.proofs.Laws.{putting-none, putting-more, putting-all}
 use Rattle.runs.proofs.append.Goals as goal
 
 pub loop-j-init : goal.loop-j-init

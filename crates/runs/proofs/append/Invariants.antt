@@ -1,8 +1,7 @@
-use mathlib.Core.Path.{◌≡◌, refl, ◌∙◌}
-use Prim.Native.Nat.{ℕ, ◌-◌, ◌≤◌}
-use lib.ListN.{length, length-set}
-use borrow.Author.Rules.{rules}
-use Rattle.runs.proofs.Laws.{putting, putting-none, putting-more, putting-all}
+use mathlib.Core.Path.{◌≡◌}
+use Prim.Native.Nat.{◌-◌, ◌≤◌}
+use lib.ListN.{length}
+use Rattle.runs.proofs.Laws.{putting}
 use Rattle.runs.proofs.append.Given as goal
 
 abbrev pub invariant-loop-j : goal.invariant-loop-j

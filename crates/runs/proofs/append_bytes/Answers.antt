@@ -1,9 +1,9 @@
-use mathlib.Core.Path.{◌≡◌, refl, ◌∙◌}
-use Prim.Native.Nat.{ℕ, ◌-◌, ◌≤◌}
+use mathlib.Core.Path.{refl, ◌∙◌}
+use Prim.Native.Nat.{ℕ}
 use native.Mathlib.Omega.{arith}
-use lib.ListN.{length, length-set}
+use lib.ListN.{length-set}
 use borrow.Author.Rules.{rules}
-use Rattle.runs.proofs.Laws.{putting, putting-none, putting-more, putting-all}
+use Rattle.runs.proofs.Laws.{putting-none, putting-more, putting-all}
 use Rattle.runs.proofs.append_bytes.Goals as goal
 
 pub loop-j-init : goal.loop-j-init

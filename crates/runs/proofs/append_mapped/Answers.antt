@@ -1,10 +1,8 @@
 use borrow.Author.Rules.{rules}
 use native.Mathlib.Omega.{arith}
-use mathlib.Core.Path.{◌≡◌, refl, ◌∙◌}
-use Prim.Native.Nat.{◌-◌, ◌≤◌}
-use lib.ListN.{length, length-set}
-use Rattle.runs.specs.Put.{looked}
-use Rattle.runs.proofs.Laws.{putting, putting-none, putting-next, putting-all, looked-length, looked-at}
+use mathlib.Core.Path.{refl, ◌∙◌}
+use lib.ListN.{length-set}
+use Rattle.runs.proofs.Laws.{putting-none, putting-next, putting-all, looked-length, looked-at}
 use Rattle.runs.proofs.append_mapped.Goals as goal
 
 pub loop-j-init : goal.loop-j-init

@@ -1,10 +1,8 @@
-use borrow.Author.Rules.{rules}
-use native.Mathlib.Omega.{arith}
-use mathlib.Core.Path.{◌≡◌, refl, ◌∙◌}
+use mathlib.Core.Path.{◌≡◌}
 use Prim.Native.Nat.{◌-◌, ◌≤◌}
-use lib.ListN.{length, length-set}
+use lib.ListN.{length}
 use Rattle.runs.specs.Put.{looked}
-use Rattle.runs.proofs.Laws.{putting, putting-none, putting-next, putting-all, looked-length, looked-at}
+use Rattle.runs.proofs.Laws.{putting}
 use Rattle.runs.proofs.append_mapped.Given as goal
 
 abbrev pub invariant-loop-j : goal.invariant-loop-j

@@ -1,9 +1,7 @@
 use borrow.Author.Rules.{rules}
-use mathlib.Core.Path.{◌≡◌, refl, ◌∙◌}
-use Prim.Native.Nat.{◌-◌, ◌≤◌}
-use lib.ListN.{length, length-set}
-use Rattle.definitions.specs.Lists.{up_from}
-use Rattle.runs.proofs.Laws.{putting, putting-none, putting-next, putting-all, up_from-at}
+use mathlib.Core.Path.{refl, ◌∙◌}
+use lib.ListN.{length-set}
+use Rattle.runs.proofs.Laws.{putting-none, putting-next, putting-all, up_from-at}
 use Rattle.definitions.proofs.Lists.{length-up_from}
 use Rattle.runs.proofs.append_range.Goals as goal
 

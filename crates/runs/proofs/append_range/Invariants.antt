@@ -1,10 +1,8 @@
-use borrow.Author.Rules.{rules}
-use mathlib.Core.Path.{◌≡◌, refl, ◌∙◌}
+use mathlib.Core.Path.{◌≡◌}
 use Prim.Native.Nat.{◌-◌, ◌≤◌}
-use lib.ListN.{length, length-set}
+use lib.ListN.{length}
 use Rattle.definitions.specs.Lists.{up_from}
-use Rattle.runs.proofs.Laws.{putting, putting-none, putting-next, putting-all, up_from-at}
-use Rattle.definitions.proofs.Lists.{length-up_from}
+use Rattle.runs.proofs.Laws.{putting}
 use Rattle.runs.proofs.append_range.Given as goal
 
 abbrev pub invariant-loop-j : goal.invariant-loop-j

@@ -1,10 +1,6 @@
-use mathlib.Core.Path.{◌≡◌}
-use Prim.Native.Nat.{◌+◌, ◌-◌, ◌≤◌, zero-le}
+use Prim.Native.Nat.{zero-le}
 use native.Mathlib.Omega.{arith}
-use lib.ListN.{length, drop}
-use borrow.Author.Rules.{rules}
 use Rattle.lists.proofs.Sums.{sum_step, sum-end}
-use Rattle.definitions.specs.Lists.{sum}
 use Rattle.runs.proofs.sum_of.Goals as goal
 
 pub loop-i-init : goal.loop-i-init

@@ -1,16 +1,10 @@
-use mathlib.Core.Path.{◌≡◌, refl, ◌∙◌}
-use Prim.Native.Nat.{◌+◌, ◌-◌, ◌≤◌, zero-le}
-use native.Mathlib.Omega.{arith}
-use lib.ListN.{length, drop, length-take}
-use borrow.Author.Rules.{rules}
-use borrow.Author.Tests.{not-true, not-false}
-use Rattle.segment.proofs.Walk.{total_step}
-use Rattle.sections_fit.proofs.Walks.{alive_step, alive-end}
+use mathlib.Core.Path.{◌≡◌}
+use Prim.Native.Nat.{◌+◌, ◌-◌, ◌≤◌}
+use lib.ListN.{length, drop}
 use Rattle.sections_fit.specs.Walks.{alive_fits_from}
 use Rattle.segment.specs.Records.{records_of}
 use Rattle.definitions.specs.Segment.{alive_words}
 use Rattle.definitions.specs.Answer.{total}
-use Rattle.lists.proofs.Tests.{fell, went}
 use Rattle.sections_fit.proofs.all_alive_fit.Given as goal
 
 abbrev pub invariant-loop-s : goal.invariant-loop-s

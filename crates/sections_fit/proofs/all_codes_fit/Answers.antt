@@ -1,12 +1,7 @@
-use mathlib.Core.Path.{◌≡◌, refl, ◌∙◌}
-use Prim.Native.Nat.{◌-◌, ◌≤◌, zero-le}
+use mathlib.Core.Path.{refl, ◌∙◌}
+use Prim.Native.Nat.{zero-le}
 use native.Mathlib.Omega.{arith}
-use lib.ListN.{length, drop}
-use borrow.Author.Rules.{rules}
-use borrow.Author.Tests.{not-true, not-false}
 use Rattle.sections_fit.proofs.Walks.{codes_step, codes-end}
-use Rattle.sections_fit.specs.Walks.{codes_from}
-use Rattle.segment.specs.Records.{records_of}
 use Rattle.lists.proofs.Tests.{fell, went}
 use Rattle.sections_fit.proofs.all_codes_fit.Goals as goal
 

@@ -1,15 +1,9 @@
-use mathlib.Core.Path.{◌≡◌, refl, ap, ◌∙◌}
-use Prim.Native.Nat.{ℕ, ◌+◌, ◌-◌, ◌≤◌, zero-le}
+use mathlib.Core.Path.{refl, ap, ◌∙◌}
+use Prim.Native.Nat.{ℕ, ◌+◌, zero-le}
 use native.Mathlib.Omega.{arith}
-use lib.ListN.{length, drop}
-use borrow.Author.Rules.{rules}
-use borrow.Author.Tests.{not-true, not-false}
 use Rattle.segment.proofs.Walk.{total_step}
 use Rattle.sections_fit.proofs.Walks.{lists_step, lists_end}
-use Rattle.sections_fit.specs.Walks.{lists_from}
-use Rattle.segment.specs.Records.{records_of}
 use Rattle.definitions.specs.Segment.{SegmentRecord}
-use Rattle.definitions.specs.Answer.{total}
 use Rattle.lists.proofs.Tests.{fell, went}
 use Rattle.sections_fit.proofs.all_lists_fit.Goals as goal
 

@@ -1,16 +1,11 @@
 use mathlib.Core.Path.{◌≡◌, refl, ap, ◌∙◌}
 use mathlib.Core.List.{List}
-use Prim.Native.Nat.{ℕ, ◌+◌, ◌-◌, ◌≤◌, zero-le}
+use Prim.Native.Nat.{ℕ, ◌+◌, ◌-◌, zero-le}
 use native.Mathlib.Omega.{arith}
-use lib.ListN.{length, drop, take, length-drop}
-use borrow.Author.Rules.{rules}
-use borrow.Author.Tests.{not-true, not-false}
+use lib.ListN.{drop, take, length-drop}
 use Rattle.segment.proofs.Walk.{total_step}
 use Rattle.sections_fit.proofs.Walks.{values_step, values-end}
-use Rattle.sections_fit.specs.Walks.{values_from}
-use Rattle.segment.specs.Records.{records_of}
 use Rattle.definitions.specs.Segment.{SegmentRecord, record_words}
-use Rattle.definitions.specs.Answer.{total}
 use Rattle.definitions.specs.Lists.{sum}
 use lib.Seq.{drop-drop}
 use Rattle.lists.proofs.Tests.{fell, went}

@@ -1,21 +1,11 @@
-use mathlib.Core.Path.{◌≡◌, refl, ap, ◌∙◌}
-use mathlib.Core.List.{List}
-use Prim.Native.Nat.{ℕ, ◌+◌, ◌-◌, ◌≤◌, zero-le}
-use native.Mathlib.Omega.{arith}
-use lib.ListN.{length, drop, take, length-drop}
-use borrow.Author.Rules.{rules}
-use borrow.Author.Tests.{not-true, not-false}
-use Rattle.segment.proofs.Walk.{total_step}
-use Rattle.sections_fit.proofs.Walks.{values_step, values-end}
+use mathlib.Core.Path.{◌≡◌}
+use Prim.Native.Nat.{◌+◌, ◌-◌, ◌≤◌}
+use lib.ListN.{length, drop}
 use Rattle.sections_fit.specs.Walks.{values_from}
 use Rattle.segment.specs.Records.{records_of}
 use Rattle.definitions.specs.Segment.{SegmentRecord, record_words}
 use Rattle.definitions.specs.Answer.{total}
 use Rattle.definitions.specs.Lists.{sum}
-use lib.Seq.{drop-drop}
-use Rattle.lists.proofs.Tests.{fell, went}
-use Rattle.lists.proofs.Parts.{part-rest}
-use Rattle.lists.proofs.Sums.{sum_split}
 use Rattle.sections_fit.proofs.all_values_fit.Given as goal
 
 abbrev pub invariant-loop-s : goal.invariant-loop-s

@@ -4,8 +4,7 @@ use mathlib.Core.List.{List, []}
 use Prim.Native.Nat.{ℕ, ◌≤◌, ◌<◌}
 use native.Mathlib.Nat.{le_of_eq}
 use lib.ListN.{length}
-use borrow.Author.Rules.{rules}
-use borrow.Author.Tests.{lt-ltb, le-ltb, not-false}
+use borrow.Author.Tests.{lt-ltb, le-ltb}
 use Rattle.sections_fit.proofs.Own.{lengths-wrong, exact, input-codes, some-old, lists-wrong, values-wrong, input-alive, sums_large}
 use Rattle.sections_fit.specs.declared.Totals.{Totals}
 use Rattle.sections_fit.specs.Walks.{sums_right}

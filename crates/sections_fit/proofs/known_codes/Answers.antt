@@ -1,6 +1,5 @@
 use mathlib.Core.Path.{sym, ◌∙◌}
-use borrow.Author.Rules.{rules}
-use borrow.Author.Tests.{lt-ltb, le-ltb, not-true, not-false}
+use borrow.Author.Tests.{lt-ltb, le-ltb}
 use Rattle.sections_fit.specs.Walks.{known_codes}
 use Rattle.lists.proofs.Tests.{stop, past}
 use Rattle.sections_fit.proofs.known_codes.Goals as goal

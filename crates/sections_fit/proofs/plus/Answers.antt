@@ -1,6 +1,5 @@
 use Prim.Native.Nat.{◌+◌}
 use native.Mathlib.Omega.{arith}
-use borrow.Author.Rules.{rules}
 use Rattle.sections_fit.specs.Walks.{add_to}
 use Rattle.sections_fit.proofs.plus.Goals as goal
 

@@ -1,9 +1,8 @@
-use mathlib.Core.Path.{◌≡◌, refl, ap, ◌∙◌}
-use Prim.Native.Nat.{ℕ, ◌+◌, ◌-◌, ◌*◌, ◌≤◌, zero-le}
+use mathlib.Core.Path.{refl, ap, ◌∙◌}
+use Prim.Native.Nat.{ℕ, ◌+◌, ◌*◌, ◌≤◌, zero-le}
 use native.Mathlib.Omega.{arith}
-use lib.ListN.{length, drop}
-use borrow.Author.Rules.{rules}
-use Rattle.sections_fit.proofs.Walks.{totals_from, no_totals, totals_step, totals_end, totals_all}
+use lib.ListN.{drop}
+use Rattle.sections_fit.proofs.Walks.{totals_from, totals_step, totals_end, totals_all}
 use Rattle.sections_fit.specs.Walks.{Below}
 use Rattle.segment.specs.Records.{records_of}
 use Rattle.sections_fit.specs.declared.Totals.{Totals}

@@ -1,12 +1,9 @@
-use mathlib.Core.Path.{◌≡◌, refl, ap, ◌∙◌}
-use Prim.Native.Nat.{ℕ, ◌+◌, ◌-◌, ◌*◌, ◌≤◌, zero-le}
-use native.Mathlib.Omega.{arith}
+use mathlib.Core.Path.{◌≡◌}
+use Prim.Native.Nat.{◌-◌, ◌*◌, ◌≤◌}
 use lib.ListN.{length, drop}
-use borrow.Author.Rules.{rules}
-use Rattle.sections_fit.proofs.Walks.{totals_from, no_totals, totals_step, totals_end, totals_all}
+use Rattle.sections_fit.proofs.Walks.{totals_from, no_totals}
 use Rattle.sections_fit.specs.Walks.{Below}
 use Rattle.segment.specs.Records.{records_of}
-use Rattle.sections_fit.specs.declared.Totals.{Totals}
 use Rattle.sections_fit.proofs.totals_of.Given as goal
 
 abbrev pub invariant-loop-i : goal.invariant-loop-i

@@ -1,4 +1,3 @@
-use borrow.Author.Rules.{rules}
 use Rattle.segment.proofs.Rows.{row_made}
 use Rattle.segment.proofs.numbers_of.Goals as goal
 

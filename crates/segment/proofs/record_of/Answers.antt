@@ -1,4 +1,3 @@
-use borrow.Author.Rules.{rules}
 use Rattle.segment.proofs.Rows.{struct_made}
 use Rattle.segment.proofs.record_of.Goals as goal
 

@@ -1,4 +1,3 @@
-use borrow.Author.Rules.{rules}
 use borrow.Author.Tests.{eq-eqb, ne_eqb, lt-ltb, le-ltb}
 use Rattle.lists.proofs.Tests.{stop, past, denied, granted, spared, asked}
 use Rattle.segment_fit.specs.Fits.{fits_codes}

@@ -2,8 +2,6 @@ use mathlib.Core.Path.{◌≡◌, sym, ◌∙◌}
 use mathlib.Core.List.{List}
 use Prim.Native.Nat.{ℕ}
 use lib.Dec.{ltb}
-use borrow.Author.Rules.{rules}
-use borrow.Author.Tests.{not-false}
 use Rattle.lists.proofs.Tests.{denied, granted}
 use Rattle.segment_fit.proofs.Laws.{ids-below, below_none}
 use Rattle.segment_fit.specs.Fits.{fits_ids, last_of}

@@ -2,7 +2,6 @@ use mathlib.Core.Path.{◌∙◌}
 use Prim.Native.Nat.{◌-◌}
 use native.Mathlib.Omega.{arith}
 use lib.ListN.{length}
-use borrow.Author.Rules.{rules}
 use Rattle.definitions.proofs.Slices.{last-at}
 use Rattle.segment_fit.specs.Fits.{last_of}
 use Rattle.segment_fit.proofs.last_of.Goals as goal

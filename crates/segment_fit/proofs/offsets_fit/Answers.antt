@@ -1,4 +1,3 @@
-use borrow.Author.Rules.{rules}
 use Rattle.segment_fit.proofs.Laws.{offsets-none, offsets-first, offsets-last}
 use Rattle.segment_fit.proofs.offsets_fit.Goals as goal
 

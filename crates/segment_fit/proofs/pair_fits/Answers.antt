@@ -1,4 +1,3 @@
-use borrow.Author.Rules.{rules}
 use Rattle.segment_fit.specs.Fits.{fits_pair}
 use Rattle.segment_fit.proofs.Pairs.{differs, agrees}
 use Rattle.segment_fit.proofs.pair_fits.Goals as goal

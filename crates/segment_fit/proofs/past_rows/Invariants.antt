@@ -1,9 +1,7 @@
-use mathlib.Core.Path.{◌≡◌, ◌∙◌}
+use mathlib.Core.Path.{◌≡◌}
 use Prim.Native.Nat.{◌-◌, ◌*◌, ◌≤◌, ◌<◌}
-use native.Mathlib.Omega.{arith}
 use lib.ListN.{length}
-use borrow.Author.Rules.{rules}
-use Rattle.segment_fit.proofs.Laws.{past_from, past_start, past_found, past_next, past_end}
+use Rattle.segment_fit.proofs.Laws.{past_from}
 use Rattle.segment_fit.specs.Fits.{past_rows}
 use Rattle.segment_fit.proofs.past_rows.Given as goal
 

@@ -1,10 +1,6 @@
-use mathlib.Core.Path.{◌≡◌, ◌∙◌}
-use Prim.Native.Nat.{◌-◌, ◌≤◌}
+use mathlib.Core.Path.{◌∙◌}
 use native.Mathlib.Omega.{arith}
-use lib.ListN.{length, drop}
-use borrow.Author.Rules.{rules}
 use Rattle.segment_fit.proofs.Laws.{rises-none, rises_start, rises-low, rises_next, rises-end}
-use Rattle.segment_fit.specs.Fits.{rises, rises_from}
 use mathlib.Core.Path.{refl}
 use Rattle.segment_fit.proofs.rises.Goals as goal
 

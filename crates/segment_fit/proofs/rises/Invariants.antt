@@ -1,11 +1,7 @@
-use mathlib.Core.Path.{◌≡◌, ◌∙◌}
+use mathlib.Core.Path.{◌≡◌}
 use Prim.Native.Nat.{◌-◌, ◌≤◌}
-use native.Mathlib.Omega.{arith}
 use lib.ListN.{length, drop}
-use borrow.Author.Rules.{rules}
-use Rattle.segment_fit.proofs.Laws.{rises-none, rises_start, rises-low, rises_next, rises-end}
 use Rattle.segment_fit.specs.Fits.{rises, rises_from}
-use mathlib.Core.Path.{refl}
 use Rattle.segment_fit.proofs.rises.Given as goal
 
 abbrev pub invariant-loop-i : goal.invariant-loop-i

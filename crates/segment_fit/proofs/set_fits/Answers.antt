@@ -1,6 +1,5 @@
 use mathlib.Core.Path.{sym, ap, ◌∙◌}
 use mathlib.Core.Bool.{not}
-use borrow.Author.Rules.{rules}
 use Rattle.lists.proofs.Tests.{stop, past}
 use Rattle.segment_fit.specs.Fits.{fits_set}
 use Rattle.segment_fit.proofs.set_fits.Goals as goal

@@ -1,4 +1,3 @@
-use borrow.Author.Rules.{rules}
 use Rattle.lists.proofs.Tests.{denied, granted}
 use Rattle.segment_fit.specs.Fits.{fits_values}
 use mathlib.Core.Path.{ap}

@@ -1,13 +1,12 @@
 use Rattle.stands.specs.declared.Stand.{Stand}
-use mathlib.Core.Path.{◌≡◌, refl, sym, ap, ◌∙◌, subst}
-use Prim.Native.Nat.{◌-◌, ◌*◌, ◌≤◌}
+use mathlib.Core.Path.{refl, sym, ap, ◌∙◌, subst}
 use native.Mathlib.Omega.{arith}
-use lib.ListN.{length, length-set}
+use lib.ListN.{length-set}
 use borrow.Author.Rules.{rules}
 use Rattle.segment.specs.declared.Record.{Record}
 use Rattle.segment.specs.Records.{record_in}
-use Rattle.runs.proofs.Laws.{putting, putting-none}
-use Rattle.stands.specs.Stand.{table, numbers_of, next_stand, Low, stand_in}
+use Rattle.runs.proofs.Laws.{putting-none}
+use Rattle.stands.specs.Stand.{numbers_of, next_stand, Low, stand_in}
 use Rattle.stands.proofs.Fill.{Ends, table_more, table-all, ends-none, ends_next, next-is, low-none, low-next, low-enough}
 use Rattle.stands.proofs.fill_stands.Goals as goal
 

@@ -1,14 +1,9 @@
-use Rattle.stands.specs.declared.Stand.{Stand}
-use mathlib.Core.Path.{◌≡◌, refl, sym, ap, ◌∙◌, subst}
+use mathlib.Core.Path.{◌≡◌}
 use Prim.Native.Nat.{◌-◌, ◌*◌, ◌≤◌}
-use native.Mathlib.Omega.{arith}
-use lib.ListN.{length, length-set}
-use borrow.Author.Rules.{rules}
-use Rattle.segment.specs.declared.Record.{Record}
-use Rattle.segment.specs.Records.{record_in}
-use Rattle.runs.proofs.Laws.{putting, putting-none}
-use Rattle.stands.specs.Stand.{table, numbers_of, next_stand, Low, stand_in}
-use Rattle.stands.proofs.Fill.{Ends, table_more, table-all, ends-none, ends_next, next-is, low-none, low-next, low-enough}
+use lib.ListN.{length}
+use Rattle.runs.proofs.Laws.{putting}
+use Rattle.stands.specs.Stand.{table, numbers_of, Low, stand_in}
+use Rattle.stands.proofs.Fill.{Ends}
 use Rattle.stands.proofs.fill_stands.Given as goal
 
 abbrev pub invariant-loop-s : goal.invariant-loop-s

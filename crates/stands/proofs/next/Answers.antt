@@ -3,7 +3,6 @@ use native.Mathlib.Omega.{arith}
 use mathlib.Core.Path.{ap, ◌∙◌}
 use Rattle.stands.specs.declared.Span.{Span}
 use Rattle.stands.specs.Stand.{span, next_stand}
-use borrow.Author.Rules.{rules}
 use Rattle.stands.proofs.next.Goals as goal
 
 pub overflow_add-result : goal.overflow_add-result

@@ -1,5 +1,4 @@
 use Rattle.stands.specs.Look.{start_in, end_in}
-use borrow.Author.Rules.{rules}
 use Rattle.stands.proofs.range_in.Goals as goal
 
 pub returns-clause-start_value : goal.returns-clause-start_value

@@ -1,6 +1,5 @@
 use native.Mathlib.Omega.{arith}
 use Rattle.term_cursors.proofs.Cursors.{cursor-end, cursor-some, length_some}
-use borrow.Author.Rules.{rules}
 use Rattle.term_cursors.proofs.cursor_at.Goals as goal
 
 pub returns-then-at-pos : goal.returns-then-at-pos

@@ -1,8 +1,7 @@
-use mathlib.Core.Path.{◌≡◌, refl}
-use Prim.Native.Nat.{◌-◌, ◌≤◌, zero-le}
+use mathlib.Core.Path.{refl}
+use Prim.Native.Nat.{zero-le}
 use native.Mathlib.Omega.{arith}
-use lib.ListN.{length, take, length-set, replicate}
-use borrow.Author.Rules.{rules}
+use lib.ListN.{length-set}
 use Rattle.term_marks.proofs.Laws.{ones_more, ones_end}
 use Rattle.term_marks.proofs.mark_all.Goals as goal
 

@@ -1,9 +1,6 @@
-use mathlib.Core.Path.{◌≡◌, refl}
-use Prim.Native.Nat.{◌-◌, ◌≤◌, zero-le}
-use native.Mathlib.Omega.{arith}
-use lib.ListN.{length, take, length-set, replicate}
-use borrow.Author.Rules.{rules}
-use Rattle.term_marks.proofs.Laws.{ones_more, ones_end}
+use mathlib.Core.Path.{◌≡◌}
+use Prim.Native.Nat.{◌-◌, ◌≤◌}
+use lib.ListN.{length, take, replicate}
 use Rattle.term_marks.proofs.mark_all.Given as goal
 
 abbrev pub invariant-loop-j : goal.invariant-loop-j

@@ -1,9 +1,7 @@
 use mathlib.Core.Path.{sym, ◌∙◌}
 use native.Mathlib.Omega.{arith}
-use borrow.Author.Tests.{not-true, not-false}
 use Rattle.column_index.proofs.Walk.{sound-readable, sound-inside}
 use Rattle.term_marks.proofs.Laws.{by_dead, by_alive}
-use borrow.Author.Rules.{rules}
 use Rattle.term_marks.proofs.mark_row.Goals as goal
 
 pub is_alive-requires : goal.is_alive-requires

@@ -1,9 +1,7 @@
-use mathlib.Core.Path.{◌≡◌, refl, sym, ap, ◌∙◌}
-use Prim.Native.Nat.{◌-◌, ◌≤◌, zero-le}
+use mathlib.Core.Path.{refl, sym, ap, ◌∙◌}
+use Prim.Native.Nat.{zero-le}
 use native.Mathlib.Omega.{arith}
 use lib.ListN.{length}
-use borrow.Author.Rules.{rules}
-use Rattle.term_marks.specs.Marks.{set_all, used_from}
 use Rattle.term_marks.proofs.Laws.{rows_more, set-length, rows_end, rows_start, marking-at}
 use Rattle.term_marks.proofs.mark_rows.Goals as goal
 

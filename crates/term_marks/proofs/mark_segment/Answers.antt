@@ -1,7 +1,6 @@
 use mathlib.Core.Path.{◌∙◌}
 use native.Mathlib.Omega.{arith}
 use Rattle.term_marks.proofs.Laws.{over-all, over_none, over-rows}
-use borrow.Author.Rules.{rules}
 use Rattle.term_marks.proofs.mark_segment.Goals as goal
 
 pub returns-then-p-ne1 : goal.returns-then-p-ne1

@@ -1,9 +1,5 @@
-use mathlib.Core.Path.{◌≡◌, refl, sym, ◌∙◌}
-use Prim.Native.Nat.{◌-◌}
+use mathlib.Core.Path.{refl, sym, ◌∙◌}
 use native.Mathlib.Omega.{arith}
-use lib.ListN.{length, drop}
-use borrow.Author.Rules.{rules}
-use Rattle.term_marks.specs.Marks.{marked_all}
 use Rattle.term_marks.proofs.Laws.{marks-end, turn_lies, turn-usable, turn_more}
 use Rattle.term_marks.proofs.mark_terms.Goals as goal
 

@@ -1,10 +1,6 @@
-use mathlib.Core.Path.{◌≡◌, refl, sym, ◌∙◌}
-use Prim.Native.Nat.{◌-◌}
+use mathlib.Core.Path.{refl, sym, ◌∙◌}
 use native.Mathlib.Omega.{arith}
-use lib.ListN.{length, length-set}
-use lib.Seq.{slice}
-use borrow.Author.Rules.{rules}
-use Rattle.term_marks.specs.Marks.{set_all}
+use lib.ListN.{length-set}
 use Rattle.term_marks.proofs.Laws.{set_step, set-end}
 use Rattle.term_marks.proofs.mark_values.Goals as goal
 

@@ -1,11 +1,8 @@
-use mathlib.Core.Path.{◌≡◌, refl, sym, ◌∙◌}
+use mathlib.Core.Path.{◌≡◌}
 use Prim.Native.Nat.{◌-◌}
-use native.Mathlib.Omega.{arith}
-use lib.ListN.{length, length-set}
+use lib.ListN.{length}
 use lib.Seq.{slice}
-use borrow.Author.Rules.{rules}
 use Rattle.term_marks.specs.Marks.{set_all}
-use Rattle.term_marks.proofs.Laws.{set_step, set-end}
 use Rattle.term_marks.proofs.mark_values.Given as goal
 
 abbrev pub invariant-loop-j : goal.invariant-loop-j

@@ -1,7 +1,6 @@
 use mathlib.Core.Path.{sym, ◌∙◌, subst}
 use Rattle.term_order.specs.Key.{Inside}
 use Rattle.term_merger.proofs.Laws.{inside-at, before-lt, before_gt, before_tie, before-number, compared}
-use borrow.Author.Rules.{rules}
 use Rattle.term_merger.proofs.comes_before.Goals as goal
 
 pub compare_keys-o-requires-clause-inside : goal.compare_keys-o-requires-clause-inside

@@ -1,6 +1,5 @@
 use mathlib.Core.Path.{sym, ◌∙◌}
 use Rattle.term_merger.proofs.Laws.{child_last, child_first, child_second}
-use borrow.Author.Rules.{rules}
 use Rattle.term_merger.proofs.first_child.Goals as goal
 
 pub returns-then-n-r : goal.returns-then-n-r

@@ -2,7 +2,6 @@ use mathlib.Core.Path.{subst}
 use Prim.Native.Nat.{ℕ, ◌≤◌, ◌<◌}
 use Rattle.term_merger.specs.Order.{cell}
 use Rattle.term_merger.proofs.Laws.{top_stays, top_leaves}
-use borrow.Author.Rules.{rules}
 use Rattle.term_merger.proofs.keep_top.Goals as goal
 
 pub returns-then-top-clause-value : goal.returns-then-top-clause-value

@@ -1,5 +1,4 @@
 use Rattle.term_merger.proofs.Laws.{sift_given, sift_left}
-use borrow.Author.Rules.{rules}
 use Rattle.term_merger.proofs.settle_top.Goals as goal
 
 pub sift_down-requires-clause-in_bounds : goal.sift_down-requires-clause-in_bounds

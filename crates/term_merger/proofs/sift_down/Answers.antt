@@ -1,11 +1,9 @@
 use borrow.Author.Rules.{rules}
 use mathlib.Core.Path.{◌≡◌, refl, sym, ◌∙◌}
 use mathlib.Core.List.{List}
-use Prim.Native.Nat.{ℕ, ◌+◌, ◌-◌, ◌*◌, ◌≤◌, ◌<◌}
+use Prim.Native.Nat.{ℕ, ◌+◌, ◌*◌, ◌≤◌, ◌<◌}
 use native.Mathlib.Omega.{arith}
-use lib.ListN.{length, length-set, get_or, take}
-use borrow.Author.Tests.{not-true, not-false}
-use Rattle.term_merger.specs.Heap.{count, Sinking}
+use lib.ListN.{length, length-set, get_or}
 use Rattle.term_merger.proofs.Laws.{AtMost, at-most_trans, before-at-most, count-swap, down_swap, down_end}
 use Rattle.term_merger.proofs.sift_down.Goals as goal
 

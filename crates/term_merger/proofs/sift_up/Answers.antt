@@ -3,10 +3,8 @@ use mathlib.Core.Path.{◌≡◌, refl, sym, ◌∙◌}
 use mathlib.Core.List.{List}
 use Prim.Native.Nat.{ℕ, ◌+◌, ◌-◌, ◌/◌, ◌<◌}
 use native.Mathlib.Omega.{arith}
-use lib.ListN.{length, length-set, get_or, take}
-use borrow.Author.Tests.{not-true, not-false}
-use Rattle.term_merger.specs.Heap.{count}
-use Rattle.term_merger.proofs.Laws.{AtMost, Up, before-at-most, count-swap, up_start, up_end, up_swap}
+use lib.ListN.{length, length-set, get_or}
+use Rattle.term_merger.proofs.Laws.{AtMost, before-at-most, count-swap, up_start, up_end, up_swap}
 use Rattle.term_merger.proofs.sift_up.Goals as goal
 
 pub loop-i-init : goal.loop-i-init

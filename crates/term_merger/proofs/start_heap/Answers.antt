@@ -1,8 +1,6 @@
-use borrow.Author.Rules.{rules}
 use mathlib.Core.Path.{sym, ap, subst}
-use mathlib.Core.Logic.{⊎_elim}
 use Rattle.term_merger.specs.declared.Heap.{Heap}
-use Prim.Native.Nat.{◌+◌, ◌-◌}
+use Prim.Native.Nat.{◌+◌}
 use native.Mathlib.Omega.{arith}
 use Rattle.term_merger.proofs.Begun.{Begun, begun_start, begun_push, begun_pass, begun_end}
 use Rattle.term_merger.proofs.start_heap.Goals as goal
@@ -27,7 +25,7 @@ push-h-requires-clause-ordered c =
 pub loop-s-preserved : goal.loop-s-preserved
 loop-s-preserved c =
     elim c.if-cursor.branch [
-      then-cursor w ↦ subst (λ (h : Heap). Begun c.args.bytes.now c.args.cursors.now h (c.loop-s.s + 1)) (sym w.h-is) (begun_push c.loop-s.invariant c.loop-s-test.true (w.push-h.ensures.room (omega (arith, c.loop-s.invariant.len, c.loop-s-test.true))) (omega (arith, w.if-cursor.true)))
+      | then-cursor w ↦ subst (λ (h : Heap). Begun c.args.bytes.now c.args.cursors.now h (c.loop-s.s + 1)) (sym w.h-is) (begun_push c.loop-s.invariant c.loop-s-test.true (w.push-h.ensures.room (omega (arith, c.loop-s.invariant.len, c.loop-s-test.true))) (omega (arith, w.if-cursor.true)))
       | else-cursor w ↦ subst (λ (h : Heap). Begun c.args.bytes.now c.args.cursors.now h (c.loop-s.s + 1)) (sym w.h-is) (begun_pass c.loop-s.invariant c.loop-s-test.true (omega (arith, w.if-cursor.false)))
     ]
 

@@ -1,10 +1,5 @@
-use borrow.Author.Rules.{rules}
-use mathlib.Core.Path.{sym, ap, subst}
-use mathlib.Core.Logic.{⊎_elim}
-use Rattle.term_merger.specs.declared.Heap.{Heap}
-use Prim.Native.Nat.{◌+◌, ◌-◌}
-use native.Mathlib.Omega.{arith}
-use Rattle.term_merger.proofs.Begun.{Begun, begun_start, begun_push, begun_pass, begun_end}
+use Prim.Native.Nat.{◌-◌}
+use Rattle.term_merger.proofs.Begun.{Begun}
 use Rattle.term_merger.proofs.start_heap.Given as goal
 
 abbrev pub invariant-loop-s : goal.invariant-loop-s

@@ -1,10 +1,7 @@
-use borrow.Author.Rules.{rules}
-use mathlib.Core.Path.{◌≡◌, refl, sym, ap, ◌∙◌}
+use mathlib.Core.Path.{◌≡◌}
 use Prim.Native.Nat.{◌-◌, ◌≤◌}
 use lib.ListN.{length, drop}
 use Rattle.definitions.specs.Lists.{compare_bytes}
-use Rattle.term_order.specs.Order.{order_of}
-use Rattle.term_order.proofs.Laws.{same_step, low_step, high_step, b_end, a-end, both_end}
 use Rattle.term_order.proofs.compare_bytes.Given as goal
 
 abbrev pub invariant-loop-i : goal.invariant-loop-i

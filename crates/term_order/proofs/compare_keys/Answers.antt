@@ -1,7 +1,6 @@
 use mathlib.Core.Path.{sym, ap, ◌∙◌}
 use Rattle.term_order.specs.Order.{order_of}
 use Rattle.term_order.proofs.Words.{first-tells, second-tells, rests_tell}
-use borrow.Author.Rules.{rules}
 use Rattle.term_order.proofs.compare_keys.Goals as goal
 
 pub returns-then-a-b : goal.returns-then-a-b

@@ -2,7 +2,6 @@ use mathlib.Core.Path.{sym, ap, ◌∙◌}
 use mathlib.Core.Logic.{inl}
 use Rattle.term_order.specs.Order.{order_of}
 use Rattle.term_order.proofs.Words.{rests_short, rests_after, rests_long}
-use borrow.Author.Rules.{rules}
 use Rattle.term_order.proofs.compare_rests.Goals as goal
 
 pub returns-then-n-le16 : goal.returns-then-n-le16

@@ -1,9 +1,8 @@
 use borrow.Author.Rules.{rules}
 use mathlib.Core.Path.{◌≡◌, refl, sym, ap, ap₂, ◌∙◌}
-use Prim.Native.Nat.{◌-◌, ◌≤◌, compare}
+use Prim.Native.Nat.{compare}
 use native.Mathlib.Omega.{arith}
-use lib.ListN.{length, drop}
-use Rattle.definitions.specs.Lists.{compare_bytes}
+use lib.ListN.{drop}
 use Rattle.term_order.specs.Order.{order_of}
 use Rattle.term_order.specs.Key.{value_of}
 use Rattle.term_order.proofs.Words.{bytes_differ, bytes-agree}

@@ -1,12 +1,7 @@
-use borrow.Author.Rules.{rules}
-use mathlib.Core.Path.{◌≡◌, refl, sym, ap, ap₂, ◌∙◌}
-use Prim.Native.Nat.{◌-◌, ◌≤◌, compare}
-use native.Mathlib.Omega.{arith}
+use mathlib.Core.Path.{◌≡◌}
+use Prim.Native.Nat.{◌-◌, ◌≤◌}
 use lib.ListN.{length, drop}
 use Rattle.definitions.specs.Lists.{compare_bytes}
-use Rattle.term_order.specs.Order.{order_of}
-use Rattle.term_order.specs.Key.{value_of}
-use Rattle.term_order.proofs.Words.{bytes_differ, bytes-agree}
 use Rattle.term_order.proofs.compare_terms.Given as goal
 
 abbrev pub invariant-loop-i : goal.invariant-loop-i

@@ -1,4 +1,3 @@
-use borrow.Author.Rules.{rules}
 use Rattle.term_order.proofs.key_at.Goals as goal
 
 pub returns : goal.returns

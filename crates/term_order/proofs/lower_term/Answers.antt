@@ -2,8 +2,6 @@ use mathlib.Core.Path.{◌≡◌, sym, ◌∙◌}
 use Prim.Native.Nat.{Ordering}
 use Rattle.definitions.specs.Lists.{compare_bytes}
 use Rattle.term_order.proofs.Laws.{told-lt, told-eq, told_gt}
-use borrow.Author.Rules.{rules}
-use Rattle.term_order.proofs.compare_terms.Reads as compare-terms-reads
 use Rattle.term_order.proofs.lower_term.Goals as goal
 
 pub returns-in-Before : goal.returns-in-Before

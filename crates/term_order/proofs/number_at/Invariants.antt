@@ -1,7 +1,5 @@
 use Prim.Native.Nat.{◌-◌}
-use native.Mathlib.Omega.{arith}
-use borrow.Author.Rules.{rules}
-use Rattle.term_order.proofs.Words.{Taking, taking_none, taking_fits, taking_more, taking_all}
+use Rattle.term_order.proofs.Words.{Taking}
 use Rattle.term_order.proofs.number_at.Given as goal
 
 abbrev pub invariant-loop-i : goal.invariant-loop-i

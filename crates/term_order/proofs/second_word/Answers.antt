@@ -1,6 +1,5 @@
 use mathlib.Core.Path.{◌∙◌}
 use Rattle.term_order.proofs.Words.{second_none, second-some}
-use borrow.Author.Rules.{rules}
 use Rattle.term_order.proofs.second_word.Goals as goal
 
 pub returns-then-n-le8 : goal.returns-then-n-le8

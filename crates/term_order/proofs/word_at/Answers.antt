@@ -2,7 +2,6 @@ use Prim.Native.Nat.{ℕ}
 use mathlib.Core.Path.{ap, ◌∙◌}
 use lib.ListN.{take, drop}
 use Rattle.term_order.proofs.Words.{word-long, word_none, word-short}
-use borrow.Author.Rules.{rules}
 use Rattle.term_order.proofs.word_at.Goals as goal
 
 pub returns-then-n-ge8 : goal.returns-then-n-ge8

@@ -1,11 +1,9 @@
 use borrow.Author.Rules.{rules}
 use mathlib.Core.Path.{refl}
-use mathlib.Core.List.{List, []}
-use Prim.Native.Nat.{ℕ}
+use mathlib.Core.List.{[]}
 use native.Mathlib.Omega.{arith}
-use Rattle.term_cursors.specs.Cursors.{terms_in, sum_over}
 use Rattle.term_merger.proofs.Walk.{sinking_new}
-use Rattle.term_walk.proofs.Going.{Going, going_start, going_more, cursor_in, terms-room, texts-room, place_in, end-s, fits-s, stepped, small-ordinal, size-new, readable-new, fewer}
+use Rattle.term_walk.proofs.Going.{going_start, going_more, cursor_in, terms-room, texts-room, place_in, end-s, fits-s, stepped, small-ordinal, size-new, readable-new, fewer}
 use Rattle.term_walk.proofs.Ends.{walked, cursors_passed}
 use Rattle.term_walk.proofs.merge_terms.Goals as goal
 
@@ -52,10 +50,10 @@ overflow_add-at-in-loop-h c =
 pub put_cursor-requires-clause-standing : goal.put_cursor-requires-clause-standing
 put_cursor-requires-clause-standing c =
     record {
-        inside = omega (arith, end-s c.requires.ready c.loop-h.invariant.2 c.loop-h-test.true c.byte-s.ensures.0, c.requires.ready.inside c.byte-s.result);
-        marked = λ e. omega (arith, end-s c.requires.ready c.loop-h.invariant.2 c.loop-h-test.true c.byte-s.ensures.0, c.requires.ready.marked c.byte-s.result e);
-        text = fits-s c.requires.ready c.loop-h.invariant.2 c.loop-h-test.true c.byte-s.ensures.0;
-      }
+      inside = omega (arith, end-s c.requires.ready c.loop-h.invariant.2 c.loop-h-test.true c.byte-s.ensures.0, c.requires.ready.inside c.byte-s.result);
+      marked = λ e. omega (arith, end-s c.requires.ready c.loop-h.invariant.2 c.loop-h-test.true c.byte-s.ensures.0, c.requires.ready.marked c.byte-s.result e);
+      text = fits-s c.requires.ready c.loop-h.invariant.2 c.loop-h-test.true c.byte-s.ensures.0;
+    }
 
 pub put_cursor-requires-clause-s_in_bounds : goal.put_cursor-requires-clause-s_in_bounds
 put_cursor-requires-clause-s_in_bounds c =

@@ -2,7 +2,6 @@ use mathlib.Core.Path.{sym, ap, ◌∙◌}
 use Rattle.term_order.proofs.Laws.{told-lt, told-eq, told_gt}
 use Rattle.term_order.specs.Key.{keyed}
 use Rattle.definitions.specs.Lists.{is_same, compare_bytes}
-use borrow.Author.Rules.{rules}
 use Rattle.term_walk.proofs.same_term.Goals as goal
 
 pub returns-in-Before : goal.returns-in-Before

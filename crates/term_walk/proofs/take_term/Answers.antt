@@ -1,9 +1,8 @@
 use Rattle.term_walk.proofs.Merge.{same-eq, differ}
 use mathlib.Core.Path.{refl, sym, ap, ◌∙◌, subst}
-use mathlib.Core.Logic.{inl, inr, ⊎_elim}
+use mathlib.Core.Logic.{inl, inr}
 use native.Mathlib.Omega.{arith}
 use Rattle.term_order.specs.Key.{keyed, Inside}
-use borrow.Author.Rules.{rules}
 use Rattle.term_walk.proofs.take_term.Goals as goal
 use Rattle.term_walk.proofs.take_term.Goals.{then-n-gt0+else-same_term, else-n-gt0}
 

@@ -1,6 +1,5 @@
-use Rattle.std.proofs.Common.{◌≡◌, ◌+◌, ◌-◌, ◌*◌, ◌≤◌, length, drop, ap, zero-le, zero-add, arith, rules}
+use Rattle.std.proofs.Common.{ap, zero-le, zero-add, arith}
 use Rattle.definitions.specs.Answer.{total}
-use Rattle.segment.specs.Records.{records_of}
 use Rattle.segment.proofs.Walk.{records-end, total_step}
 use Rattle.time_checks.specs.Times.{alive_of}
 use Rattle.time_checks.proofs.all_alive.Goals as goal

@@ -1,11 +1,7 @@
-use Rattle.std.proofs.Common.{◌≡◌, ℕ, ◌+◌, ◌-◌, ◌≤◌, length, drop, refl, ap, ◌∙◌, zero-le, arith, rules}
-use borrow.Author.Tests.{not-true, not-false}
+use Rattle.std.proofs.Common.{ℕ, ◌+◌, refl, ap, ◌∙◌, zero-le, arith}
 use Rattle.segment.proofs.Walk.{total_step}
 use Rattle.time_checks.proofs.Laws.{times_step, times-end}
-use Rattle.time_checks.specs.Times.{times_from}
-use Rattle.segment.specs.Records.{records_of}
 use Rattle.definitions.specs.Segment.{SegmentRecord, record_words}
-use Rattle.definitions.specs.Answer.{total}
 use Rattle.lists.proofs.Tests.{fell, went}
 use Rattle.time_checks.proofs.all_times_fit.Goals as goal
 

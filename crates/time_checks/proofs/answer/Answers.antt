@@ -1,4 +1,4 @@
-use Rattle.std.proofs.Common.{sym, ◌∙◌, arith, rules}
+use Rattle.std.proofs.Common.{sym, ◌∙◌, arith}
 use Rattle.time_checks.specs.Lent.{lent_times}
 use Rattle.segment.proofs.Walk.{records-long}
 use Rattle.time_checks.proofs.Own.{stopped, first-ready, too_short, unfit_times, accepted}

@@ -1,6 +1,5 @@
-use Rattle.std.proofs.Common.{◌≡◌, ◌-◌, ◌<◌, ◌≤◌, length, drop, ◌∙◌, zero-le, arith, rules}
+use Rattle.std.proofs.Common.{◌∙◌, zero-le, arith}
 use Rattle.time_checks.proofs.Laws.{singles_start, singles-high, singles-next, singles-end}
-use Rattle.time_checks.specs.Times.{singles, singles_from}
 use Rattle.time_checks.proofs.single_values.Goals as goal
 
 pub loop-i-init : goal.loop-i-init

@@ -1,5 +1,4 @@
-use Rattle.std.proofs.Common.{◌≡◌, ◌-◌, ◌<◌, ◌≤◌, length, drop, ◌∙◌, zero-le, arith, rules}
-use Rattle.time_checks.proofs.Laws.{singles_start, singles-high, singles-next, singles-end}
+use Rattle.std.proofs.Common.{◌≡◌, ◌-◌, ◌<◌, ◌≤◌, length, drop}
 use Rattle.time_checks.specs.Times.{singles, singles_from}
 use Rattle.time_checks.proofs.single_values.Given as goal
 

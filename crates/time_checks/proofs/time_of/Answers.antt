@@ -1,4 +1,3 @@
-use Rattle.std.proofs.Common.{rules}
 use Rattle.time_checks.proofs.time_of.Goals as goal
 
 pub returns : goal.returns

@@ -1,4 +1,4 @@
-use Rattle.std.proofs.Common.{◌≡◌, ℕ, true, ◌||◌, eqb, [], sym, ◌∙◌, ◌⊎◌, ⊎_elim}
+use Rattle.std.proofs.Common.{◌≡◌, true, ◌||◌, eqb, [], sym, ◌∙◌, ◌⊎◌, ⊎_elim}
 use borrow.Author.Tests.{ne_eqb, eq-eqb}
 use Rattle.segment.specs.declared.Record.{Record}
 use Rattle.segment.specs.Records.{record_in}

@@ -1,6 +1,5 @@
-use Rattle.std.proofs.Common.{◌≡◌, ◌-◌, ◌≤◌, length, drop, ◌∙◌, zero-le, arith, rules}
-use Rattle.time_checks.proofs.Laws.{rises_from, rises_start, rises-low, rises_next, rises-end}
-use Rattle.time_checks.specs.Times.{times_rise}
+use Rattle.std.proofs.Common.{◌∙◌, zero-le, arith}
+use Rattle.time_checks.proofs.Laws.{rises_start, rises-low, rises_next, rises-end}
 use Rattle.time_checks.proofs.times_rise.Goals as goal
 
 pub loop-i-init : goal.loop-i-init

@@ -1,5 +1,5 @@
-use Rattle.std.proofs.Common.{◌≡◌, ◌-◌, ◌≤◌, length, drop, ◌∙◌, zero-le, arith, rules}
-use Rattle.time_checks.proofs.Laws.{rises_from, rises_start, rises-low, rises_next, rises-end}
+use Rattle.std.proofs.Common.{◌≡◌, ◌-◌, ◌≤◌, length, drop}
+use Rattle.time_checks.proofs.Laws.{rises_from}
 use Rattle.time_checks.specs.Times.{times_rise}
 use Rattle.time_checks.proofs.times_rise.Given as goal
 

@@ -1,6 +1,5 @@
 use mathlib.Core.Path.{◌∙◌}
 use Rattle.time_cursors.proofs.Parts.{words-there, cursor-none, ids-ready, row_small, values-ready, cursor-some}
-use borrow.Author.Rules.{rules}
 use Rattle.time_cursors.proofs.first_from.Goals as goal
 
 pub next_alive-n-requires-clause-from_le_rows : goal.next_alive-n-requires-clause-from_le_rows

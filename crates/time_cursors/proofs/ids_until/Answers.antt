@@ -1,7 +1,5 @@
-use Prim.Native.Nat.{ℕ, suc, ◌-◌, ◌≤◌, ◌<◌}
+use Prim.Native.Nat.{ℕ, suc, ◌≤◌, ◌<◌}
 use native.Mathlib.Omega.{arith}
-use lib.ListN.{length, get_or}
-use borrow.Author.Rules.{rules}
 use Rattle.time_cursors.proofs.Laws.{ids_start, ids-here, ids-end}
 use borrow.Author.Count.{below_more}
 use mathlib.Core.Path.{subst}

@@ -1,11 +1,5 @@
-use Prim.Native.Nat.{ℕ, suc, ◌-◌, ◌≤◌, ◌<◌}
-use native.Mathlib.Omega.{arith}
+use Prim.Native.Nat.{ℕ, ◌-◌, ◌≤◌, ◌<◌}
 use lib.ListN.{length, get_or}
-use borrow.Author.Rules.{rules}
-use Rattle.time_cursors.proofs.Laws.{ids_start, ids-here, ids-end}
-use borrow.Author.Count.{below_more}
-use mathlib.Core.Path.{subst}
-use Rattle.column_index.proofs.Laws.{rank-fits}
 use Rattle.time_cursors.proofs.ids_until.Given as goal
 
 abbrev pub invariant-loop-n : goal.invariant-loop-n

@@ -3,7 +3,6 @@ use mathlib.Core.Path.{◌∙◌, ap}
 use Prim.Native.Nat.{ℕ}
 use lib.ListN.{get_or}
 use Rattle.definitions.specs.TimeOrder.{time_of}
-use borrow.Author.Rules.{rules}
 use Rattle.time_cursors.proofs.key_cursor.Goals as goal
 
 pub returns-then-values-eq0 : goal.returns-then-values-eq0

@@ -1,9 +1,6 @@
-use mathlib.Core.Path.{◌≡◌, refl, sym, ◌∙◌}
-use Prim.Native.Nat.{◌-◌, ◌≤◌}
+use mathlib.Core.Path.{refl, sym, ◌∙◌}
 use native.Mathlib.Omega.{arith}
-use borrow.Author.Rules.{rules}
 use Rattle.time_cursors.proofs.Laws.{next-plain, next_here, next_later, next-none}
-use Rattle.time_cursors.specs.Cursors.{next_row}
 use Rattle.time_cursors.proofs.next_alive.Goals as goal
 
 pub returns-then-flag-ne1 : goal.returns-then-flag-ne1

@@ -1,8 +1,5 @@
-use mathlib.Core.Path.{◌≡◌, refl, sym, ◌∙◌}
+use mathlib.Core.Path.{◌≡◌}
 use Prim.Native.Nat.{◌-◌, ◌≤◌}
-use native.Mathlib.Omega.{arith}
-use borrow.Author.Rules.{rules}
-use Rattle.time_cursors.proofs.Laws.{next-plain, next_here, next_later, next-none}
 use Rattle.time_cursors.specs.Cursors.{next_row}
 use Rattle.time_cursors.proofs.next_alive.Given as goal
 

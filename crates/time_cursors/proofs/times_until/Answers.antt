@@ -1,6 +1,5 @@
 use mathlib.Core.Path.{◌∙◌}
 use Rattle.time_cursors.proofs.Laws.{times_none, times-full, times-listed}
-use borrow.Author.Rules.{rules}
 use Rattle.time_cursors.proofs.times_until.Goals as goal
 
 pub returns-then-kind-eq0 : goal.returns-then-kind-eq0

@@ -2,7 +2,6 @@ use native.Mathlib.Omega.{arith}
 use mathlib.Core.Path.{ap}
 use mathlib.Core.Logic.{inl, inr}
 use Rattle.time_merge.specs.Runs.{bound_at}
-use borrow.Author.Rules.{rules}
 use Rattle.time_merge.proofs.bound_of.Goals as goal
 
 pub returns-then-len-lt2 : goal.returns-then-len-lt2

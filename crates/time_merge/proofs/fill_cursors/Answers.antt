@@ -1,10 +1,9 @@
-use borrow.Author.Rules.{rules}
 use mathlib.Core.Path.{ap}
-use Prim.Native.Nat.{◌-◌, ◌≤◌, zero-le}
+use Prim.Native.Nat.{zero-le}
 use native.Mathlib.Omega.{arith}
 use lib.ListN.{length}
 use Rattle.time_merge.proofs.Keyed.{timed-at}
-use Rattle.time_merge.proofs.Filled.{Filled, filled_start, all_left, filled_more, filled-end}
+use Rattle.time_merge.proofs.Filled.{filled_start, all_left, filled_more, filled-end}
 use Rattle.time_merge.proofs.fill_cursors.Goals as goal
 
 pub loop-s-init : goal.loop-s-init

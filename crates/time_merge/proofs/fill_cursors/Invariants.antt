@@ -1,10 +1,6 @@
-use borrow.Author.Rules.{rules}
-use mathlib.Core.Path.{ap}
-use Prim.Native.Nat.{◌-◌, ◌≤◌, zero-le}
-use native.Mathlib.Omega.{arith}
+use Prim.Native.Nat.{◌-◌, ◌≤◌}
 use lib.ListN.{length}
-use Rattle.time_merge.proofs.Keyed.{timed-at}
-use Rattle.time_merge.proofs.Filled.{Filled, filled_start, all_left, filled_more, filled-end}
+use Rattle.time_merge.proofs.Filled.{Filled}
 use Rattle.time_merge.proofs.fill_cursors.Given as goal
 
 abbrev pub invariant-loop-s : goal.invariant-loop-s

@@ -1,5 +1,4 @@
 use Rattle.time_merge.proofs.Reaching.{within_none, within_tie, within-lower}
-use borrow.Author.Rules.{rules}
 use Rattle.time_merge.proofs.is_within.Goals as goal
 
 pub returns-then-bound-eq0 : goal.returns-then-bound-eq0

@@ -1,8 +1,6 @@
-use Prim.Native.Nat.{◌-◌, ◌≤◌}
 use native.Mathlib.Nat.{le_refl}
 use native.Mathlib.Omega.{arith}
-use mathlib.Core.Path.{◌≡◌, refl, sym, ◌∙◌}
-use Rattle.time_merge.specs.Runs.{alive_up_to}
+use mathlib.Core.Path.{refl, sym, ◌∙◌}
 use Rattle.time_merge.proofs.Rows.{shorter}
 use Rattle.time_merge.proofs.last_listed.Goals as goal
 

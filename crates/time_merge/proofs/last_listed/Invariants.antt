@@ -1,9 +1,6 @@
 use Prim.Native.Nat.{◌-◌, ◌≤◌}
-use native.Mathlib.Nat.{le_refl}
-use native.Mathlib.Omega.{arith}
-use mathlib.Core.Path.{◌≡◌, refl, sym, ◌∙◌}
+use mathlib.Core.Path.{◌≡◌}
 use Rattle.time_merge.specs.Runs.{alive_up_to}
-use Rattle.time_merge.proofs.Rows.{shorter}
 use Rattle.time_merge.proofs.last_listed.Given as goal
 
 abbrev pub invariant-loop-n : goal.invariant-loop-n

@@ -1,12 +1,8 @@
 use borrow.Author.Rules.{rules}
 use mathlib.Core.Path.{refl}
-use mathlib.Core.List.{List}
-use Prim.Native.Nat.{ℕ, ◌-◌}
 use native.Mathlib.Omega.{arith}
-use lib.ListN.{length, length-set}
-use Rattle.definitions.specs.Segment.{Address}
-use Rattle.time_merge.specs.Order.{placed_segments}
-use Rattle.time_merge.proofs.Going.{Going, going_readable, going_start, going_end, s-there, timed-s, rest-left, run-left, rows-given, room, one_written, readable-new, going_more}
+use lib.ListN.{length-set}
+use Rattle.time_merge.proofs.Going.{going_readable, going_start, going_end, s-there, timed-s, rest-left, run-left, rows-given, room, one_written, readable-new, going_more}
 use Rattle.term_merger.proofs.Walk.{sinking_new}
 use Rattle.time_merge.proofs.merge.Goals as goal
 

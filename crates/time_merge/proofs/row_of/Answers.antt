@@ -1,6 +1,5 @@
 use mathlib.Core.Path.{◌∙◌}
 use Rattle.time_merge.proofs.Reaching.{row-none, row-full, row-end, row_listed}
-use borrow.Author.Rules.{rules}
 use Rattle.time_merge.proofs.row_of.Goals as goal
 
 pub returns-then-kind-eq0 : goal.returns-then-kind-eq0

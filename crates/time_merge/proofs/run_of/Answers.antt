@@ -1,5 +1,4 @@
 use Rattle.time_merge.proofs.Reaching.{run_fits, run-one, run_more}
-use borrow.Author.Rules.{rules}
 use Rattle.time_merge.proofs.run_of.Goals as goal
 
 pub returns-then-not-stays : goal.returns-then-not-stays

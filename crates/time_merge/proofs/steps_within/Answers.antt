@@ -1,6 +1,5 @@
 use mathlib.Core.Path.{◌∙◌}
 use Rattle.time_merge.proofs.Reaching.{step_past, step_is}
-use borrow.Author.Rules.{rules}
 use Rattle.time_merge.proofs.steps_within.Goals as goal
 
 pub returns-then-values-m : goal.returns-then-values-m

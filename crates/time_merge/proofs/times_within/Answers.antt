@@ -1,8 +1,6 @@
-use Prim.Native.Nat.{◌+◌, ◌-◌, ◌*◌}
 use native.Mathlib.Omega.{arith}
 use mathlib.Core.Path.{sym, ◌∙◌}
-use lib.ListN.{length}
-use Rattle.time_merge.proofs.Reaching.{Stepping, step_true, stepping_start, stepping_on, stepping_back, stepping_end}
+use Rattle.time_merge.proofs.Reaching.{step_true, stepping_start, stepping_on, stepping_back, stepping_end}
 use Rattle.time_merge.proofs.times_within.Goals as goal
 
 pub loop-step-init : goal.loop-step-init

@@ -1,9 +1,8 @@
-use Prim.Native.Nat.{ℕ, ◌+◌, ◌-◌, ◌≤◌}
+use Prim.Native.Nat.{ℕ, ◌+◌}
 use native.Mathlib.Nat.{le_refl}
 use native.Mathlib.Omega.{arith}
 use mathlib.Core.Path.{ap}
-use Rattle.runs.proofs.Laws.{Filling}
-use Rattle.time_merge.proofs.Rows.{rest, row_room, row_written, all_start, all_end}
+use Rattle.time_merge.proofs.Rows.{row_room, row_written, all_start, all_end}
 use Rattle.time_merge.proofs.write_rows.Goals as goal
 
 pub last_listed-stop-requires-clause-from_le_end : goal.last_listed-stop-requires-clause-from_le_end

@@ -1,9 +1,6 @@
-use Prim.Native.Nat.{ℕ, ◌+◌, ◌-◌, ◌≤◌}
-use native.Mathlib.Nat.{le_refl}
-use native.Mathlib.Omega.{arith}
-use mathlib.Core.Path.{ap}
+use Prim.Native.Nat.{◌-◌, ◌≤◌}
 use Rattle.runs.proofs.Laws.{Filling}
-use Rattle.time_merge.proofs.Rows.{rest, row_room, row_written, all_start, all_end}
+use Rattle.time_merge.proofs.Rows.{rest}
 use Rattle.time_merge.proofs.write_rows.Given as goal
 
 abbrev pub invariant-loop-row : goal.invariant-loop-row

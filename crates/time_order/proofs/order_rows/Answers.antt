@@ -3,7 +3,6 @@ use mathlib.Core.List.{List}
 use Prim.Native.Nat.{ℕ}
 use native.Mathlib.Omega.{arith}
 use lib.ListN.{length}
-use borrow.Author.Rules.{rules}
 use lib.Seq.{length-take-le}
 use Rattle.definitions.specs.TimeOrder.{time_order}
 use Rattle.time_merge.specs.Order.{placed_segments, time_written, Ready, Rising}

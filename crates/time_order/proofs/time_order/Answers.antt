@@ -1,6 +1,5 @@
 use mathlib.Core.Path.{refl, sym, ◌∙◌}
 use lib.ListN.{length}
-use borrow.Author.Rules.{rules}
 use Rattle.time_checks.specs.Lent.{lent_times}
 use Rattle.time_order.proofs.Lent.{order_is, merge_ready, merge_rising}
 use Rattle.time_order.proofs.Outcomes.{refused-outcome, refused_output, ordered-outcome, ordered_output}

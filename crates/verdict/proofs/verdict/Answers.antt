@@ -1,10 +1,8 @@
 use mathlib.Core.Path.{◌≡◌, refl, sym, ap, ◌∙◌}
 use mathlib.Core.List.{[]}
-use Prim.Native.Nat.{ℕ, zero}
+use Prim.Native.Nat.{ℕ}
 use native.Mathlib.Omega.{arith}
 use lib.ListN.{length, replicate}
-use borrow.Author.Rules.{rules}
-use borrow.Author.Tests.{not-false}
 use Rattle.verdict.proofs.Answer.{nine-first, nine-room, nine_eight, nine-nine, nine-none, room-rows}
 use Rattle.runs.proofs.Zeros.{zero_again}
 use Rattle.definitions.specs.Checks.{first_of}

@@ -1,7 +1,6 @@
 use mathlib.Core.Path.{sym, ap, ◌∙◌}
 use mathlib.Core.List.{[]}
 use mathlib.Core.Bool.{Bool}
-use borrow.Author.Rules.{rules}
 use Rattle.definitions.specs.Withdraw.{changes_to}
 use Rattle.withdraw.specs.Lent.{set_by}
 use Rattle.withdraw.proofs.changes.Goals as goal

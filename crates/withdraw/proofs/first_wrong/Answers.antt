@@ -1,6 +1,4 @@
 use mathlib.Core.Path.{sym, ◌∙◌}
-use borrow.Author.Rules.{rules}
-use borrow.Author.Tests.{not-true, not-false}
 use Rattle.withdraw.proofs.Answers.{two, three, six, fifteen, sixteen, none}
 use Rattle.withdraw.proofs.first_wrong.Goals as goal
 

@@ -1,4 +1,3 @@
-use borrow.Author.Rules.{rules}
 use Rattle.withdraw.proofs.Outcomes.{refuses, markable, there, changes_are}
 use Rattle.withdraw.proofs.mark.Goals as goal
 

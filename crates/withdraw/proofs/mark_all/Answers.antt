@@ -1,11 +1,7 @@
-use mathlib.Core.Path.{◌≡◌, refl, sym, ◌∙◌}
-use mathlib.Core.Bool.{false}
-use Prim.Native.Nat.{◌-◌, ◌≤◌, zero-le}
+use mathlib.Core.Path.{refl, sym, ◌∙◌}
+use Prim.Native.Nat.{zero-le}
 use native.Mathlib.Omega.{arith}
-use lib.ListN.{length, drop}
-use borrow.Author.Rules.{rules}
-use Rattle.definitions.specs.Withdraw.{row_absent, marked_rows}
-use Rattle.withdraw.specs.Lent.{set_by, Markable}
+use Rattle.withdraw.specs.Lent.{set_by}
 use Rattle.withdraw.proofs.Laws.{row_below, after_markable, rest_below, rows_step, rows_end}
 use Rattle.withdraw.proofs.mark_all.Goals as goal
 
@@ -23,8 +19,7 @@ mark_row-q-requires-clause-row_lt_rows c =
 
 pub loop-j-preserved : goal.loop-j-preserved
 loop-j-preserved c =
-    let m = set_by c.loop-j.q c.loop-j.words in
-    (
+    let m = set_by c.loop-j.q c.loop-j.words in (
       omega (arith, c.loop-j-test.true),
       after_markable c.args.rows.now c.loop-j.j c.loop-j-test.true c.wide.ensures.value m c.loop-j.invariant.2 c.loop-j.invariant.1 c.args.alive c.mark_row-q.ensures,
       rest_below c.args.rows.now c.loop-j.j c.loop-j-test.true c.wide.ensures.value m c.loop-j.invariant.2 c.loop-j.invariant.1 c.args.alive c.mark_row-q.ensures,

@@ -1,12 +1,9 @@
-use mathlib.Core.Path.{◌≡◌, refl, sym, ◌∙◌}
+use mathlib.Core.Path.{◌≡◌}
 use mathlib.Core.Bool.{false}
-use Prim.Native.Nat.{◌-◌, ◌≤◌, zero-le}
-use native.Mathlib.Omega.{arith}
+use Prim.Native.Nat.{◌-◌, ◌≤◌}
 use lib.ListN.{length, drop}
-use borrow.Author.Rules.{rules}
 use Rattle.definitions.specs.Withdraw.{row_absent, marked_rows}
 use Rattle.withdraw.specs.Lent.{set_by, Markable}
-use Rattle.withdraw.proofs.Laws.{row_below, after_markable, rest_below, rows_step, rows_end}
 use Rattle.withdraw.proofs.mark_all.Given as goal
 
 abbrev pub invariant-loop-j : goal.invariant-loop-j

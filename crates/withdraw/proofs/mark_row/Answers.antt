@@ -1,6 +1,5 @@
 use mathlib.Core.Path.{sym, ◌∙◌}
 use native.Mathlib.Omega.{arith}
-use borrow.Author.Rules.{rules}
 use Rattle.withdraw.specs.Lent.{set_by}
 use Rattle.withdraw.proofs.Laws.{bit-there, one-fits, one-there, kept-alive, kept-withdrawn, bit_cleared, bit-set}
 use Rattle.withdraw.proofs.mark_row.Goals as goal

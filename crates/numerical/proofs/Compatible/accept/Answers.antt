@@ -1,4 +1,3 @@
-use Rattle.std.proofs.Common.{rules}
 use Rattle.numerical.proofs.Compatible.accept.Goals as goal
 
 pub returns : goal.returns
