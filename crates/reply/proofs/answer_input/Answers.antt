@@ -1,6 +1,5 @@
 use mathlib.Core.Path.{sym}
 use lib.Seq.{length-take-le}
-use borrow.Author.Rules.{rules}
 use Rattle.reply.proofs.Laws as laws
 use Rattle.reply.proofs.answer_input.Goals as goal
 

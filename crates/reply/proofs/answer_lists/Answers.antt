@@ -3,7 +3,6 @@ use mathlib.Core.List.{List}
 use Prim.Native.Nat.{ℕ}
 use native.Mathlib.Omega.{arith}
 use lib.ListN.{length}
-use borrow.Author.Rules.{rules}
 use Rattle.definitions.specs.Outcome.{Lent, join_outcome}
 use Rattle.definitions.specs.Listing.{listing}
 use Rattle.runs.specs.Put.{put}

@@ -1,7 +1,6 @@
 use mathlib.Core.Path.{sym, ap, ◌∙◌}
 use native.Mathlib.Omega.{arith}
 use lib.ListN.{length, length-map}
-use borrow.Author.Rules.{rules}
 use lib.Seq.{length-take-le}
 use Rattle.definitions.specs.Wire.{word_sections, record_groups}
 use Rattle.segment.specs.Records.{row_of}
