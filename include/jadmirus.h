@@ -1,5 +1,5 @@
 /* The proved joiner of play-log columns, their time order, the converter of old segments, plays withdrawn and reinstated, and a column's least and greatest value, for C. Link with
- * target/staticlib/libjadmirus.a (rt staticlib jadmirus).
+ * target/staticlib/libjadmirus.a (tools/staticlib).
  *
  * The proof takes for granted what a caller in C must see to: each pointer is of as many elements as the count after it says (where the count is 0, any aligned
  * one that is not NULL), and no run that is written overlaps another run. */

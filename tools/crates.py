@@ -4,7 +4,7 @@
     python3 tools/crates.py
 
 Lines keep their order, in which crates of one level stand by how long they take, so that two that are proved side by side take about as long; a crate that
-is not listed yet comes last among the libraries or the programs."""
+is not listed yet comes last among the libraries or the programs. What stands between a name and its colon, as `staticlib`, is kept."""
 import glob
 import os
 import re
@@ -27,24 +27,23 @@ def cited(crate, crates):
     for path in glob.glob(f"crates/{crate}/src/*.rt"):
         text = re.sub(r"//[^\n]*", "", open(path, encoding="utf-8").read())
         names |= set(re.findall(r"\b([a-z_]+)::", text)) & (crates | KIT)
-        names |= set(re.findall(r"Rattle·([a-z_]+)\.", text))
+        names |= set(re.findall(r"\bRattle\.([a-z_]+)\.", text)) & (crates | KIT)
     for path in glob.glob(f"crates/{crate}/*/**/*.antt", recursive=True):
-        names |= set(re.findall(r"Rattle·([a-z_]+)\.", open(path, encoding="utf-8").read()))
-    if "io" in names:
-        names.add("libc")
+        names |= set(re.findall(r"\bRattle\.([a-z_]+)\.", open(path, encoding="utf-8").read())) & (crates | KIT)
     return names - {crate}
 
 
 def main():
     crates = {name for name in os.listdir("crates") if os.path.isdir(f"crates/{name}/src")}
-    lines = [line.split(":")[0].strip() for line in open("crates.txt", encoding="utf-8") if ":" in line and not line.startswith("#")]
-    order = [name for name in lines if name in crates]
+    heads = [line.split(":")[0].strip() for line in open("crates.txt", encoding="utf-8") if ":" in line and not line.startswith("#")]
+    head = {text.split()[0]: text for text in heads}
+    order = [name for name in head if name in crates]
     order += sorted(crates - set(order))
     place = {name: k for k, name in enumerate(order)}
 
     def line(name):
         names = sorted(cited(name, crates), key=lambda d: (d in KIT, place.get(d, 0), d))
-        return " ".join([f"{name}:"] + names)
+        return " ".join([f"{head.get(name, name)}:"] + names)
 
     programs = [name for name in order if os.path.exists(f"crates/{name}/src/main.rt")]
     text = ["# NAME: the crates whose functions, types, definitions or laws it cites; the toolchain passes on what those stand on (tools/crates.py)"]

@@ -1,50 +1,42 @@
 #!/usr/bin/env python3
-"""fill.py: writes answers into the proofs of a crate's functions, with paths written by name. From the repository's root:
+"""fill.py: writes answers into the proofs of a crate's functions. From the repository's root:
 
-    rt dev CRATE --generated target/gen
+    (cd crates/CRATE && rt check --start FN --allow-holes)
     python3 tools/fill.py CRATE < answers
 
-The proof files stand already, as `rt dev` prints them, with `?` or `search needs` at their needs. The answers are parted by lines:
+The first command writes proofs/FN/Answers.antt, with `?` at each goal (paths.py lists what can be cited there). The answers are parted by lines:
 
     # FN            a function; the lines up to the first @ are `use` lines to add
-    @@              what follows goes before the first need, after invariants and measures (helpers)
-    @NEED           what follows answers that need; a first line `unfolding ..` goes above it
+    @@              what follows goes before the first goal (helpers)
+    @GOAL           what follows answers that goal; a first line `unfolding ..` goes above it
 
-In an answer «x» stands for the path to x, c .before .. .x (paths.py lists them). A need without an answer gets `search needs`. The proof as it was
-at first is kept in target/skel, so that the answers may be mended and filled in again; it is taken anew where the needs have changed."""
+In an answer «x» stands for c.x. A goal without an answer is left out, so that the check seeks a proof of it by itself. The file as it was at first is kept
+in target/skel, so that the answers may be mended and filled in again; it is taken anew where the goals have changed."""
 import os
 import re
 import sys
 
-sys.dont_write_bytecode = True  # no folder of compiled scripts beside these
-from paths import load, places
+CLAUSE = re.compile(r"(\S+)( .*)? =(?: \?|\n +\?)$", re.M)
 
 
-def paths_of(crate, fn):
-    """for each need how many places back each name stands, the nearest"""
-    records, needs = load(crate, fn)
-    found = {}
-    for need, record in needs.items():
-        found[need] = {}
-        for back, name, _ in places(records, record):
-            found[need].setdefault(name, back)
-    return found
+def goals_of(text):
+    return re.findall(r"(?m)^(?:pub )?(\S+) :\s+goal\.", text)
 
 
-def skeleton(crate, fn, needs):
-    """the proof before any answer"""
-    kept, proof = f"target/skel/{crate}.{fn}", f"crates/{crate}/proofs/{fn}/Proof.antt"
+def skeleton(crate, fn):
+    """the file of answers before any of them: what is kept, but for new goals that the file itself has open"""
+    kept, proof = f"target/skel/{crate}.{fn}", f"crates/{crate}/proofs/{fn}/Answers.antt"
+    with open(proof, encoding="utf-8") as f:
+        now = f.read()
     if os.path.exists(kept):
-        with open(kept) as f:
+        with open(kept, encoding="utf-8") as f:
             text = f.read()
-        if set(re.findall(r"(?m)^\S+ : tie\.Need-(\S+)", text)) == set(needs):
+        if set(goals_of(now)) <= set(goals_of(text)):
             return text
-    with open(proof) as f:
-        text = f.read()
     os.makedirs("target/skel", exist_ok=True)
-    with open(kept, "w") as f:
-        f.write(text)
-    return text
+    with open(kept, "w", encoding="utf-8") as f:
+        f.write(now)
+    return now
 
 
 def read_answers(text):
@@ -60,59 +52,39 @@ def read_answers(text):
     return uses, {name: "\n".join(lines).strip("\n").split("\n") for name, lines in answers.items()}
 
 
-def with_paths(fn, need, lines, known):
-    def path(m):
-        if m.group(1) not in known:
-            print(f"{fn} {need}: no «{m.group(1)}»: {list(known)}")
-            return m.group(0)
-        return "c" + " .before" * known[m.group(1)] + " ." + m.group(1)
-
-    return [re.sub(r"«([^»]+)»", path, line) for line in lines]
-
-
-def answered(need, arguments, lines):
-    """a need's clause with its answer"""
+def answered(goal, arguments, lines):
+    """a goal's clause with its answer"""
+    lines = [re.sub(r"(?<!\.)«([^»]+)»", r"c.\1", line) for line in lines]
     above = []
     if lines[0].startswith("unfolding"):
         above, lines = lines[:1], lines[1:]
     if len(lines) == 1:
-        return above + [f"{need}{arguments} = {lines[0].strip()}"]
-    return above + [f"{need}{arguments} ="] + ["    " + line for line in lines]
+        return above + [f"{goal}{arguments} = {lines[0].strip()}"]
+    return above + [f"{goal}{arguments} ="] + ["    " + line for line in lines]
 
 
 def fill(crate, fn, text):
-    known = paths_of(crate, fn)
     uses, answers = read_answers(text)
-    body = re.sub(r"(?m) =\n +(\?|search needs)$", r" = \1", skeleton(crate, fn, known)).split("\n")
-    heads = 0
-    while heads < len(body) and (body[heads].startswith("use ") or body[heads].strip() == ""):
-        heads += 1
-    uses += [line for line in body[:heads] if line.strip() and line not in uses]
-    if not any("borrow.Author.Needs" in line for line in uses):
-        uses.insert(0, "use borrow.Author.Needs.{needs}")
-    out = uses + [""]
-    used = {"@"}
-    helpers = answers["@"] + [""] if "@" in answers else []
-    for line in body[heads:]:
-        if ": tie.Need-" in line:
-            place = len(out) - 1 if out[-1].startswith("--") else len(out)
-            out[place:place] = helpers
-            helpers = []
-        clause = re.match(r"(\S+)( .*)? = (\?|search needs)$", line)
-        if not clause:
-            out.append(line)
-            continue
-        need, arguments = clause.group(1), clause.group(2) or ""
-        if need in answers:
-            used.add(need)
-            out += answered(need, arguments, with_paths(fn, need, answers[need], known.get(need, {})))
-        else:
-            out.append(f"{need}{arguments} = search needs")
-    for need in answers:
-        if need not in used:
-            print(fn, "UNUSED", need)
-    with open(f"crates/{crate}/proofs/{fn}/Proof.antt", "w") as f:
-        f.write("\n".join(out).rstrip() + "\n")
+    parts = re.split(r"\n{2,}", skeleton(crate, fn).strip())
+    uses += [line for line in parts[0].split("\n") if line not in uses]
+    out, helpers, used = ["\n".join(uses)], answers.get("@"), {"@"}
+    for part in parts[1:]:
+        clause = CLAUSE.search(part)
+        if clause:
+            goal = clause.group(1)
+            if goal not in answers:
+                continue
+            used.add(goal)
+            part = part[: clause.start()] + "\n".join(answered(goal, clause.group(2) or "", answers[goal]))
+        if helpers and goals_of(part):
+            out.append("\n".join(helpers))
+            helpers = None
+        out.append(part)
+    for goal in answers:
+        if goal not in used:
+            print(fn, "UNUSED", goal)
+    with open(f"crates/{crate}/proofs/{fn}/Answers.antt", "w", encoding="utf-8") as f:
+        f.write("\n\n".join(out) + "\n")
 
 
 def main():

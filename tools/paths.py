@@ -1,78 +1,49 @@
 #!/usr/bin/env python3
-"""paths.py: lists what a function's proof can cite at each need, and how many `.before` back from c it stands. From the repository's root:
+"""paths.py: lists what a function's proof can cite at each goal that is open. From the repository's root:
 
-    rt dev CRATE --generated target/gen
-    python3 tools/paths.py CRATE FN [NEED..]
+    python3 tools/paths.py CRATE FN [GOAL..]
 
-CRATE and FN are names as in crates/CRATE/proofs/FN; a NEED is named as in the proof's `tie.Need-NAME`, and without one all are listed. A line is
+CRATE and FN are names as in crates/CRATE/proofs/FN; a GOAL is named as in `goal.GOAL` there, and without one all are listed. A goal is open where its
+answer is `?`, as `rt check --start FN --allow-holes` writes it in the crate's folder. A line is
 
-    N  .thing [its fields]
+    place: .thing .thing {.its fields} ..
 
-so that the thing is c, then N times `.before`, then `.thing`."""
+so that what can be cited is `c.place.thing`; the place `c` itself has `c.thing`. Nothing is written; the names are those that `rt check` prints."""
 import re
+import subprocess
 import sys
 
 
-def indent(line):
-    return len(line) - len(line.lstrip())
-
-
-def fields_after(lines, i):
-    """the fields of the record whose head is line i, as (name, type), and the line behind it"""
-    depth, fields = indent(lines[i]), []
-    i += 1
-    while i < len(lines) and (lines[i].strip() == "" or indent(lines[i]) > depth):
-        field = re.match(r" +pub (\S+) : (.*)", lines[i])
-        if field and indent(lines[i]) == depth + 2:
-            fields.append(field.groups())
-        i += 1
-    return fields, i
-
-
 def load(crate, fn):
-    """of the generated Lts.antt: each record's fields, and each need's record"""
-    with open(f"target/gen/Rattle·{crate}·proofs/proofs/{fn}/Lts.antt") as f:
-        lines = f.read().split("\n")
-    records, needs, i = {}, {}, 0
-    while i < len(lines):
-        head = re.match(r" +pub record (\S+) ?.*: Type 0 where", lines[i])
-        if head:
-            records[head.group(1)], i = fields_after(lines, i)
-            continue
-        need = re.match(r" +Need-(\S+) =", lines[i])
-        if need:
-            place = re.search(r"\(c : (\S+?)\)", " ".join(lines[i : i + 4]))
-            if place:
-                needs[need.group(1)] = place.group(1)
-        i += 1
-    return records, needs
-
-
-def places(records, record):
-    """the things of a place and of those before it: how many back, name, type"""
-    back = 0
-    while record in records:
-        before = None
-        for name, kind in records[record]:
-            if name == "before":
-                before = kind.split()[0]
-            else:
-                yield back, name, kind
-        if before is None:
-            return
-        record, back = before, back + 1
+    """each open goal's places, as (place, what stands there), by what `rt check` says"""
+    said = subprocess.run(["rt", "check", "--only", fn, "--allow-holes"], cwd=f"crates/{crate}", stdout=subprocess.PIPE, stderr=subprocess.STDOUT, text=True).stdout
+    goals, places, listing = {}, None, False
+    for line in said.split("\n"):
+        goal = re.match(r"\S*proofs/(\S+)/Answers\.antt:\d+:\d+: goal \S+ in `(\S+)`", line)
+        if goal:
+            places = goals.setdefault(goal.group(2), []) if goal.group(1) == fn else None
+        elif line.startswith("  names you can use"):
+            listing = True
+        elif listing and line.startswith("    "):
+            place = re.match(r"    (c(?:\.\S+)?): (.*)", line)
+            if place and places is not None:
+                places.append((place.group(1).removeprefix("c."), place.group(2)))
+        else:
+            listing = False
+    return goals, said
 
 
 def main():
-    crate, fn, wanted = sys.argv[1], sys.argv[2], [w.removeprefix("Need-") for w in sys.argv[3:]]
-    records, needs = load(crate, fn)
-    for need, record in needs.items():
-        if wanted and need not in wanted:
+    crate, fn, wanted = sys.argv[1], sys.argv[2], sys.argv[3:]
+    goals, said = load(crate, fn)
+    if not goals:
+        sys.exit("no goal of it is open; rt check says:\n" + "\n".join(line for line in said.strip().split("\n")[-5:]))
+    for goal, places in goals.items():
+        if wanted and goal not in wanted:
             continue
-        print(f"{need}: c : {record}")
-        for back, name, kind in places(records, record):
-            own = [f for f, _ in records.get(kind.split()[0], [])]
-            print(f"   {back:3d}  .{name} {own if own else kind[:60]}")
+        print(f"{goal}:")
+        for place, things in places:
+            print(f"    {place}: {things}")
 
 
 if __name__ == "__main__":

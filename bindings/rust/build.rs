@@ -39,7 +39,7 @@ fn archive() -> Result<PathBuf, String> {
     match path.is_file() {
         true => Ok(path),
         false => Err(
-            "the proved library is not there: run 'rt staticlib jadmirus' in the repository's \
+            "the proved library is not there: run 'tools/staticlib' in the repository's \
              root, which writes target/staticlib/libjadmirus.a, or name an archive with \
              JADMIRUS_LIB"
                 .to_string(),

@@ -1,4 +1,5 @@
 // The joiner, the time order, the converter, the two calls on the alive set, and a column's least and greatest value for callers in C or Rust: a run of numbers is handed over as a pointer and its length.
+// Those callers link the static library of `jadmirus_c`, whose exports, of the same names, call these; a library exports nothing itself.
 #![tactic(auto)]
 
 ghost use Rattle.std.specs.Prelude.{◌≡◌, [], ◌∷◌, length};
