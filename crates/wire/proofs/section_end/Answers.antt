@@ -9,20 +9,20 @@ returns-then-words-at c =
 
 pub returns-then-most-n : goal.returns-then-most-n
 returns-then-most-n c =
-    let q = (div-lt_iff_lt-mul {k = c.args.size} c.requires).0 c.if-most-n.true in
+    let short = (div-lt_iff_lt-mul {k = c.args.size} c.requires).0 c.if-most-n.true in
     laws.end_short _ _ _ c.if-words-at.false (omega arith)
 
 pub overflow_mul-result : goal.overflow_mul-result
 overflow_mul-result c =
-    let q = (le-div_iff_mul-le {k = c.args.size} c.requires).0 c.if-most-n.false in
+    let product = (le-div_iff_mul-le {k = c.args.size} c.requires).0 c.if-most-n.false in
     omega (arith)
 
 pub overflow_add-result-2 : goal.overflow_add-result-2
 overflow_add-result-2 c =
-    let q = (le-div_iff_mul-le {k = c.args.size} c.requires).0 c.if-most-n.false in
+    let sum = (le-div_iff_mul-le {k = c.args.size} c.requires).0 c.if-most-n.false in
     omega (arith)
 
 pub returns : goal.returns
 returns c =
-    let q = (le-div_iff_mul-le {k = c.args.size} c.requires).0 c.if-most-n.false in
+    let whole = (le-div_iff_mul-le {k = c.args.size} c.requires).0 c.if-most-n.false in
     laws.end_whole _ _ _ c.if-words-at.false (omega arith)
