@@ -15,6 +15,7 @@ use borrow.Author.Tests.{eq-eqb, ne_eqb, eqb-true, eqb-false}
 use Rattle.definitions.specs.Lists.{count, up_from, up_to, elem, all, ascending, ascending_from, sum}
 use Rattle.definitions.specs.Row.{rank, bit_at}
 use Rattle.definitions.proofs.Lists.{length-up_from}
+use Rattle.definitions.proofs.Ranks.{asc_tail, asc-at, asc-sorted, elem-above, asc_step}
 use Rattle.lists.specs.Sums.{sum_below}
 use Rattle.lists.proofs.Sums.{sums_are, below_mono}
 use Rattle.lists.proofs.Lists.{all-at}
@@ -22,8 +23,8 @@ use Rattle.lists.proofs.Numbers.{same?}
 use Rattle.lists.proofs.Parts.{run_length}
 use Rattle.runs.proofs.Laws.{shifted-length}
 use Rattle.column_index.specs.Lookup.{rank_in, is_in, width_of, Ranked}
-use Rattle.column_index.proofs.Laws.{asc_tail, asc-at, asc-sorted, elem-above, three_le, rank_most, above-rank, listed-at}
-use Rattle.column_index.proofs.Sound.{asc_step, asc_fall, fall_last}
+use Rattle.column_index.proofs.Laws.{three_le, rank_most, above-rank, listed-at}
+use Rattle.column_index.proofs.Sound.{asc_fall, fall_last}
 use Rattle.stands.specs.declared.Stand.{Stand}
 use Rattle.stands.specs.Stand.{many, stand_of, stand_at}
 use Rattle.stands.specs.Width.{id_part, ids_of}

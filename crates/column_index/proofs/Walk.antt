@@ -18,9 +18,10 @@ use Rattle.definitions.proofs.Fit.{rank_lt, not_old, fit_lists}
 use Rattle.segment.specs.Kind.{by_index}
 use Rattle.segment.proofs.Kind.{by_index_lem, index_multi}
 use Rattle.column_index.specs.Lookup.{rank_in, is_in, start_of, end_of, width_of, Readable, Sound}
-use Rattle.column_index.proofs.Sound.{earlier_of, cell_earlier, width_earlier, earlier_zero, earlier_end, earlier_le, earlier_step, asc_fall, rank-suc}
+use Rattle.column_index.proofs.Sound.{earlier_of, cell_earlier, width_earlier, earlier_zero, earlier_end, earlier_le, earlier_step, asc_fall}
 use Rattle.definitions.proofs.Lists.{and3, and4, map_mem}
 use Rattle.definitions.proofs.Slices.{walk_slices, fall_step, first-zero}
+use Rattle.definitions.proofs.Ranks.{rank-suc}
 use Rattle.lists.proofs.Lists.{none_is}
 
 -- ---- values and widths

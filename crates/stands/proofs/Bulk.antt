@@ -17,7 +17,6 @@ use Rattle.runs.specs.Put.{put, shifted, Below}
 use Rattle.runs.proofs.Laws.{shifted-length, shifted_at}
 use Rattle.column_index.specs.Lookup.{width_of, Sound}
 use Rattle.column_index.proofs.Laws.{three_le}
-use Rattle.column_index.proofs.Sound.{asc_step}
 use Rattle.column_index.proofs.Walk.{walk_widths}
 use Rattle.stands.specs.Width.{ids_of, totals_of}
 use Rattle.stands.specs.declared.Stand.{Stand}
@@ -28,6 +27,7 @@ use Rattle.stands.proofs.Stack.{width-empty, width-full, width-none, width-optio
 use Rattle.lists.proofs.Sums.{sum-append}
 use Rattle.definitions.proofs.Lists.{up_length}
 use Rattle.definitions.proofs.Decode.{rank-zero}
+use Rattle.definitions.proofs.Ranks.{asc_step}
 use Rattle.lists.proofs.Parts.{drop-take, run_length}
 use Rattle.lists.proofs.Lists.{all-at}
 

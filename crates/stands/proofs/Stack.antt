@@ -12,10 +12,10 @@ use lib.Dec.{T, ltb}
 use Rattle.definitions.specs.Lists.{elem, all, ascending, up_from, sum}
 use Rattle.definitions.specs.Row.{rank}
 use Rattle.definitions.proofs.Fit.{rank_lt}
+use Rattle.definitions.proofs.Ranks.{found, asc_step, rank-all, rank-suc}
 use Rattle.runs.specs.Put.{shifted}
 use Rattle.column_index.specs.Lookup.{rank_in, is_in, start_of, end_of, width_of}
-use Rattle.column_index.proofs.Laws.{found, range_empty, range_full, range_none, range_optional, range_multi}
-use Rattle.column_index.proofs.Sound.{asc_step, rank-all, rank-suc}
+use Rattle.column_index.proofs.Laws.{range_empty, range_full, range_none, range_optional, range_multi}
 use Rattle.stands.specs.Width.{ids_of, totals_of}
 
 -- ---- one row's width

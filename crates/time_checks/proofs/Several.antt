@@ -10,11 +10,12 @@ use Rattle.definitions.proofs.Fit.{rank_lt, fit_lists}
 use Rattle.segment.specs.Kind.{by_index}
 use Rattle.segment.proofs.Kind.{index_multi}
 use Rattle.column_index.specs.Lookup.{rank_in, Sound}
-use Rattle.column_index.proofs.Laws.{asc_tail, asc-at, asc-sorted, counted, row-slice}
-use Rattle.column_index.proofs.Sound.{earlier_of, cell_earlier, earlier_le, rank-suc}
+use Rattle.column_index.proofs.Laws.{counted, row-slice}
+use Rattle.column_index.proofs.Sound.{earlier_of, cell_earlier, earlier_le}
 use Rattle.column_index.proofs.Walk.{fits-sound}
 use Rattle.time_checks.specs.Times.{singles_from, singles}
 use Rattle.definitions.proofs.Lists.{and3, mem_up_to, any_mem, any_none, up_from-below}
+use Rattle.definitions.proofs.Ranks.{asc_tail, asc-at, asc-sorted, rank-suc}
 use Rattle.lists.proofs.Tests.{both_true}
 use Rattle.lists.proofs.Lists.{all-at, none_is}
 

@@ -14,11 +14,12 @@ use Rattle.segment.specs.Kind.{by_index}
 use Rattle.definitions.specs.Row.{rank, bit_at}
 use Rattle.definitions.specs.TimeOrder.{time_of}
 use Rattle.column_index.specs.Lookup.{rank_in}
-use Rattle.column_index.proofs.Laws.{asc-sorted, counted, below-rank}
+use Rattle.column_index.proofs.Laws.{counted, below-rank}
 use Rattle.column_index.proofs.Sound.{earlier_of}
 use Rattle.time_cursors.specs.Cursors.{seek, alive_bit, next_row, times_before, last_key, key_cursor, time_kind}
 use lib.Arith.{lt_of_le-ne}
 use Rattle.definitions.proofs.Decode.{rank-zero as none_below}
+use Rattle.definitions.proofs.Ranks.{asc-sorted}
 
 -- ---- the search
 

@@ -11,12 +11,12 @@ use lib.Dec.{ltb, ltb→lt}
 use borrow.Author.Tests.{eq-eqb, ne_eqb, lt-ltb, le-ltb}
 use Rattle.definitions.specs.TimeOrder.{time_of}
 use Rattle.definitions.specs.Row.{rank}
+use Rattle.definitions.proofs.Ranks.{rank-all}
 use Rattle.lists.proofs.Numbers.{le-lt}
 use Rattle.lists.proofs.Lists.{all-at}
 use Rattle.segment.specs.Kind.{by_index}
 use Rattle.segment.proofs.Kind.{index_multi}
 use Rattle.column_index.specs.Lookup.{rank_in, Sound}
-use Rattle.column_index.proofs.Sound.{rank-all}
 use Rattle.time_checks.proofs.Several.{rank-at, rank_past}
 use Rattle.time_cursors.specs.Cursors.{times_before, time_kind, TimesAt, Left}
 use Rattle.time_cursors.proofs.Laws.{rank_grows, by-ids, times-listed}

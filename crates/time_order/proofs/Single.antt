@@ -10,11 +10,12 @@ use lib.Dec.{T, eqb, ltb, ltb→lt}
 use Rattle.definitions.specs.Lists.{all, elem}
 use Rattle.definitions.specs.Row.{rank}
 use Rattle.definitions.proofs.Fit.{rank_lt}
+use Rattle.definitions.proofs.Ranks.{rank-all}
 use Rattle.lists.proofs.Lists.{all-at}
 use Rattle.segment.specs.Kind.{by_index}
 use Rattle.segment.proofs.Kind.{index_multi}
 use Rattle.column_index.specs.Lookup.{rank_in, is_in, start_of, end_of, Sound}
-use Rattle.column_index.proofs.Sound.{earlier_of, earlier_end, rank-all}
+use Rattle.column_index.proofs.Sound.{earlier_of, earlier_end}
 use Rattle.time_checks.proofs.Several.{asc_strict, rank-at, rank_past}
 use Rattle.time_cursors.specs.Cursors.{time_kind}
 use Rattle.time_cursors.proofs.Laws.{by_time_kind}

@@ -1,7 +1,7 @@
 -- The answer up to check 9: what gives it, and what it says of the whole answer. Assumes nothing.
 use mathlib.Core.Path.{◌≡◌, refl, sym, ap, ◌∙◌}
 use mathlib.Core.Bool.{Bool, true, false, not}
-use mathlib.Core.List.{List}
+use mathlib.Core.List.{List, []}
 use Prim.Native.Nat.{ℕ, ◌≤◌, ◌<◌}
 use native.Mathlib.Omega.{arith}
 use lib.ListN.{length}
@@ -11,7 +11,7 @@ use Rattle.definitions.specs.Answer.{total, codes_wrong, alive_wrong, working_to
 use Rattle.definitions.proofs.Accept.{plain-passed}
 use Rattle.definitions.proofs.Checks.{first_stays, first-passed, all-passed}
 use Rattle.segment.specs.Lent.{working_only}
-use Rattle.sections_fit.proofs.Seven.{ready}
+use Rattle.sections_fit.proofs.Seven.{seven_same, ready}
 use Rattle.merge_mapping.specs.Mapping.{rows_in, addresses_right, room_enough}
 use Rattle.merge_mapping.proofs.Own.{input-room, input-addresses, room-both}
 use Rattle.verdict.specs.Nine.{checks_to_nine, answer_to_nine}
@@ -19,6 +19,13 @@ use Rattle.verdict.specs.Nine.{checks_to_nine, answer_to_nine}
 -- ---- what gives it
 
 module _ (i : Input) where
+  -- the checks up to 7 look at no address and at no working byte
+  pub nine-seven : {n : ℕ} → n ≡ first_of (checks_to_seven (record i { addresses = []; space = working_only 0 })) → n ≡ first_of (checks_to_seven i)
+  nine-seven e = e ∙ ap first_of (seven_same i.mode i.required i.records i.sections [] i.addresses (working_only 0) i.space)
+
+  pub nine-passed : {n : ℕ} → n ≡ first_of (checks_to_seven (record i { addresses = []; space = working_only 0 })) → n ≡ 0 → Passed (checks_to_seven i)
+  nine-passed e z = (all-passed (checks_to_seven i) 0 tt (sym (nine-seven e) ∙ z)).0
+
   pub nine-first : {n : ℕ} → n ≡ first_of (checks_to_seven i) → (n ≡ 0 → ⊥) → n ≡ answer_to_nine i
   unfolding answer_to_nine
   nine-first e h = e ∙ first_stays (checks_to_seven i) (first_of (order_checks i)) (λ z. h (e ∙ z))

@@ -1,8 +1,9 @@
 use borrow.Author.Rules.{rules}
 use native.Mathlib.Omega.{arith}
 use Prim.Native.Nat.{◌+◌, ◌-◌, ◌/◌}
-use Rattle.column_index.proofs.Laws.{counted, asc-sorted, below-rank, rank-fits}
+use Rattle.column_index.proofs.Laws.{counted, below-rank, rank-fits}
 use Rattle.column_index.proofs.rank_above.Goals as goal
+use Rattle.definitions.proofs.Ranks.{asc-sorted}
 
 pub loop-from-init : goal.loop-from-init
 loop-from-init c =
