@@ -6,6 +6,10 @@ ghost use Rattle.definitions.specs.Lists.{all_below};
 ghost use Rattle.definitions.specs.Segment.{record_width, narrow_numbers, alive_words, record_words};
 ghost use Rattle.segment.specs.Records.{whole, low_half, high_half, row_of, record_row, struct_of, record_in};
 
+mod sections;
+
+pub use sections::Sections;
+
 // `alive` is the number of alive rows: the set bits, or the rows where the flag is 0. `least` and `greatest` are those of all stored values of I64, which is signed, and U64, else
 // 0 and 0.
 #[derive(Clone, Copy)]
