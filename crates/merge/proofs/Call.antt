@@ -11,7 +11,7 @@ use Rattle.runs.proofs.Zeros.{zero_again}
 use Rattle.std.specs.Prelude.{Result, Err}
 use Rattle.refusal.specs.declared.Refusal.{Refusal}
 use Rattle.refusal.specs.Number.{number_of}
-use Rattle.refusal.proofs.Number.{number-nonzero}
+use Rattle.refusal.proofs.Number.{number_not-zero}
 use Rattle.merge_checked.specs.Call.{AfterNine, outcome_of, buffers_of}
 use Rattle.merge_checked.proofs.Leaves.{left-refused, early}
 
@@ -27,7 +27,7 @@ module _ (mode required : ℕ) (records : List (List ℕ)) (ids offsets values l
     unfolding refused_buffers
     first-end k e =
         (λ j. record { answer = refused (number_of k); buffers = buffers_of outIds outOffsets outValues lens outs ords (z j) })
-        ∙ left-refused (lent work) (number_of k) (early mode required records ids offsets values lengths bytes words addresses (buffers_of outIds outOffsets outValues lens outs ords work) (number_of k) e (number-nonzero k)) (number-nonzero k)
+        ∙ left-refused (lent work) (number_of k) (early mode required records ids offsets values lengths bytes words addresses (buffers_of outIds outOffsets outValues lens outs ords work) (number_of k) e (number_not-zero k)) (number_not-zero k)
 
     long : length work' ≡ length work
     long = ap length z ∙ length-replicate (length work) 0

@@ -15,7 +15,7 @@ use Rattle.segment.proofs.Walk.{records-long}
 use Rattle.merge_mapping.specs.Mapping.{rows_in}
 use Rattle.merge_mapping.proofs.Own.{input-within}
 use Rattle.std.proofs.lemmas.Result.{err_from_is_err_and}
-use Rattle.refusal.proofs.Number.{number-nonzero}
+use Rattle.refusal.proofs.Number.{number_not-zero}
 use Rattle.verdict.proofs.Answer.{nine-seven, nine-passed, nine-first, nine-room, nine_eight, nine-nine, nine-none, room-rows}
 use Rattle.verdict.proofs.verdict.Goals as goal
 
@@ -24,7 +24,7 @@ use Rattle.verdict.proofs.verdict.Goals as goal
 pub returns-in_err-first_to_seven-clause-value : goal.returns-in_err-first_to_seven-clause-value
 returns-in_err-first_to_seven-clause-value c =
     let e = err_from_is_err_and c.from_residual.result c.from_residual.ensures.1 in
-    rw (e.1, e.2) (nine-first _ (nine-seven (input_in c.args.mode c.args.required c.args.records.now c.args.sections.now c.args.addresses.now (length c.args.work.now)) c.in_err-first_to_seven.ensures) (number-nonzero _))
+    rw (e.1, e.2) (nine-first _ (nine-seven (input_in c.args.mode c.args.required c.args.records.now c.args.sections.now c.args.addresses.now (length c.args.work.now)) c.in_err-first_to_seven.ensures) (number_not-zero _))
 
 pub totals_of-t-requires : goal.totals_of-t-requires
 totals_of-t-requires c =
