@@ -147,7 +147,7 @@ pub extern "C" fn jadmirus_convert(
     ensures out_offsets_after { out_offsets.new ≡ (convert_outcome (lent_convert (row_record «record».now) ids.now offsets.now values.now lengths.now bytes.now alive.now (length out_ids.old) (length out_offsets.old)) out_ids.old out_offsets.old).offsets }
     ensures out_record_after { out_record.new ≡ record_after (convert_outcome (lent_convert (row_record «record».now) ids.now offsets.now values.now lengths.now bytes.now alive.now (length out_ids.old) (length out_offsets.old)) out_ids.old out_offsets.old).answer out_record.old }
 {
-    let r = segment::record_of(*record);
+    let r = segment::Record::from(*record);
     let a = convert::convert(
         r,
         ids,
@@ -162,7 +162,7 @@ pub extern "C" fn jadmirus_convert(
     match a {
         convert::ConvertAnswer::Refused(k) => k,
         convert::ConvertAnswer::Converted(n) => {
-            *out_record = segment::numbers_of(n);
+            *out_record = n.into();
             0
         }
     }
