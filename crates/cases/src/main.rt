@@ -293,7 +293,7 @@ fn mark_case(
         let mut record = records[0];
         let a = mark(entry, &mut record, alive, &rows[..n]);
         put_marked(a);
-        put_record(b"  record", segment::record_of(record));
+        put_record(b"  record", segment::Record::from(record));
         case_lines::end_line();
         case_lines::put_words(b"  alive", alive);
     }

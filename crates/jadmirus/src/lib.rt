@@ -157,11 +157,11 @@ pub extern "C" fn jadmirus_convert(
         bytes,
         alive,
     };
-    let r = segment::record_of(*record);
+    let r = segment::Record::from(*record);
     match convert::convert(r, &sections, out_ids, out_offsets) {
         Err(refusal) => u32::from(refusal),
         Ok(n) => {
-            *out_record = segment::numbers_of(n);
+            *out_record = n.into();
             0
         }
     }

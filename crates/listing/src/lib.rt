@@ -13,8 +13,7 @@ fn put_bytes(vs: &[u8], out: &mut [u8], at: usize) -> usize
     ensures value { result ≡ at + length vs.now }
     ensures out_after { out.new ≡ put at vs.now out.old }
 {
-    runs::append_bytes(vs, out, at);
-    at + vs.len()
+    at + runs::append(vs, out, at)
 }
 
 fn put_byte(b: u8, out: &mut [u8], at: usize) -> usize

@@ -58,7 +58,7 @@ fn copy_term(term: &[u8], out: &mut [u8], at: usize, copied: usize) -> usize
     ensures value { result ≡ copied + length term.now }
     ensures out_after { out.new ≡ put at term.now out.old }
 {
-    let n = runs::append_bytes(term, out, at);
+    let n = runs::append(term, out, at);
     copied + n
 }
 

@@ -118,10 +118,10 @@ fn mark(
     ensures words_after { outcome_of result «record».new words.new ≡ mark_outcome (marking_of alive rows.now) (lent_set «record».old words.old) }
     ensures record_after { «record».new ≡ record_left (mark_outcome (marking_of alive rows.now) (lent_set «record».old words.old)) «record».old }
 {
-    let r = segment::record_of(*record);
+    let r = segment::Record::from(*record);
     first_wrong(r, words, rows)?;
     let q = mark_all(alive, r, words, rows);
-    *record = segment::numbers_of(q);
+    *record = q.into();
     Ok(changes(alive, r, q.alive))
 }
 

@@ -7,11 +7,11 @@ use Rattle.column_values_merge.proofs.append_coerced.Goals as goal
 
 pub returns-then-u-ne2 : goal.returns-then-u-ne2
 returns-then-u-ne2 c =
-    c.append.ensures ∙ ap (λ (l : List ℕ). put c.args.at l c.args.out.now) (coerced-other _ _ _ c.if-u-ne2.true)
+    c.append.ensures.out_after ∙ ap (λ (l : List ℕ). put c.args.at l c.args.out.now) (coerced-other _ _ _ c.if-u-ne2.true)
 
 pub returns-then-t-eq2 : goal.returns-then-t-eq2
 returns-then-t-eq2 c =
-    c.append-then-t-eq2.ensures ∙ ap (λ (l : List ℕ). put c.args.at l c.args.out.now) (coerced_double _ _ _ c.if-u-ne2.false c.if-t-eq2.true)
+    c.append-then-t-eq2.ensures.out_after ∙ ap (λ (l : List ℕ). put c.args.at l c.args.out.now) (coerced_double _ _ _ c.if-u-ne2.false c.if-t-eq2.true)
 
 pub returns : goal.returns
 returns c =

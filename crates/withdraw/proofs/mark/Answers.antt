@@ -5,7 +5,7 @@ use Rattle.withdraw.proofs.mark.Goals as goal
 pub returns-in_err-first_wrong : goal.returns-in_err-first_wrong
 returns-in_err-first_wrong c =
     let p = err_from_is_err_and c.from_residual.result c.from_residual.ensures.1 in
-    let told = refuses c.args.«record».now _ _ c.args.alive c.record_of-r.ensures _ c.in_err-first_wrong.ensures in
+    let told = refuses c.args.«record».now _ _ c.args.alive c.from-r.ensures _ c.in_err-first_wrong.ensures in
     rw (p.1, p.2) (record { words_after = told.0; record_after = told.1 })
 
 pub mark_all-q-requires : goal.mark_all-q-requires
@@ -14,5 +14,5 @@ mark_all-q-requires c =
 
 pub returns : goal.returns
 returns c =
-    let told = changes_are c.args.«record».now _ _ _ c.record_of-r.ensures c.in_ok-first_wrong.ensures c.mark_all-q.ensures c.numbers_of.ensures c.changes.ensures in
+    let told = changes_are c.args.«record».now _ _ _ c.from-r.ensures c.in_ok-first_wrong.ensures c.mark_all-q.ensures c.into.ensures c.changes.ensures in
     record { words_after = told.0; record_after = told.1 }
