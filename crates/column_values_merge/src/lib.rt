@@ -8,6 +8,8 @@ ghost use Rattle.stands.specs.Look.{words_of};
 ghost use Rattle.column_values_merge.specs.Word.{doubles, coerced_all, words_by, Words, new_words, Worded};
 ghost use Rattle.column_values_merge.specs.Stack.{stacked_words, AllWorded};
 
+use std::ops::Range;
+
 use stands::{Span, Stand, StandNumbers};
 
 // Writes the double nearest to each integer of type t.
@@ -89,7 +91,7 @@ fn put_word(to: u32, typ: usize, part: Span, word: u64, map: &[u32], out: &mut [
 pub fn append_row(
     to: u32,
     p: Stand,
-    g: column_index::Range,
+    g: Range<usize>,
     values: &[u64],
     map: &[u32],
     out: &mut [u64],

@@ -6,10 +6,12 @@ ghost use Rattle.std.proofs.Math.Seq.{slice};
 ghost use Rattle.runs.specs.Put.{Below};
 ghost use Rattle.term_marks.specs.Marks.{set_all, used_by, used_from, used_in, marks_over, marked_all, Lying, Marking, MarkingAt, Usable, Columns};
 
+use std::ops::Range;
+
 use stands::{Stand, StandNumbers};
 
 // Marks the ordinals at a range of the segment's values.
-fn mark_values(at: column_index::Range, values: &[u64], marks: &mut [u8])
+fn mark_values(at: Range<usize>, values: &[u64], marks: &mut [u8])
     requires end_in_bounds { at.end ≤ length values.now }
     requires below { Below (length marks.old) values.now }
     ensures { marks.new ≡ set_all (slice at.start at.end values.now) marks.old }

@@ -15,14 +15,7 @@ use refusal::Refusal;
 fn rows_there(rows: &[u32], n: u32) -> bool
     ensures { result ≡ all_below n rows.now }
 {
-    let mut j: usize = 0;
-    while j < rows.len() {
-        if n <= rows[j] {
-            return false;
-        }
-        j += 1;
-    }
-    true
+    rows.iter().all(|&row| row < n)
 }
 
 // The first check that fails is the refusal. 6 reads all words; 15 comes before 16.
@@ -55,20 +48,22 @@ fn mark_row(alive: bool, r: segment::Record, words: &mut [u64], row: usize) -> s
     requires row_lt_rows { row < r.rows }
     ensures { set_by result words.new ≡ marked_row alive (set_by r words.old) row }
 {
-    let mut q = r;
-    if alive_set::is_alive(words, row) {
-        if alive {
-            return q;
-        }
-        alive_set::clear_alive(words, row);
-        q.alive = r.alive - 1;
-        return q;
+    if alive_set::is_alive(words, row) == alive {
+        return r;
     }
     if alive {
         alive_set::set_alive(words, row);
-        q.alive = r.alive + 1;
+        segment::Record {
+            alive: r.alive + 1,
+            ..r
+        }
+    } else {
+        alive_set::clear_alive(words, row);
+        segment::Record {
+            alive: r.alive - 1,
+            ..r
+        }
     }
-    q
 }
 
 // Row after row.
@@ -78,22 +73,10 @@ fn mark_all(alive: bool, r: segment::Record, words: &mut [u64], rows: &[u32]) ->
     ensures { set_by result words.new ≡ marked_rows alive (set_by r words.old) rows.now }
 {
     let mut q = r;
-    let mut j: usize = 0;
-    while j < rows.len() {
-        q = mark_row(alive, q, words, segment::wide(rows[j]));
-        j += 1;
+    for &row in rows {
+        q = mark_row(alive, q, words, row as usize);
     }
     q
-}
-
-// How much is left of a without b.
-fn less(a: u32, b: u32) -> u32
-    ensures { result ≡ a - b }
-{
-    if a < b {
-        return 0;
-    }
-    a - b
 }
 
 // How many rows changed, by the numbers of alive rows before and after.
@@ -101,9 +84,10 @@ fn changes(alive: bool, r: segment::Record, after: u32) -> u32
     ensures { result ≡ changes_to alive (set_by r []) after }
 {
     if alive {
-        return less(after, r.alive);
+        after.saturating_sub(r.alive)
+    } else {
+        r.alive.saturating_sub(after)
     }
-    less(r.alive, after)
 }
 
 // ---- the calls: how many rows changed, 0 where they were so already, or the first check that fails
