@@ -5,7 +5,7 @@ ghost use Rattle.std.specs.Prelude.{◌≡◌, [], ◌<◌, ◌≤◌, ◌+◌, 
 ghost use Rattle.runs.specs.Put.{put};
 ghost use Rattle.segment.specs.Records.{record_in};
 ghost use Rattle.stands.specs.Width.{id_part};
-ghost use Rattle.stands.specs.Stand.{table, stand_of, numbers_of, span, nowhere, next_stand, Low, Grown, stand_in};
+ghost use Rattle.stands.specs.Stand.{table, stand_of, numbers_of, many, span, nowhere, next_stand, Low, Grown, stand_in};
 ghost use Rattle.stands.specs.Look.{start_in, end_in, Within};
 
 // A run's first index, and the one after its last.
@@ -16,6 +16,14 @@ pub struct Span {
 }
 
 impl Span {
+    // How many elements that are.
+    pub fn len(self) -> usize
+        requires { self.from ≤ self.to }
+        ensures { result ≡ many self }
+    {
+        self.to - self.from
+    }
+
     // What stands there.
     pub fn of<'a, T>(self, list: &'a [T]) -> &'a [T]
         requires rises { self.from ≤ self.to }
