@@ -122,11 +122,10 @@ fn none_old(records: &[segment::RecordNumbers]) -> bool
 
 // ---- 4
 
-fn all_lists_fit(records: &[segment::RecordNumbers], ids: &[u32], offsets: &[u32]) -> bool
+fn all_lists_fit(records: &[segment::RecordNumbers], mut ids: &[u32], mut offsets: &[u32]) -> bool
     requires { HoldsLists (records_of records.now) ids.now offsets.now }
     ensures { result ≡ lists_from (records_of records.now) ids.now offsets.now }
 {
-    let (mut ids, mut offsets) = (ids, offsets);
     for &r in records {
         let r = segment::record_of(r);
         let (own_ids, other_ids) = ids.split_at(r.ids as usize);
@@ -144,14 +143,13 @@ fn all_lists_fit(records: &[segment::RecordNumbers], ids: &[u32], offsets: &[u32
 
 fn all_values_fit(
     records: &[segment::RecordNumbers],
-    values: &[u64],
-    lengths: &[u32],
-    bytes: &[u8],
+    mut values: &[u64],
+    mut lengths: &[u32],
+    mut bytes: &[u8],
 ) -> bool
     requires { HoldsValues (records_of records.now) values.now lengths.now bytes.now }
     ensures { result ≡ values_from (records_of records.now) values.now lengths.now bytes.now }
 {
-    let (mut values, mut lengths, mut bytes) = (values, lengths, bytes);
     for &r in records {
         let r = segment::record_of(r);
         let (own_values, other_values) = values.split_at(segment::value_words(r));
@@ -169,11 +167,10 @@ fn all_values_fit(
 
 // ---- 6
 
-fn all_alive_fit(mode: u32, records: &[segment::RecordNumbers], alive: &[u64]) -> bool
+fn all_alive_fit(mode: u32, records: &[segment::RecordNumbers], mut alive: &[u64]) -> bool
     requires { total alive_words (records_of records.now) ≤ length alive.now }
     ensures { result ≡ alive_fits_from mode (records_of records.now) alive.now }
 {
-    let mut alive = alive;
     for &r in records {
         let r = segment::record_of(r);
         let (own, others) = alive.split_at(segment::alive_words(r));
