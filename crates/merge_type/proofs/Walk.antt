@@ -16,26 +16,6 @@ use Rattle.stands.specs.Stand.{stand_at}
 use Rattle.stands.specs.Look.{pair_at}
 use Rattle.merge_type.specs.Parts.{is_part, Coded, column_of, held_at, held_in, seen_with, becomes, all_become}
 
--- ---- one column: b is whether it is held, t its type, x its pair, as the code found
-
-module _ (p : Stand) {b : Bool} (e : b ≡ is_part p) where
-  pub seen_out : (seen : Compatible) → not b ≡ true → seen ≡ seen_with seen p
-  unfolding seen_with
-  seen_out seen k = rw (← e, not-true b k)
-
-  pub becomes_out : (u : ℕ) → not b ≡ true → true ≡ becomes u p
-  unfolding becomes
-  becomes_out u k = rw (← e, not-true b k)
-
-  module _ {t : ℕ} {x : Pair} (k : not b ≡ false) (d : t ≡ p.typ) (f : x ≡ pair_at p) where
-    pub seen-in : (seen : Compatible) {y : Compatible} → y ≡ accepted seen t x → y ≡ seen_with seen p
-    unfolding seen_with
-    seen-in seen q = q ∙ rw (← e, not-false b k, d, f)
-
-    pub becomes_in : (u : ℕ) {y : Bool} → y ≡ is_coercible t u x → y ≡ becomes u p
-    unfolding becomes
-    becomes_in u q = q ∙ rw (← e, not-false b k, d, f)
-
 seen_cons : (seen : Compatible) (p : Stand) (hs : List Segment) → seen_from (seen_with seen p) hs ≡ seen_from seen (held_at p hs)
 unfolding seen_with
 seen_cons seen p hs = go (is_part p)
@@ -54,9 +34,6 @@ become_cons u p hs = go (is_part p)
 
 -- ---- a turn at the column s
 
-pub now_code : {stands : List (List ℕ)} → Coded stands → {s : ℕ} → s < length stands → {p : Stand} → p ≡ stand_at stands s → p.typ < 4294967296
-now_code l {s} h e = subst (λ (q : Stand). q.typ < 4294967296) (sym e) (l.each s h)
-
 module _ (stands : List (List ℕ)) {s : ℕ} (h : s < length stands) {p : Stand} (e : p ≡ stand_at stands s) where
   abbrev left : ℕ → List Segment
   left k = held_in (drop k stands)
@@ -68,15 +45,8 @@ module _ (stands : List (List ℕ)) {s : ℕ} (h : s < length stands) {p : Stand
   pub seen_next : (seen : Compatible) {seen' : Compatible} → seen' ≡ seen_with seen p → seen_from seen' (left (s + 1)) ≡ seen_from seen (left s)
   seen_next seen q = ap (λ (x : Compatible). seen_from x (left (s + 1))) q ∙ seen_cons seen p (left (s + 1)) ∙ ap (seen_from seen) (sym step)
 
-  module _ (u : ℕ) {b : Bool} (q : b ≡ becomes u p) where
-    become_step : all_become u (left s) ≡ b && all_become u (left (s + 1))
-    become_step = ap (all_become u) step ∙ become_cons u p (left (s + 1)) ∙ ap (λ (x : Bool). x && all_become u (left (s + 1))) (sym q)
-
-    pub become_stop : not b ≡ true → false ≡ all_become u (left s)
-    become_stop k = sym (become_step ∙ ap (λ (x : Bool). x && all_become u (left (s + 1))) (not-true b k))
-
-    pub become_next : not b ≡ false → all_become u (left (s + 1)) ≡ all_become u (left s)
-    become_next k = sym (become_step ∙ ap (λ (x : Bool). x && all_become u (left (s + 1))) (not-false b k))
+  pub become_step : (u : ℕ) → all_become u (left s) ≡ becomes u p && all_become u (left (s + 1))
+  become_step u = ap (all_become u) step ∙ become_cons u p (left (s + 1))
 
 module _ (stands : List (List ℕ)) (s : ℕ) (h : length stands ≤ s) where
   pub seen_end : (seen : Compatible) → seen ≡ seen_from seen (held_in (drop s stands))

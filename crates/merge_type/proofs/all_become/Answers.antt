@@ -1,27 +1,16 @@
-use mathlib.Core.Path.{refl, ◌∙◌}
-use Prim.Native.Nat.{zero-le}
-use borrow.Author.Rules.{rules}
-use Rattle.merge_type.proofs.Walk.{now_code, become_stop, become_next, become_end}
-use mathlib.Core.Path.{ap}
-use mathlib.Core.Bool.{not}
+use mathlib.Core.Path.{◌∙◌}
+use Rattle.lists.proofs.Tests.{fell, went}
+use Rattle.merge_type.proofs.Walk.{become_step, become_end}
 use Rattle.merge_type.proofs.all_become.Goals as goal
-
-pub loop-s-init : goal.loop-s-init
-loop-s-init c =
-    (zero-le, refl)
-
-pub column_becomes-requires : goal.column_becomes-requires
-column_becomes-requires c =
-    now_code c.requires c.loop-s-test.true c.stand_at-p.ensures
 
 pub returns-then-not-column_becomes : goal.returns-then-not-column_becomes
 returns-then-not-column_becomes c =
-    become_stop _ c.loop-s-test.true c.stand_at-p.ensures _ c.column_becomes.ensures (ap not c.if-not-column_becomes.true) ∙ c.loop-s.invariant.1
+    fell _ c.column_becomes.ensures (become_step _ c.loop-row-test.true c.from.ensures _) c.if-not-column_becomes.true ∙ c.loop-row.invariant
 
-pub loop-s-preserved : goal.loop-s-preserved
-loop-s-preserved c =
-    (search rules, become_next _ c.loop-s-test.true c.stand_at-p.ensures _ c.column_becomes.ensures (ap not c.if-not-column_becomes.false) ∙ c.loop-s.invariant.1)
+pub loop-row-preserved : goal.loop-row-preserved
+loop-row-preserved c =
+    went _ c.column_becomes.ensures (become_step _ c.loop-row-test.true c.from.ensures _) c.if-not-column_becomes.false ∙ c.loop-row.invariant
 
 pub returns : goal.returns
 returns c =
-    become_end _ _ c.loop-s-test.false _ ∙ c.loop-s.invariant.1
+    become_end _ _ c.loop-row-test.false _ ∙ c.loop-row.invariant
