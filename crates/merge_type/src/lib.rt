@@ -62,19 +62,6 @@ fn range_at(p: Stand) -> Range
     }
 }
 
-// One column more.
-#[tactic(auto, unfolding(crate::specs::Parts::seen_with))]
-fn accept_column(seen: numerical::Compatible, p: Stand) -> numerical::Compatible
-    requires { p.typ < 4294967296 }
-    ensures { result ≡ seen_with seen p }
-{
-    if is_part(p) {
-        seen.accept(type_of(p), range_at(p))
-    } else {
-        seen
-    }
-}
-
 // What the held columns say of the joined type.
 fn seen_columns(stands: &[StandNumbers]) -> numerical::Compatible
     requires { Coded stands.now }
@@ -82,18 +69,12 @@ fn seen_columns(stands: &[StandNumbers]) -> numerical::Compatible
 {
     let mut seen = numerical::Compatible::none();
     for &row in stands {
-        seen = accept_column(seen, Stand::from(row));
+        let p = Stand::from(row);
+        if is_part(p) {
+            seen = seen.accept(type_of(p), range_at(p));
+        }
     }
     seen
-}
-
-// Whether one column is not held, or becomes type u.
-#[tactic(auto, unfolding(crate::specs::Parts::becomes))]
-fn column_becomes(u: u32, p: Stand) -> bool
-    requires { p.typ < 4294967296 }
-    ensures { result ≡ becomes u p }
-{
-    !is_part(p) || numerical::is_coercible(type_of(p), u, range_at(p))
 }
 
 // Whether every held column becomes type u.
@@ -102,31 +83,12 @@ fn all_become(u: u32, stands: &[StandNumbers]) -> bool
     ensures { result ≡ all_become u (held_in stands.now) }
 {
     for &row in stands {
-        if !column_becomes(u, Stand::from(row)) {
+        let p = Stand::from(row);
+        if is_part(p) && !numerical::is_coercible(type_of(p), u, range_at(p)) {
             return false;
         }
     }
     true
-}
-
-#[tactic(auto, unfolding(crate::specs::Only::is_second))]
-fn is_second(first: u32, p: Stand) -> bool
-    requires { p.typ < 4294967296 }
-    ensures { result ≡ is_second first p }
-{
-    is_part(p) && first != 255 && type_of(p) != first
-}
-
-#[tactic(auto, unfolding(crate::specs::Only::next_first))]
-fn next_first(first: u32, p: Stand) -> u32
-    requires { p.typ < 4294967296 }
-    ensures { result ≡ next_first first p }
-{
-    if is_part(p) {
-        numerical::first_type(first, type_of(p))
-    } else {
-        first
-    }
 }
 
 // The only type of the held columns, 255 for none; None where there are several.
@@ -137,10 +99,13 @@ fn held_types(stands: &[StandNumbers]) -> Option<u32>
     let mut first = 255;
     for &row in stands {
         let p = Stand::from(row);
-        if is_second(first, p) {
-            return None;
+        if is_part(p) {
+            let t = type_of(p);
+            if first != 255 && first != t {
+                return None;
+            }
+            first = t;
         }
-        first = next_first(first, p);
     }
     Some(first)
 }
