@@ -14,14 +14,6 @@ ghost use Rattle.merge_type.specs.Found.{found_with};
 use min_max::Range;
 use stands::{Stand, StandNumbers};
 
-// A column's type.
-fn type_of(p: Stand) -> u32
-    requires { p.typ < 4294967296 }
-    ensures { result ≡ p.typ }
-{
-    p.typ as u32
-}
-
 #[tactic(auto, unfolding(crate::specs::Parts::fits_first))]
 fn fits_first(first: u32, t: u32) -> bool
     ensures { result ≡ fits_first first t }
@@ -36,7 +28,7 @@ fn one_category(required: u32, stands: &[StandNumbers]) -> bool
 {
     let mut first = required;
     for &row in stands {
-        let t = type_of(Stand::from(row));
+        let t = Stand::from(row).typ as u32;
         if !fits_first(first, t) {
             return false;
         }
@@ -71,7 +63,7 @@ fn seen_columns(stands: &[StandNumbers]) -> numerical::Compatible
     for &row in stands {
         let p = Stand::from(row);
         if is_part(p) {
-            seen = seen.accept(type_of(p), range_at(p));
+            seen = seen.accept(p.typ as u32, range_at(p));
         }
     }
     seen
@@ -84,7 +76,7 @@ fn all_become(u: u32, stands: &[StandNumbers]) -> bool
 {
     for &row in stands {
         let p = Stand::from(row);
-        if is_part(p) && !numerical::is_coercible(type_of(p), u, range_at(p)) {
+        if is_part(p) && !numerical::is_coercible(p.typ as u32, u, range_at(p)) {
             return false;
         }
     }
@@ -100,7 +92,7 @@ fn held_types(stands: &[StandNumbers]) -> Option<u32>
     for &row in stands {
         let p = Stand::from(row);
         if is_part(p) {
-            let t = type_of(p);
+            let t = p.typ as u32;
             if first != 255 && first != t {
                 return None;
             }

@@ -6,12 +6,12 @@ use Rattle.merge_type.proofs.one_category.Goals as goal
 
 pub returns-then-not-fits_first : goal.returns-then-not-fits_first
 returns-then-not-fits_first c =
-    let e = c.type_of-t.ensures ∙ ap (λ (p : Stand). p.typ) c.from.ensures in
+    let e = ap (λ (p : Stand). p.typ) c.from-t.ensures in
     fell _ c.fits_first.ensures (same_step _ _ c.loop-row-test.true e refl) c.if-not-fits_first.true ∙ c.loop-row.invariant ∙ same-is-one _ _
 
 pub loop-row-preserved : goal.loop-row-preserved
 loop-row-preserved c =
-    let e = c.type_of-t.ensures ∙ ap (λ (p : Stand). p.typ) c.from.ensures in
+    let e = ap (λ (p : Stand). p.typ) c.from-t.ensures in
     went _ c.fits_first.ensures (same_step _ _ c.loop-row-test.true e c.first_type-first.ensures) c.if-not-fits_first.false ∙ c.loop-row.invariant
 
 pub returns : goal.returns

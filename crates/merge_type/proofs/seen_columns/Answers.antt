@@ -8,7 +8,7 @@ pub loop-row-preserved : goal.loop-row-preserved
 loop-row-preserved c =
     elim c.if-is_part.branch [
       then-is_part w ↦
-        rw (w.seen-is, w.accept-seen.ensures, w.type_of.ensures, w.range_at.ensures)
+        rw (w.seen-is, w.accept-seen.ensures, w.range_at.ensures)
         (ap (seen_from c.loop-row.seen) (sym (held_more _ c.loop-row-test.true c.from-p.ensures c.is_part.ensures w.if-is_part.true)) ∙ c.loop-row.invariant)
     | else-is_part w ↦ rw w.seen-is (ap (seen_from c.loop-row.seen) (sym (held_same _ c.loop-row-test.true c.from-p.ensures c.is_part.ensures w.if-is_part.false)) ∙ c.loop-row.invariant)
     ]
