@@ -33,21 +33,14 @@ fn plus(t: Totals, r: segment::Record) -> Totals
     ensures value { result ≡ add_to t (record_in r) }
     ensures grown { Grown t result }
 {
-    let rows = t.rows + segment::wide(r.rows);
-    let ids = t.ids + segment::wide(r.ids);
-    let offsets = t.offsets + segment::wide(r.offsets);
-    let values = t.values + segment::wide(r.values);
-    let words = t.words + segment::value_words(r);
-    let terms = t.terms + segment::wide(r.terms);
-    let alive = t.alive + segment::alive_words(r);
     Totals {
-        rows: rows,
-        ids: ids,
-        offsets: offsets,
-        values: values,
-        words: words,
-        terms: terms,
-        alive: alive,
+        rows: t.rows + r.rows as usize,
+        ids: t.ids + r.ids as usize,
+        offsets: t.offsets + r.offsets as usize,
+        values: t.values + r.values as usize,
+        words: t.words + segment::value_words(r),
+        terms: t.terms + r.terms as usize,
+        alive: t.alive + segment::alive_words(r),
     }
 }
 
@@ -65,11 +58,8 @@ pub fn totals_of(records: &[segment::RecordNumbers]) -> Totals
         terms: 0,
         alive: 0,
     };
-    let mut i: usize = 0;
-    while i < records.len() {
-        let r = segment::record_at(records, i);
-        t = plus(t, r);
-        i += 1;
+    for &r in records {
+        t = plus(t, segment::record_of(r));
     }
     t
 }
@@ -95,27 +85,16 @@ fn lengths_fit(records: &[segment::RecordNumbers], sections: &segment::Sections)
 fn all_codes_fit(records: &[segment::RecordNumbers]) -> bool
     ensures { result ≡ codes_from (records_of records.now) }
 {
-    let mut s: usize = 0;
-    while s < records.len() {
-        let r = segment::record_at(records, s);
-        if !segment_fit::codes_fit(r) {
-            return false;
-        }
-        s += 1;
-    }
-    true
+    records
+        .iter()
+        .all(|&r| segment_fit::codes_fit(segment::record_of(r)))
 }
 
+#[tactic(auto, unfolding(crate::specs::Walks::known_codes))]
 fn known_codes(mode: u32, required: u32, records: &[segment::RecordNumbers]) -> bool
     ensures { result ≡ known_codes mode required (records_of records.now) }
 {
-    if 2 <= mode {
-        return false;
-    }
-    if !column_type::is_known(required) {
-        return false;
-    }
-    all_codes_fit(records)
+    mode < 2 && column_type::is_known(required) && all_codes_fit(records)
 }
 
 // ---- 19
@@ -124,36 +103,24 @@ fn known_codes(mode: u32, required: u32, records: &[segment::RecordNumbers]) -> 
 fn none_old(records: &[segment::RecordNumbers]) -> bool
     ensures { result ≡ none_old (records_of records.now) }
 {
-    let mut s: usize = 0;
-    while s < records.len() {
-        let r = segment::record_at(records, s);
-        if r.kind == 3 {
-            return false;
-        }
-        s += 1;
-    }
-    true
+    records.iter().all(|&r| segment::record_of(r).kind != 3)
 }
 
 // ---- 4
 
-fn all_lists_fit(records: &[segment::RecordNumbers], ids: &[u32], offsets: &[u32]) -> bool
+fn all_lists_fit(records: &[segment::RecordNumbers], mut ids: &[u32], mut offsets: &[u32]) -> bool
     requires { HoldsLists (records_of records.now) ids.now offsets.now }
     ensures { result ≡ lists_from (records_of records.now) ids.now offsets.now }
 {
-    let mut s: usize = 0;
-    let mut i: usize = 0;
-    let mut o: usize = 0;
-    while s < records.len() {
-        let r = segment::record_at(records, s);
-        let i_end = i + segment::wide(r.ids);
-        let o_end = o + segment::wide(r.offsets);
-        if !segment_fit::lists_fit(r, &ids[i..i_end], &offsets[o..o_end]) {
+    for &r in records {
+        let r = segment::record_of(r);
+        let (own_ids, other_ids) = ids.split_at(r.ids as usize);
+        let (own_offsets, other_offsets) = offsets.split_at(r.offsets as usize);
+        if !segment_fit::lists_fit(r, own_ids, own_offsets) {
             return false;
         }
-        i = i_end;
-        o = o_end;
-        s += 1;
+        ids = other_ids;
+        offsets = other_offsets;
     }
     true
 }
@@ -162,64 +129,52 @@ fn all_lists_fit(records: &[segment::RecordNumbers], ids: &[u32], offsets: &[u32
 
 fn all_values_fit(
     records: &[segment::RecordNumbers],
-    values: &[u64],
-    lengths: &[u32],
-    bytes: &[u8],
+    mut values: &[u64],
+    mut lengths: &[u32],
+    mut bytes: &[u8],
 ) -> bool
     requires { HoldsValues (records_of records.now) values.now lengths.now bytes.now }
     ensures { result ≡ values_from (records_of records.now) values.now lengths.now bytes.now }
 {
-    let mut s: usize = 0;
-    let mut v: usize = 0;
-    let mut t: usize = 0;
-    let mut b: usize = 0;
-    while s < records.len() {
-        let r = segment::record_at(records, s);
-        let v_end = v + segment::value_words(r);
-        let t_end = t + segment::wide(r.terms);
-        if !segment_fit::values_fit(r, &values[v..v_end], &lengths[t..t_end], &bytes[b..]) {
+    for &r in records {
+        let r = segment::record_of(r);
+        let (own_values, other_values) = values.split_at(segment::value_words(r));
+        let (own_lengths, other_lengths) = lengths.split_at(r.terms as usize);
+        if !segment_fit::values_fit(r, own_values, own_lengths, bytes) {
             return false;
         }
-        b += runs::sum_of(&lengths[t..t_end]);
-        v = v_end;
-        t = t_end;
-        s += 1;
+        values = other_values;
+        lengths = other_lengths;
+        let (_, other_bytes) = bytes.split_at(runs::sum_of(own_lengths));
+        bytes = other_bytes;
     }
     true
 }
 
 // ---- 6
 
-fn all_alive_fit(mode: u32, records: &[segment::RecordNumbers], alive: &[u64]) -> bool
+fn all_alive_fit(mode: u32, records: &[segment::RecordNumbers], mut alive: &[u64]) -> bool
     requires { total alive_words (records_of records.now) ≤ length alive.now }
     ensures { result ≡ alive_fits_from mode (records_of records.now) alive.now }
 {
-    let mut s: usize = 0;
-    let mut a: usize = 0;
-    while s < records.len() {
-        let r = segment::record_at(records, s);
-        let end = a + segment::alive_words(r);
-        if !segment_fit::alive_fits(mode, r, &alive[a..end]) {
+    for &r in records {
+        let r = segment::record_of(r);
+        let (own, others) = alive.split_at(segment::alive_words(r));
+        if !segment_fit::alive_fits(mode, r, own) {
             return false;
         }
-        a = end;
-        s += 1;
+        alive = others;
     }
     true
 }
 
 // ---- 7
 
+#[tactic(auto, unfolding(crate::specs::Walks::sums_right))]
 fn sums_fit(rows: usize, values: usize, bytes: usize) -> bool
     ensures { result ≡ sums_right rows values bytes }
 {
-    if 4294967294 < rows {
-        return false;
-    }
-    if 4294967294 < values {
-        return false;
-    }
-    bytes <= 4294967294
+    rows <= 4294967294 && values <= 4294967294 && bytes <= 4294967294
 }
 
 // ---- 1 to 7, with 19 right after 3

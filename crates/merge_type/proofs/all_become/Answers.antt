@@ -1,27 +1,24 @@
-use mathlib.Core.Path.{refl, ◌∙◌}
-use Prim.Native.Nat.{zero-le}
-use borrow.Author.Rules.{rules}
-use Rattle.merge_type.proofs.Walk.{now_code, become_stop, become_next, become_end}
-use mathlib.Core.Path.{ap}
-use mathlib.Core.Bool.{not}
+use mathlib.Core.Path.{sym, ap, ◌∙◌}
+use Rattle.lists.proofs.Tests.{fell, went}
+use Rattle.merge_type.specs.Parts.{all_become}
+use Rattle.merge_type.proofs.Walk.{held_more, held_same, held_end}
 use Rattle.merge_type.proofs.all_become.Goals as goal
+use Rattle.merge_type.proofs.all_become.Goals.{else-is_part-via-then-is_part+else-not-is_coercible, else-is_part-via-else-is_part}
 
-pub loop-s-init : goal.loop-s-init
-loop-s-init c =
-    (zero-le, refl)
+pub returns-then-not-is_coercible : goal.returns-then-not-is_coercible
+unfolding all_become
+returns-then-not-is_coercible c =
+    fell _ (rw (c.range_at.ensures) at c.is_coercible.ensures) (ap (all_become c.args.u) (held_more _ c.loop-row-test.true c.from-p.ensures c.is_part.ensures c.if-is_part.true)) c.if-not-is_coercible.true ∙ c.loop-row.invariant
 
-pub column_becomes-requires : goal.column_becomes-requires
-column_becomes-requires c =
-    now_code c.requires c.loop-s-test.true c.stand_at-p.ensures
-
-pub returns-then-not-column_becomes : goal.returns-then-not-column_becomes
-returns-then-not-column_becomes c =
-    become_stop _ c.loop-s-test.true c.stand_at-p.ensures _ c.column_becomes.ensures (ap not c.if-not-column_becomes.true) ∙ c.loop-s.invariant.1
-
-pub loop-s-preserved : goal.loop-s-preserved
-loop-s-preserved c =
-    (search rules, become_next _ c.loop-s-test.true c.stand_at-p.ensures _ c.column_becomes.ensures (ap not c.if-not-column_becomes.false) ∙ c.loop-s.invariant.1)
+pub loop-row-preserved : goal.loop-row-preserved
+unfolding all_become
+loop-row-preserved c =
+    elim c.else-is_part.branch [
+      else-is_part-via-then-is_part+else-not-is_coercible w ↦
+        went _ (rw (w.range_at.ensures) at w.is_coercible.ensures) (ap (all_become c.args.u) (held_more _ c.loop-row-test.true c.from-p.ensures c.is_part.ensures w.if-is_part.true)) w.if-not-is_coercible.false ∙ c.loop-row.invariant
+    | else-is_part-via-else-is_part w ↦ ap (all_become c.args.u) (sym (held_same _ c.loop-row-test.true c.from-p.ensures c.is_part.ensures w.if-is_part.false)) ∙ c.loop-row.invariant
+    ]
 
 pub returns : goal.returns
-returns c =
-    become_end _ _ c.loop-s-test.false _ ∙ c.loop-s.invariant.1
+unfolding all_become
+returns c = ap (all_become c.args.u) (sym (held_end _ _ c.loop-row-test.false)) ∙ c.loop-row.invariant

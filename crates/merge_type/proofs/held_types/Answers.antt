@@ -1,30 +1,26 @@
 use mathlib.Core.Path.{refl, ◌∙◌}
-use Prim.Native.Nat.{zero-le}
-use borrow.Author.Rules.{rules}
-use Rattle.merge_type.proofs.Walk.{now_code}
-use Rattle.merge_type.proofs.Only.{types_stop, types_next, types_end}
+use Rattle.merge_type.proofs.Only.{types_same, types_stop, types_first, types_again, types_end}
 use Rattle.merge_type.proofs.held_types.Goals as goal
+use Rattle.merge_type.proofs.held_types.Goals.{then-is_part+else-first-ne255, else-first-ne255-via-then-first-ne255+else-first-t, else-first-ne255-via-else-first-ne255, else-is_part}
 
-pub loop-s-init : goal.loop-s-init
-loop-s-init c =
-    (zero-le, refl)
+pub returns-then-first-t : goal.returns-then-first-t
+returns-then-first-t c =
+    types_stop _ _ c.loop-row-test.true c.from-p.ensures c.is_part.ensures c.if-is_part.true refl c.if-first-ne255.true c.if-first-t.true ∙ c.loop-row.invariant
 
-pub is_second-requires : goal.is_second-requires
-is_second-requires c =
-    now_code c.requires c.loop-s-test.true c.stand_at-p.ensures
-
-pub returns-then-is_second : goal.returns-then-is_second
-returns-then-is_second c =
-    types_stop _ _ c.loop-s-test.true c.stand_at-p.ensures c.is_second.ensures c.if-is_second.true ∙ c.loop-s.invariant.1
-
-pub next_first-first-requires : goal.next_first-first-requires
-next_first-first-requires c =
-    now_code c.requires c.loop-s-test.true c.stand_at-p.ensures
-
-pub loop-s-preserved : goal.loop-s-preserved
-loop-s-preserved c =
-    (search rules, types_next _ _ c.loop-s-test.true c.stand_at-p.ensures c.is_second.ensures c.if-is_second.false c.next_first-first.ensures ∙ c.loop-s.invariant.1)
+pub loop-row-preserved : goal.loop-row-preserved
+loop-row-preserved c =
+    elim c.if-is_part.branch [
+      then-is_part+else-first-ne255 w ↦
+        rw w.first-is
+        (elim w.else-first-ne255.branch [
+          else-first-ne255-via-then-first-ne255+else-first-t x ↦
+            types_again _ _ c.loop-row-test.true c.from-p.ensures c.is_part.ensures w.if-is_part.true refl x.if-first-t.false ∙ c.loop-row.invariant
+        | else-first-ne255-via-else-first-ne255 x ↦
+            types_first _ _ c.loop-row-test.true c.from-p.ensures c.is_part.ensures w.if-is_part.true refl x.if-first-ne255.false ∙ c.loop-row.invariant
+        ])
+    | else-is_part w ↦ rw w.first-is (types_same _ _ c.loop-row-test.true c.from-p.ensures c.is_part.ensures w.if-is_part.false ∙ c.loop-row.invariant)
+    ]
 
 pub returns : goal.returns
 returns c =
-    types_end _ _ _ c.loop-s-test.false ∙ c.loop-s.invariant.1
+    types_end _ _ _ c.loop-row-test.false ∙ c.loop-row.invariant

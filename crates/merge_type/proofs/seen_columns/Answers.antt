@@ -1,24 +1,17 @@
-use mathlib.Core.Path.{ap, ◌∙◌}
-use Prim.Native.Nat.{zero-le}
-use borrow.Author.Rules.{rules}
-use Rattle.merge_type.proofs.Walk.{now_code, seen_next, seen_end}
-use Rattle.numerical.specs.declared.Compatible.{Compatible}
-use Rattle.merge_type.specs.Parts.{held_in}
+use mathlib.Core.Path.{sym, ap, ◌∙◌}
 use Rattle.numerical.specs.Seen.{seen_from}
+use Rattle.merge_type.proofs.Walk.{held_more, held_same, held_end}
 use Rattle.merge_type.proofs.seen_columns.Goals as goal
+use Rattle.merge_type.proofs.seen_columns.Goals.{then-is_part, else-is_part}
 
-pub loop-s-init : goal.loop-s-init
-loop-s-init c =
-    (zero-le, ap (λ (x : Compatible). seen_from x (held_in c.args.stands.now)) c.none-seen.ensures)
-
-pub accept_column-seen-requires : goal.accept_column-seen-requires
-accept_column-seen-requires c =
-    now_code c.requires c.loop-s-test.true c.stand_at-p.ensures
-
-pub loop-s-preserved : goal.loop-s-preserved
-loop-s-preserved c =
-    (search rules, seen_next _ c.loop-s-test.true c.stand_at-p.ensures _ c.accept_column-seen.ensures ∙ c.loop-s.invariant.1)
+pub loop-row-preserved : goal.loop-row-preserved
+loop-row-preserved c =
+    elim c.if-is_part.branch [
+      then-is_part w ↦
+        rw (w.seen-is, w.accept-seen.ensures, w.range_at.ensures)
+        (ap (seen_from c.loop-row.seen) (sym (held_more _ c.loop-row-test.true c.from-p.ensures c.is_part.ensures w.if-is_part.true)) ∙ c.loop-row.invariant)
+    | else-is_part w ↦ rw w.seen-is (ap (seen_from c.loop-row.seen) (sym (held_same _ c.loop-row-test.true c.from-p.ensures c.is_part.ensures w.if-is_part.false)) ∙ c.loop-row.invariant)
+    ]
 
 pub returns : goal.returns
-returns c =
-    seen_end _ _ c.loop-s-test.false _ ∙ c.loop-s.invariant.1
+returns c = ap (seen_from c.loop-row.seen) (sym (held_end _ _ c.loop-row-test.false)) ∙ c.loop-row.invariant

@@ -7,10 +7,10 @@ pub returns-then-required-ne255 : goal.returns-then-required-ne255
 returns-then-required-ne255 c =
     joined-required _ _ c.if-required-ne255.true
 
-pub returns-in-Only : goal.returns-in-Only
-returns-in-Only c =
-    joined_only _ _ c.if-required-ne255.false _ (sym c.in-Only.is ∙ c.held_types.ensures)
+pub returns-in-Some : goal.returns-in-Some
+returns-in-Some c =
+    joined_only _ _ c.if-required-ne255.false _ (sym c.in-Some.is ∙ c.held_types.ensures)
 
-pub returns-in-Several : goal.returns-in-Several
-returns-in-Several c =
-    c.joined_type.ensures ∙ ap type_seen c.seen_columns.ensures ∙ joined-several _ _ c.if-required-ne255.false (sym c.in-Several.is ∙ c.held_types.ensures)
+pub returns-in-None : goal.returns-in-None
+returns-in-None c =
+    c.joined_type.ensures ∙ ap type_seen c.seen_columns.ensures ∙ joined-several _ _ c.if-required-ne255.false (sym c.in-None.is ∙ c.held_types.ensures)
