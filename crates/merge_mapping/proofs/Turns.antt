@@ -35,15 +35,9 @@ module _ (flag : ℕ) (words : List ℕ) (rows : ℕ) where
   unfolding alive_bytes
   bytes-at i h = sym (table_at (alive_byte flag words rows) 0 (bytes_for rows) i h)
 
--- where the code finds a segment's words and bytes
-pub worded-here : (stands : List (List ℕ)) (k : ℕ) {alive : List ℕ} → AllWorded stands alive → k < length stands → {p : Stand} → p ≡ stand_at stands k → Worded p alive
-worded-here stands k {alive} w h e = subst (λ (q : Stand). Worded q alive) (sym e) (w k h)
-
+-- where the code finds a segment's words
 pub words_reach : {p : Stand} {alive : List ℕ} → Worded p alive → p.flag ≡ 1 → p.rows ≤ 64 * length (alive_set_at p alive)
 words_reach {p} {alive} w e = rw (run_length p.alive.from p.alive.to alive w.lie.ends) (w.enough e)
-
-pub room-here : (stands : List (List ℕ)) (k : ℕ) (bits : List ℕ) → Room stands bits → k < length stands → {p : Stand} → p ≡ stand_at stands k → p.work + p.rows ≤ length bits
-room-here stands k bits r h e = subst (λ (q : Stand). q.work + q.rows ≤ length bits) (sym e) (r k h)
 
 pub laid_start : (stands : List (List ℕ)) (alive bits : List ℕ) → bits ≡ laid_out stands alive bits 0
 unfolding laid_out
