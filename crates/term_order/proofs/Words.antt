@@ -9,6 +9,8 @@ use mathlib.Core.List.{List, [], ◌∷◌}
 use lib.ListN.{length, take, drop, get_or, length-take, drop_of_length-le, get_or-eq_default}
 use lib.Seq.{drop-cons, drop-drop, get_or-drop, get_or-take}
 use lib.Pow.{pow_mono, pow-add, shl_exact}
+use Rattle.std.specs.Array.{IsFirstChunk}
+use Rattle.std.specs.Int.{w64, from_be_bytes}
 use Rattle.lists.proofs.Numbers.{le-lt}
 use Rattle.lists.proofs.Parts.{drop-take, run_length}
 use Rattle.definitions.specs.Lists.{and_then, compare_bytes}
@@ -309,11 +311,15 @@ module _ (bytes : List ℕ) (w i : ℕ) (e : w ≡ value_of i bytes) where
 
 -- ---- words
 
--- only the first eight bytes count
-pub word-long : (t : List ℕ) → 8 ≤ length t → value_of (length (take 8 t)) (take 8 t) ≡ word_of t
-unfolding word_of
-word-long t h = ap (λ (n : ℕ). value_of n (take 8 t)) (let e : length (take 8 t) ≡ 8 = omega (arith, length-take 8 t) in e) ∙ value-take 8 8 t (le_refl 8)
+-- there are eight bytes
+pub word-bytes : (t h : List ℕ) → IsFirstChunk t h 8 → from_be_bytes w64 h ≡ word_of t
+unfolding value_of word_of
+word-bytes t h f =
+    let at : (i : ℕ) → i < 8 → get_or h i 0 ≡ get_or t i 0 = λ i l. ap (λ (x : List ℕ). get_or x i 0) f.same ∙ get_or-take 8 t i 0 l in
+    let w : from_be_bytes w64 h ≡ value_of 8 t = omega (arith, at 0 (omega arith), at 1 (omega arith), at 2 (omega arith), at 3 (omega arith), at 4 (omega arith), at 5 (omega arith), at 6 (omega arith), at 7 (omega arith)) in
+    w
 
+-- there are fewer
 pub word_none : (t : List ℕ) → t ≡ [] → 0 ≡ word_of t
 unfolding word_of
 word_none t e = sym (ap (value_of 8) e ∙ value_nil 8)

@@ -79,13 +79,11 @@ fn number_of(bytes: &[u8]) -> usize
 fn word_of(term: &[u8]) -> usize
     ensures { result ≡ word_of term.now }
 {
-    if 8 <= term.len() {
-        return number_of(&term[..8]);
+    match term.first_chunk() {
+        Some(head) => u64::from_be_bytes(*head) as usize,
+        None if term.is_empty() => 0,
+        None => number_of(term) << (8 * (8 - term.len())),
     }
-    if term.is_empty() {
-        return 0;
-    }
-    number_of(term) << (8 * (8 - term.len()))
 }
 
 // The key of the term that stands from one byte to another.
