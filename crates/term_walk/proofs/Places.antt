@@ -6,7 +6,7 @@ use mathlib.Core.List.{List, [], ◌∷◌}
 use Prim.Native.Nat.{ℕ, zero, suc, ◌+◌, ◌-◌, ◌≤◌, ◌<◌}
 use native.Mathlib.Nat.{le_of_suc-le-suc}
 use native.Mathlib.Omega.{arith}
-use lib.ListN.{length, get_or, take, get_or-eq_default}
+use lib.ListN.{length, take, get_or-eq_default}
 use lib.Seq.{take-length}
 use Rattle.term_merger.specs.declared.Cursor.{Cursor}
 use Rattle.term_merger.specs.Order.{cursor_in, no_cursor}

@@ -2,6 +2,7 @@ use borrow.Author.Rules.{rules}
 use mathlib.Core.Path.{refl}
 use mathlib.Core.List.{[]}
 use native.Mathlib.Omega.{arith}
+use lib.ListN.{get_or}
 use Rattle.term_merger.proofs.Walk.{sinking_new}
 use Rattle.term_walk.proofs.Going.{going_start, going_more, term-inside, s_range, terms-room, texts-room, place_in, end-s, fits-s, stepped, small-ordinal, size-new, readable-new, fewer}
 use Rattle.term_walk.proofs.Ends.{walked, cursors_passed}
@@ -35,8 +36,8 @@ pub overflow_cast-map : goal.overflow_cast-map
 overflow_cast-map c =
     omega (arith, small-ordinal c.requires.ready c.loop-h.invariant.2 c.loop-h-test.true refl _ _ _ (stepped c.requires.ready c.loop-h.invariant.2 c.loop-h-test.true refl _ _ _ c.take_term-t.ensures).1)
 
-pub bounds-map-to : goal.bounds-map-to
-bounds-map-to c =
+pub bounds-map-cursor : goal.bounds-map-cursor
+bounds-map-cursor c =
     omega (arith, place_in c.requires.ready c.loop-h.invariant.2 c.loop-h-test.true refl)
 
 pub overflow_add-at : goal.overflow_add-at
@@ -50,8 +51,8 @@ overflow_add-at-in-loop-h c =
 pub put_cursor-requires-clause-standing : goal.put_cursor-requires-clause-standing
 put_cursor-requires-clause-standing c =
     record {
-      inside = omega (arith, end-s c.requires.ready c.loop-h.invariant.2 c.loop-h-test.true refl, c.requires.ready.inside _);
-      marked = λ e. omega (arith, end-s c.requires.ready c.loop-h.invariant.2 c.loop-h-test.true refl, c.requires.ready.marked _ e);
+      inside = omega (arith, end-s c.requires.ready c.loop-h.invariant.2 c.loop-h-test.true refl, c.requires.ready.inside (get_or c.loop-h.h.seg 0 0));
+      marked = λ e. omega (arith, end-s c.requires.ready c.loop-h.invariant.2 c.loop-h-test.true refl, c.requires.ready.marked (get_or c.loop-h.h.seg 0 0) e);
       text = fits-s c.requires.ready c.loop-h.invariant.2 c.loop-h-test.true refl;
     }
 
@@ -100,6 +101,6 @@ pub returns-clause-cursors_after : goal.returns-clause-cursors_after
 returns-clause-cursors_after c =
     cursors_passed c.requires.ready c.loop-h.invariant.2 c.loop-h-test.false
 
-pub offset_bounds-map-to : goal.offset_bounds-map-to
-offset_bounds-map-to c =
+pub offset_bounds-map-cursor : goal.offset_bounds-map-cursor
+offset_bounds-map-cursor c =
     omega (arith, place_in c.requires.ready c.loop-h.invariant.2 c.loop-h-test.true refl, c.loop-h.invariant.2.size-map, c.well_formed)
