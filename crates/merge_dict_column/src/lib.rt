@@ -7,6 +7,7 @@ ghost use Rattle.merge_dict_column.specs.Dict.{Texts, Dictionary};
 ghost use Rattle.merge_dict_column.specs.Fill.{marks_for, MarksFor, DictionaryGiven, DictionaryLeft};
 
 use stands::StandNumbers;
+use term_merger::{Cursor, Heap};
 use term_walk::Kept;
 
 // The held segments' dictionaries as one, and each old ordinal's new one. A term's mark is 0 where it is not kept, and all means that every term is.
@@ -24,7 +25,7 @@ pub fn merge_dict(
     requires texts { Texts stands.now lengths.now bytes.now out_lengths.old out_bytes.old map.old }
     ensures { Dictionary stands.now lengths.now bytes.now marks.now all out_lengths.old out_bytes.old map.old result.terms result.bytes result.copied out_lengths.new out_bytes.new map.new }
 {
-    let mut cursors = [[0usize; 8]; term_merger::Heap::CAP];
+    let mut cursors = [Cursor::NONE; Heap::CAP];
     term_cursors::fill_cursors(stands, lengths, bytes, marks, all, &mut cursors);
     let heap = term_merger::start_heap(bytes, &cursors);
     term_walk::merge_terms(
