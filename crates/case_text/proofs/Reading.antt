@@ -20,11 +20,6 @@ pub record Reading {A : Type 0} (f : List ℕ → A × List ℕ) (text₀ : List
   pub written : take i out ++ read_from f (length out₀ - i) text ≡ read_from f (length out₀) text₀
 
 module _ {A : Type 0} {f : List ℕ → A × List ℕ} {text₀ : List ℕ} {out₀ : List A} where
-  pub reading_start : Reading f text₀ out₀ text₀ out₀ 0
-  reading_start =
-      let e : length out₀ - 0 ≡ length out₀ = omega arith in
-      record { room = refl; behind = ap (λ (k : ℕ). rest_after f k text₀) e; written = ap (λ (k : ℕ). read_from f k text₀) e }
-
   pub reading_step : {text text' : List ℕ} {out : List A} {i : ℕ} {x : A} → Reading f text₀ out₀ text out i → i < length out₀ → (x, text') ≡ f text → Reading f text₀ out₀ text' (set out i x) (i + 1)
   unfolding read_from rest_after
   reading_step {text} {text'} {out} {i} {x} r h e =
