@@ -7,13 +7,14 @@
 ghost use Rattle.std.specs.Prelude.{ℕ, List, replicate};
 ghost use Rattle.case_text.specs.Counts.{Counts};
 
+use case_text::{Element, Reader};
+
 // Which entry is called: 0 join, 1 time order, 2 converter, 3 withdraw, 4 reinstate, 5 and 6 the same of a run of rows; and the numbers that only a join takes.
 #[derive(Clone, Copy)]
 struct Call {
     entry: u64,
     mode: u32,
     required: u32,
-    at: usize,
 }
 
 // ---- what a call gives and leaves
@@ -90,32 +91,27 @@ fn put_join(
     work: &[u8],
 ) {
     put_answer(a);
-    case_lines::put_numbers(b"  ids", ids);
-    case_lines::put_numbers(b"  offsets", offsets);
-    case_lines::put_words(b"  values", values);
-    case_lines::put_numbers(b"  term lengths", lengths);
-    case_lines::put_bytes(b"  term bytes", bytes);
-    case_lines::put_numbers(b"  map", map);
-    case_lines::put_bytes(b"  working", work);
+    case_lines::put_list(b"  ids", ids);
+    case_lines::put_list(b"  offsets", offsets);
+    case_lines::put_list(b"  values", values);
+    case_lines::put_list(b"  term lengths", lengths);
+    case_lines::put_list(b"  term bytes", bytes);
+    case_lines::put_list(b"  map", map);
+    case_lines::put_list(b"  working", work);
 }
 
 // ---- a case
 
 // The number of elements that a case lends of an output.
-fn room(text: &[u8], from: usize) -> case_text::Part
-    ensures counts { Counts {A = ℕ} result.count (replicate 300 9) }
-    ensures counts_2 { Counts {A = List ℕ} result.count (replicate 300 (replicate 2 9)) }
+fn room(reader: &mut Reader) -> usize
+    ensures counts { Counts {A = ℕ} result (replicate 300 9) }
+    ensures counts_2 { Counts {A = List ℕ} result (replicate 300 (replicate 2 9)) }
 {
-    let n = case_text::number(text, from);
-    case_text::Part {
-        count: case_text::capped(n.value, 300),
-        at: n.at,
-    }
+    reader.count(300)
 }
 
 fn join_case(
-    text: &[u8],
-    from: usize,
+    reader: &mut Reader,
     mode: u32,
     required: u32,
     records: &[segment::RecordNumbers],
@@ -126,21 +122,14 @@ fn join_case(
     bytes: &[u8],
     alive: &[u64],
     addresses: &[[u32; 2]],
-) -> usize {
-    let w = room(text, from);
-    let i = room(text, w.at);
-    let o = room(text, i.at);
-    let v = room(text, o.at);
-    let l = room(text, v.at);
-    let b = room(text, l.at);
-    let m = room(text, b.at);
-    let wc = w.count;
-    let ic = i.count;
-    let oc = o.count;
-    let vc = v.count;
-    let lc = l.count;
-    let bc = b.count;
-    let mc = m.count;
+) {
+    let wc = room(reader);
+    let ic = room(reader);
+    let oc = room(reader);
+    let vc = room(reader);
+    let lc = room(reader);
+    let bc = room(reader);
+    let mc = room(reader);
     let mut work_memory = [9u8; 300];
     let mut ids_memory = [9u32; 300];
     let mut offsets_memory = [9u32; 300];
@@ -184,12 +173,10 @@ fn join_case(
         out_map,
         work,
     );
-    m.at
 }
 
 fn time_case(
-    text: &[u8],
-    from: usize,
+    reader: &mut Reader,
     records: &[segment::RecordNumbers],
     ids: &[u32],
     offsets: &[u32],
@@ -197,21 +184,18 @@ fn time_case(
     lengths: &[u32],
     bytes: &[u8],
     alive: &[u64],
-) -> usize {
-    let s = room(text, from);
-    let n = s.count;
+) {
+    let n = room(reader);
     let mut memory = [[9u32; 2]; 300];
     let out = &mut memory[..n];
     let a = time_order::time_order(records, ids, offsets, values, lengths, bytes, alive, out);
     put_times(a);
     case_lines::put_addresses(b"  addresses", out);
-    s.at
 }
 
 // The first record alone, where there is one.
 fn convert_case(
-    text: &[u8],
-    from: usize,
+    reader: &mut Reader,
     records: &[segment::RecordNumbers],
     ids: &[u32],
     offsets: &[u32],
@@ -219,16 +203,14 @@ fn convert_case(
     lengths: &[u32],
     bytes: &[u8],
     alive: &[u64],
-) -> usize {
-    let i = room(text, from);
-    let o = room(text, i.at);
-    let ic = i.count;
-    let oc = o.count;
+) {
+    let ic = room(reader);
+    let oc = room(reader);
     let mut ids_memory = [9u32; 300];
     let mut offsets_memory = [9u32; 300];
     let out_ids = &mut ids_memory[..ic];
     let out_offsets = &mut offsets_memory[..oc];
-    if 0 < records.len() {
+    if let [first, ..] = records {
         let r = segment::record_at(records, 0);
         let a = convert::convert(
             r,
@@ -242,10 +224,9 @@ fn convert_case(
             out_offsets,
         );
         put_converted(a);
-        case_lines::put_numbers(b"  ids", out_ids);
-        case_lines::put_numbers(b"  offsets", out_offsets);
+        case_lines::put_list(b"  ids", out_ids);
+        case_lines::put_list(b"  offsets", out_offsets);
     }
-    o.at
 }
 
 fn mark_one(
@@ -280,29 +261,25 @@ fn mark(
 
 // The first record alone, where there is one.
 fn mark_case(
-    text: &[u8],
-    from: usize,
+    reader: &mut Reader,
     entry: u64,
     records: &[segment::RecordNumbers],
     alive: &mut [u64],
-) -> usize {
+) {
     let mut rows = [0u32; 300];
-    let p = case_text::read_numbers(text, from, &mut rows);
-    let n = p.count;
-    if 0 < records.len() {
+    let n = reader.list(&mut rows);
+    if let [first, ..] = records {
         let mut record = records[0];
         let a = mark(entry, &mut record, alive, &rows[..n]);
         put_marked(a);
         put_record(b"  record", segment::Record::from(record));
         case_lines::end_line();
-        case_lines::put_words(b"  alive", alive);
+        case_lines::put_list(b"  alive", alive);
     }
-    p.at
 }
 
 fn run(
-    text: &[u8],
-    from: usize,
+    reader: &mut Reader,
     call: Call,
     records: &[segment::RecordNumbers],
     ids: &[u32],
@@ -312,60 +289,48 @@ fn run(
     bytes: &[u8],
     alive: &mut [u64],
     addresses: &[[u32; 2]],
-) -> usize {
-    if call.entry == 1 {
-        return time_case(
-            text, from, records, ids, offsets, values, lengths, bytes, alive,
-        );
+) {
+    match call.entry {
+        1 => time_case(reader, records, ids, offsets, values, lengths, bytes, alive),
+        2 => convert_case(reader, records, ids, offsets, values, lengths, bytes, alive),
+        3.. => mark_case(reader, call.entry, records, alive),
+        _ => join_case(
+            reader,
+            call.mode,
+            call.required,
+            records,
+            ids,
+            offsets,
+            values,
+            lengths,
+            bytes,
+            alive,
+            addresses,
+        ),
     }
-    if 3 <= call.entry {
-        return mark_case(text, from, call.entry, records, alive);
-    }
-    if call.entry == 2 {
-        return convert_case(
-            text, from, records, ids, offsets, values, lengths, bytes, alive,
-        );
-    }
-    join_case(
-        text,
-        from,
-        call.mode,
-        call.required,
-        records,
-        ids,
-        offsets,
-        values,
-        lengths,
-        bytes,
-        alive,
-        addresses,
-    )
 }
 
-// Begins a case's first line with its name, and gives the place behind it.
-fn show_name(text: &[u8], from: usize) -> usize {
+// Begins a case's first line with its name.
+fn show_name(reader: &mut Reader) {
     let mut name = [0u8; 100];
-    let p = case_text::read_bytes(text, from, &mut name);
-    let n = p.count;
+    let n = reader.list(&mut name);
     io::write_all(1, &name[..n]);
     io::write_all(1, b": answer");
-    p.at
 }
 
-fn read_call(text: &[u8], from: usize) -> Call {
-    let entry = case_text::number(text, from);
-    let mode = case_text::number(text, entry.at);
-    let required = case_text::number(text, mode.at);
+fn read_call(reader: &mut Reader) -> Call {
+    let entry = reader.number();
+    let mode = u32::read(reader);
+    let required = u32::read(reader);
     Call {
-        entry: entry.value,
-        mode: case_text::narrow(mode.value),
-        required: case_text::narrow(required.value),
-        at: required.at,
+        entry,
+        mode,
+        required,
     }
 }
 
-// Prints a case's name and what it gives and leaves, and gives the place behind it.
-fn show_case(text: &[u8], from: usize) -> usize {
+// Prints a case's name and what it gives and leaves.
+fn show_case(reader: &mut Reader) {
     let mut records = [[0u32; segment::WIDTH]; 300];
     let mut ids = [0u32; 300];
     let mut offsets = [0u32; 300];
@@ -374,26 +339,18 @@ fn show_case(text: &[u8], from: usize) -> usize {
     let mut bytes = [0u8; 300];
     let mut alive = [0u64; 300];
     let mut addresses = [[0u32; 2]; 300];
-    let call = read_call(text, show_name(text, from));
-    let r = case_text::read_records(text, call.at, &mut records);
-    let i = case_text::read_numbers(text, r.at, &mut ids);
-    let o = case_text::read_numbers(text, i.at, &mut offsets);
-    let v = case_text::read_words(text, o.at, &mut values);
-    let l = case_text::read_numbers(text, v.at, &mut lengths);
-    let b = case_text::read_bytes(text, l.at, &mut bytes);
-    let w = case_text::read_words(text, b.at, &mut alive);
-    let a = case_text::read_pairs(text, w.at, &mut addresses);
-    let rc = r.count;
-    let ic = i.count;
-    let oc = o.count;
-    let vc = v.count;
-    let lc = l.count;
-    let bc = b.count;
-    let wc = w.count;
-    let ac = a.count;
+    show_name(reader);
+    let call = read_call(reader);
+    let rc = reader.list(&mut records);
+    let ic = reader.list(&mut ids);
+    let oc = reader.list(&mut offsets);
+    let vc = reader.list(&mut values);
+    let lc = reader.list(&mut lengths);
+    let bc = reader.list(&mut bytes);
+    let wc = reader.list(&mut alive);
+    let ac = reader.list(&mut addresses);
     run(
-        text,
-        a.at,
+        reader,
         call,
         &records[..rc],
         &ids[..ic],
@@ -403,19 +360,14 @@ fn show_case(text: &[u8], from: usize) -> usize {
         &bytes[..bc],
         &mut alive[..wc],
         &addresses[..ac],
-    )
+    );
 }
 
 fn main() {
     let mut buf = io::large_buffer();
     let n = io::read_full(0, &mut buf);
-    let text = &buf[..n];
-    let c = case_text::number(text, 0);
-    let cases = case_text::capped(c.value, 4096);
-    let mut at = c.at;
-    let mut k: usize = 0;
-    while k < cases {
-        at = show_case(text, at);
-        k += 1;
+    let mut reader = Reader { rest: &buf[..n] };
+    for _ in 0..reader.count(4096) {
+        show_case(&mut reader);
     }
 }
