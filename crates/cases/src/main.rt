@@ -8,6 +8,8 @@ ghost use Rattle.std.specs.Prelude.{ℕ, List, replicate};
 ghost use Rattle.case_text.specs.Counts.{Counts};
 
 use case_text::{Element, Reader};
+use refusal::Refusal;
+use segment::{RecordNumbers, Sections};
 
 // Which entry is called: 0 join, 1 time order, 2 converter, 3 withdraw, 4 reinstate, 5 and 6 the same of a run of rows; and the numbers that only a join takes.
 #[derive(Clone, Copy)]
@@ -34,18 +36,23 @@ fn put_accepted(n: merge::Numbers) {
     case_lines::put(n.greatest);
 }
 
-fn put_answer(a: merge::Answer) {
-    match a {
-        merge::Answer::Refused(k) => case_lines::put(k as u64),
-        merge::Answer::Accepted(n) => put_accepted(n),
+fn put_refused(refusal: Refusal) {
+    let number = u32::from(refusal);
+    case_lines::put(u64::from(number));
+}
+
+fn put_answer(answer: Result<merge::Numbers, Refusal>) {
+    match answer {
+        Ok(n) => put_accepted(n),
+        Err(refusal) => put_refused(refusal),
     }
     case_lines::end_line();
 }
 
-fn put_times(a: time_order::TimeAnswer) {
-    match a {
-        time_order::TimeAnswer::Refused(k) => case_lines::put(k as u64),
-        time_order::TimeAnswer::Sorted(n) => case_lines::put_named(b" 0, addresses", n as u64),
+fn put_times(answer: Result<usize, Refusal>) {
+    match answer {
+        Ok(n) => case_lines::put_named(b" 0, addresses", n as u64),
+        Err(refusal) => put_refused(refusal),
     }
     case_lines::end_line();
 }
@@ -64,24 +71,24 @@ fn put_record(name: &[u8], r: segment::Record) {
     case_lines::put(r.greatest);
 }
 
-fn put_converted(a: convert::ConvertAnswer) {
-    match a {
-        convert::ConvertAnswer::Refused(k) => case_lines::put(k as u64),
-        convert::ConvertAnswer::Converted(r) => put_record(b" 0, record", r),
+fn put_converted(answer: Result<segment::Record, Refusal>) {
+    match answer {
+        Ok(r) => put_record(b" 0, record", r),
+        Err(refusal) => put_refused(refusal),
     }
     case_lines::end_line();
 }
 
-fn put_marked(a: withdraw::MarkAnswer) {
-    match a {
-        withdraw::MarkAnswer::Refused(k) => case_lines::put(k as u64),
-        withdraw::MarkAnswer::Changed(n) => case_lines::put_named(b" 0, changed", n as u64),
+fn put_marked(answer: Result<u32, Refusal>) {
+    match answer {
+        Ok(n) => case_lines::put_named(b" 0, changed", u64::from(n)),
+        Err(refusal) => put_refused(refusal),
     }
     case_lines::end_line();
 }
 
 fn put_join(
-    a: merge::Answer,
+    answer: Result<merge::Numbers, Refusal>,
     ids: &[u32],
     offsets: &[u32],
     values: &[u64],
@@ -90,7 +97,7 @@ fn put_join(
     map: &[u32],
     work: &[u8],
 ) {
-    put_answer(a);
+    put_answer(answer);
     case_lines::put_list(b"  ids", ids);
     case_lines::put_list(b"  offsets", offsets);
     case_lines::put_list(b"  values", values);
@@ -114,13 +121,8 @@ fn join_case(
     reader: &mut Reader,
     mode: u32,
     required: u32,
-    records: &[segment::RecordNumbers],
-    ids: &[u32],
-    offsets: &[u32],
-    values: &[u64],
-    lengths: &[u32],
-    bytes: &[u8],
-    alive: &[u64],
+    records: &[RecordNumbers],
+    sections: &Sections,
     addresses: &[[u32; 2]],
 ) {
     let wc = room(reader);
@@ -144,16 +146,11 @@ fn join_case(
     let out_lengths = &mut lengths_memory[..lc];
     let out_bytes = &mut bytes_memory[..bc];
     let out_map = &mut map_memory[..mc];
-    let a = merge::join(
+    let answer = merge::join(
         mode,
         required,
         records,
-        ids,
-        offsets,
-        values,
-        lengths,
-        bytes,
-        alive,
+        sections,
         addresses,
         work,
         out_ids,
@@ -164,7 +161,7 @@ fn join_case(
         out_map,
     );
     put_join(
-        a,
+        answer,
         out_ids,
         out_offsets,
         out_values,
@@ -175,35 +172,17 @@ fn join_case(
     );
 }
 
-fn time_case(
-    reader: &mut Reader,
-    records: &[segment::RecordNumbers],
-    ids: &[u32],
-    offsets: &[u32],
-    values: &[u64],
-    lengths: &[u32],
-    bytes: &[u8],
-    alive: &[u64],
-) {
+fn time_case(reader: &mut Reader, records: &[RecordNumbers], sections: &Sections) {
     let n = room(reader);
     let mut memory = [[9u32; 2]; 300];
     let out = &mut memory[..n];
-    let a = time_order::time_order(records, ids, offsets, values, lengths, bytes, alive, out);
-    put_times(a);
+    let answer = time_order::time_order(records, sections, out);
+    put_times(answer);
     case_lines::put_addresses(b"  addresses", out);
 }
 
 // The first record alone, where there is one.
-fn convert_case(
-    reader: &mut Reader,
-    records: &[segment::RecordNumbers],
-    ids: &[u32],
-    offsets: &[u32],
-    values: &[u64],
-    lengths: &[u32],
-    bytes: &[u8],
-    alive: &[u64],
-) {
+fn convert_case(reader: &mut Reader, records: &[RecordNumbers], sections: &Sections) {
     let ic = room(reader);
     let oc = room(reader);
     let mut ids_memory = [9u32; 300];
@@ -211,19 +190,9 @@ fn convert_case(
     let out_ids = &mut ids_memory[..ic];
     let out_offsets = &mut offsets_memory[..oc];
     if let [first, ..] = records {
-        let r = segment::record_at(records, 0);
-        let a = convert::convert(
-            r,
-            ids,
-            offsets,
-            values,
-            lengths,
-            bytes,
-            alive,
-            out_ids,
-            out_offsets,
-        );
-        put_converted(a);
+        let r = segment::Record::from(*first);
+        let answer = convert::convert(r, sections, out_ids, out_offsets);
+        put_converted(answer);
         case_lines::put_list(b"  ids", out_ids);
         case_lines::put_list(b"  offsets", out_offsets);
     }
@@ -231,10 +200,10 @@ fn convert_case(
 
 fn mark_one(
     entry: u64,
-    record: &mut segment::RecordNumbers,
+    record: &mut RecordNumbers,
     alive: &mut [u64],
     row: u32,
-) -> withdraw::MarkAnswer {
+) -> Result<u32, Refusal> {
     if entry == 3 {
         return withdraw::withdraw(record, alive, row);
     }
@@ -244,13 +213,13 @@ fn mark_one(
 // The calls of one row are for cases that name one.
 fn mark(
     entry: u64,
-    record: &mut segment::RecordNumbers,
+    record: &mut RecordNumbers,
     alive: &mut [u64],
     rows: &[u32],
-) -> withdraw::MarkAnswer {
+) -> Result<u32, Refusal> {
     if entry < 5 {
-        if 0 < rows.len() {
-            return mark_one(entry, record, alive, rows[0]);
+        if let [row, ..] = rows {
+            return mark_one(entry, record, alive, *row);
         }
     }
     if entry == 5 {
@@ -260,18 +229,13 @@ fn mark(
 }
 
 // The first record alone, where there is one.
-fn mark_case(
-    reader: &mut Reader,
-    entry: u64,
-    records: &[segment::RecordNumbers],
-    alive: &mut [u64],
-) {
+fn mark_case(reader: &mut Reader, entry: u64, records: &[RecordNumbers], alive: &mut [u64]) {
     let mut rows = [0u32; 300];
     let n = reader.list(&mut rows);
     if let [first, ..] = records {
-        let mut record = records[0];
-        let a = mark(entry, &mut record, alive, &rows[..n]);
-        put_marked(a);
+        let mut record = *first;
+        let answer = mark(entry, &mut record, alive, &rows[..n]);
+        put_marked(answer);
         put_record(b"  record", segment::Record::from(record));
         case_lines::end_line();
         case_lines::put_list(b"  alive", alive);
@@ -281,30 +245,19 @@ fn mark_case(
 fn run(
     reader: &mut Reader,
     call: Call,
-    records: &[segment::RecordNumbers],
-    ids: &[u32],
-    offsets: &[u32],
-    values: &[u64],
-    lengths: &[u32],
-    bytes: &[u8],
-    alive: &mut [u64],
+    records: &[RecordNumbers],
+    sections: &Sections,
     addresses: &[[u32; 2]],
 ) {
     match call.entry {
-        1 => time_case(reader, records, ids, offsets, values, lengths, bytes, alive),
-        2 => convert_case(reader, records, ids, offsets, values, lengths, bytes, alive),
-        3.. => mark_case(reader, call.entry, records, alive),
+        1 => time_case(reader, records, sections),
+        2 => convert_case(reader, records, sections),
         _ => join_case(
             reader,
             call.mode,
             call.required,
             records,
-            ids,
-            offsets,
-            values,
-            lengths,
-            bytes,
-            alive,
+            sections,
             addresses,
         ),
     }
@@ -349,18 +302,19 @@ fn show_case(reader: &mut Reader) {
     let bc = reader.list(&mut bytes);
     let wc = reader.list(&mut alive);
     let ac = reader.list(&mut addresses);
-    run(
-        reader,
-        call,
-        &records[..rc],
-        &ids[..ic],
-        &offsets[..oc],
-        &values[..vc],
-        &lengths[..lc],
-        &bytes[..bc],
-        &mut alive[..wc],
-        &addresses[..ac],
-    );
+    if 3 <= call.entry {
+        mark_case(reader, call.entry, &records[..rc], &mut alive[..wc]);
+        return;
+    }
+    let sections = Sections {
+        ids: &ids[..ic],
+        offsets: &offsets[..oc],
+        values: &values[..vc],
+        lengths: &lengths[..lc],
+        bytes: &bytes[..bc],
+        alive: &alive[..wc],
+    };
+    run(reader, call, &records[..rc], &sections, &addresses[..ac]);
 }
 
 fn main() {

@@ -3,7 +3,8 @@
 #![tactic(auto)]
 
 use case_text::Reader;
-use time_order::TimeAnswer;
+use refusal::Refusal;
+use segment::Sections;
 
 fn show_number(n: u32) {
     io::write_all(1, b" ");
@@ -21,14 +22,15 @@ fn show_pairs(out: &[[u32; 2]]) {
     }
 }
 
-fn show_answer(answer: TimeAnswer) {
+fn show_answer(answer: Result<usize, Refusal>) {
     match answer {
-        TimeAnswer::Sorted(n) => {
+        Ok(n) => {
             io::write_all(1, b"0 ");
             io::print_hex(1, n as u64, 1);
         }
-        TimeAnswer::Refused(k) => {
-            io::print_hex(1, u64::from(k), 1);
+        Err(refusal) => {
+            let number = u32::from(refusal);
+            io::print_hex(1, u64::from(number), 1);
             io::write_all(1, b" 0");
         }
     }
@@ -52,16 +54,15 @@ fn show_case(reader: &mut Reader) {
     let bc = reader.list(&mut bytes);
     let ac = reader.list(&mut alive);
     let space = reader.count(96);
-    let answer = time_order::time_order(
-        &records[..rc],
-        &ids[..ic],
-        &offsets[..oc],
-        &values[..vc],
-        &lengths[..lc],
-        &bytes[..bc],
-        &alive[..ac],
-        &mut out[..space],
-    );
+    let sections = Sections {
+        ids: &ids[..ic],
+        offsets: &offsets[..oc],
+        values: &values[..vc],
+        lengths: &lengths[..lc],
+        bytes: &bytes[..bc],
+        alive: &alive[..ac],
+    };
+    let answer = time_order::time_order(&records[..rc], &sections, &mut out[..space]);
     show_answer(answer);
     show_pairs(&out[..space]);
     end_line();
