@@ -52,7 +52,7 @@ fn fill_if(p: Stand, ids: &[u32], work: &mut [u8]) {
 // The guesses of all segments.
 fn fill_guesses(stands: &[StandNumbers], ids: &[u32], work: &mut [u8]) {
     for &row in stands {
-        fill_if(stands::stand_of(row), ids, work);
+        fill_if(Stand::from(row), ids, work);
     }
 }
 
@@ -130,7 +130,7 @@ fn all_plain(to: u32, stands: &[StandNumbers]) -> bool
 {
     stands
         .iter()
-        .all(|&row| is_plain(to, stands::stand_of(row)))
+        .all(|&row| is_plain(to, Stand::from(row)))
 }
 
 // Each row's word: of such columns alone there is nothing else to look up.

@@ -85,7 +85,7 @@ pub fn stacked_ids(stands: &[StandNumbers], ids: &[u32], offsets: &[u32], out: &
     let mut at = 0;
     let mut first = 0;
     for &row in stands {
-        let p = stands::stand_of(row);
+        let p = Stand::from(row);
         at = put_segment_ids(p, ids, offsets, first, out, at);
         first += p.rows as u32;
     }
@@ -109,7 +109,7 @@ pub fn stacked_offsets(
     let mut at = 1;
     let mut total = 0;
     for &row in stands {
-        let p = stands::stand_of(row);
+        let p = Stand::from(row);
         at = put_segment_totals(p, ids, offsets, total, out, at);
         total += p.count as u32;
     }

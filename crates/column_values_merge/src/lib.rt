@@ -117,7 +117,7 @@ pub fn stacked_values(
 {
     let mut at = 0;
     for &row in stands {
-        let p = stands::stand_of(row);
+        let p = Stand::from(row);
         let words = &values[p.values.from..p.values.to];
         append_words(to, p.typ, p.map, words, map, out, at);
         at += words.len();

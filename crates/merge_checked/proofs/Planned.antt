@@ -26,8 +26,7 @@ use Rattle.census.specs.Census.{counted_all}
 use Rattle.census.proofs.Settled.{tally_is as counted_is}
 use Rattle.census.proofs.Rows.{count-sum, count-is}
 use Rattle.census.proofs.Table.{Tallied, tallied}
-use Rattle.merge_type.specs.declared.TypeAnswer.{TypeAnswer}
-use Rattle.merge_type.specs.declared.TypeAnswer.TheVariants.{Wrong, Joined}
+use Rattle.std.proofs.Common.{Option, None, Some}
 use Rattle.merge_type.specs.Parts.{Coded, type_answer}
 use Rattle.merge_type.proofs.Rules.{answer-is}
 use Rattle.merge_column.proofs.Index.{stacked-length}
@@ -96,7 +95,7 @@ module _ {mode required : ℕ} {records : List (List ℕ)} {ids offsets values l
   pub types_coded : Coded stands
   types_coded = record { each = λ k h. table.small k (subst (λ (n : ℕ). k < n) table.size h) }
 
-  type-is : type_answer required stands ≡ cond (types_wrong required ss) Wrong (Joined (joined_type required ss))
+  type-is : type_answer required stands ≡ cond (types_wrong required ss) None (Some (joined_type required ss))
   type-is = answer-is required (typed table)
 
   sums : Tallied tally ss
@@ -201,16 +200,16 @@ module _ {mode required : ℕ} {records : List (List ℕ)} {ids offsets values l
         ≡ cond (types_wrong required ss) (Err Types) (cond (output_too_short i) (Err OutputSpace) (Ok shape))
     unfolding plan_for plan_of
     plan-is =
-        ap (λ (y : TypeAnswer). plan_by y (cond (eqb mode 0) tally.rows (length addresses)) tally space) type-is
+        ap (λ (y : Option ℕ). plan_by y (cond (eqb mode 0) tally.rows (length addresses)) tally space) type-is
         ∙ go (types_wrong required ss)
       where
-        column : plan_by (Joined (joined_type required ss)) (cond (eqb mode 0) tally.rows (length addresses)) tally space ≡ cond (output_too_short i) (Err OutputSpace) (Ok shape)
+        column : plan_by (Some (joined_type required ss)) (cond (eqb mode 0) tally.rows (length addresses)) tally space ≡ cond (output_too_short i) (Err OutputSpace) (Ok shape)
         column =
             (λ j. cond (enough_for (shape_is j) (sums.bytes j) space) (Ok (shape_is j)) (Err OutputSpace))
             ∙ ap (λ (x : Bool). cond x (Ok shape) (Err OutputSpace)) enough-is
             ∙ not-cond (output_too_short i) (Ok shape) (Err OutputSpace)
 
-        go : (t : Bool) → plan_by (cond t Wrong (Joined (joined_type required ss))) (cond (eqb mode 0) tally.rows (length addresses)) tally space
+        go : (t : Bool) → plan_by (cond t None (Some (joined_type required ss))) (cond (eqb mode 0) tally.rows (length addresses)) tally space
             ≡ cond t (Err Types) (cond (output_too_short i) (Err OutputSpace) (Ok shape))
         go true = refl
         go false = column

@@ -19,8 +19,7 @@ use Rattle.stands.specs.Stack.{stacked_widths}
 use Rattle.column_values_merge.specs.Stack.{stacked_words}
 use Rattle.column_index_shuffled.specs.Order.{ordered_words}
 use Rattle.census.specs.declared.Tally.{Tally}
-use Rattle.merge_type.specs.declared.TypeAnswer.{TypeAnswer}
-use Rattle.merge_type.specs.declared.TypeAnswer.TheVariants.{Wrong, Joined}
+use Rattle.std.proofs.Common.{Option, None, Some}
 use Rattle.merge_type.specs.Parts.{type_answer, held_pair, any_thinned}
 use Rattle.merge_column.specs.declared.Shape.{Shape}
 use Rattle.merge_column.specs.declared.Space.{Space}
@@ -116,15 +115,15 @@ module _ (typ rows : ℕ) (t : Tally) (space : Space) {class ids offsets : ℕ} 
 
 -- ---- the plan
 
-module _ (mode required : ℕ) (stands : List (List ℕ)) (addresses : ℕ) (t : Tally) (space : Space) {x : TypeAnswer} (e : x ≡ type_answer required stands) where
-  pub planned_wrong : x ≡ Wrong → Err Types ≡ plan_for mode required stands addresses t space
+module _ (mode required : ℕ) (stands : List (List ℕ)) (addresses : ℕ) (t : Tally) (space : Space) {x : Option ℕ} (e : x ≡ type_answer required stands) where
+  pub planned_wrong : x ≡ None → Err Types ≡ plan_for mode required stands addresses t space
   unfolding plan_for
-  planned_wrong q = sym (ap (λ (y : TypeAnswer). plan_by y (cond (eqb mode 0) t.rows addresses) t space) (sym e ∙ q))
+  planned_wrong q = sym (ap (λ (y : Option ℕ). plan_by y (cond (eqb mode 0) t.rows addresses) t space) (sym e ∙ q))
 
-  pub planned_column : {typ : ℕ} → x ≡ Joined typ → {r : Result Shape Refusal} {rows : ℕ} → rows ≡ cond (eqb mode 0) t.rows addresses → r ≡ plan_of typ rows t space → r ≡ plan_for mode required stands addresses t space
+  pub planned_column : {typ : ℕ} → x ≡ Some typ → {r : Result Shape Refusal} {rows : ℕ} → rows ≡ cond (eqb mode 0) t.rows addresses → r ≡ plan_of typ rows t space → r ≡ plan_for mode required stands addresses t space
   unfolding plan_for
   planned_column {typ} q we re =
-      re ∙ ap (λ (n : ℕ). plan_of typ n t space) we ∙ sym (ap (λ (y : TypeAnswer). plan_by y (cond (eqb mode 0) t.rows addresses) t space) (sym e ∙ q))
+      re ∙ ap (λ (n : ℕ). plan_of typ n t space) we ∙ sym (ap (λ (y : Option ℕ). plan_by y (cond (eqb mode 0) t.rows addresses) t space) (sym e ∙ q))
 
 -- ---- what the fills leave, over the widths and the words by mode
 

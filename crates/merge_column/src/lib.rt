@@ -144,7 +144,7 @@ pub fn measure(
     requires values_bound { t.values ≤ 4294967294 }
     ensures { result ≡ plan_for mode required stands.now addresses t space }
 {
-    let merge_type::TypeAnswer::Joined(typ) = merge_type::check_types(required, stands) else {
+    let Some(typ) = merge_type::check_types(required, stands) else {
         return Err(Refusal::Types);
     };
     let rows = rows_of(mode, t.rows, addresses);

@@ -45,7 +45,7 @@ fn fill_all(stands: &[stands::StandNumbers], alive: &[u64], bits: &mut [u8])
     ensures { bits.new ≡ laid_out stands.now alive.now bits.old (length stands.now) }
 {
     for &numbers in stands {
-        let p = stands::stand_of(numbers);
+        let p = stands::Stand::from(numbers);
         let words = &alive[p.alive.from..p.alive.to];
         fill_bits(p.flag, words, p.rows, bits, p.work);
     }

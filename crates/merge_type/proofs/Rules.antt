@@ -1,12 +1,11 @@
 -- The answer by the columns where they stand, and that it is the definitions' for the segments that they stand for. Assumes nothing.
-use mathlib.Core.Path.{◌≡◌, refl, sym, ap, ◌∙◌}
+use mathlib.Core.Path.{◌≡◌, refl, ap, ◌∙◌}
 use mathlib.Core.Bool.{Bool, true, false, not, cond, ◌&&◌, ◌||◌}
 use mathlib.Core.List.{List, [], ◌∷◌, map}
 use Prim.Native.Nat.{ℕ, suc, ◌<◌, zero-le, suc-le-suc}
 use native.Mathlib.Omega.{arith}
 use lib.Dec.{eqb, ltb}
 use lib.ListN.{length, get_or}
-use borrow.Author.Tests.{not-true, not-false}
 use Rattle.definitions.specs.Lists.{all, any, filter}
 use Rattle.definitions.specs.Segment.{Segment, Pair}
 use Rattle.definitions.specs.Row.{no_type, is_dropped, is_held, held_of}

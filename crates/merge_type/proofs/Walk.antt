@@ -1,20 +1,15 @@
 -- The walk over the columns: one column, and what is left behind it. Assumes nothing.
-use mathlib.Core.Path.{◌≡◌, refl, sym, ap, ◌∙◌, subst}
-use mathlib.Core.Bool.{Bool, true, false, not, cond, ◌&&◌, ◌||◌}
+use mathlib.Core.Path.{◌≡◌}
+use mathlib.Core.Bool.{Bool, true, false, cond}
 use mathlib.Core.List.{List, [], ◌∷◌}
-use Prim.Native.Nat.{ℕ, suc, ◌+◌, ◌≤◌, ◌<◌}
+use Prim.Native.Nat.{ℕ, ◌+◌, ◌≤◌, ◌<◌}
 use native.Mathlib.Numerals.{add-one}
 use lib.ListN.{length, drop, drop_of_length-le}
 use lib.Seq.{drop-cons}
-use borrow.Author.Tests.{not-true, not-false}
-use Rattle.definitions.specs.Segment.{Segment, Pair}
-use Rattle.definitions.specs.Types.{is_coercible}
-use Rattle.numerical.specs.declared.Compatible.{Compatible}
-use Rattle.numerical.specs.Seen.{accepted, seen_from}
 use Rattle.stands.specs.declared.Stand.{Stand}
 use Rattle.stands.specs.Stand.{stand_at}
 use Rattle.stands.specs.Look.{pair_at}
-use Rattle.merge_type.specs.Parts.{is_part, Coded, column_of, held_at, held_in, seen_with, becomes, all_become}
+use Rattle.merge_type.specs.Parts.{is_part, column_of, held_in}
 
 -- ---- a turn at the column s, where b is whether it is held, as the code found
 

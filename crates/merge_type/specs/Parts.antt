@@ -7,8 +7,7 @@ use Rattle.definitions.specs.Types.{is_coercible, type_of}
 use Rattle.definitions.specs.Answer.{one_category}
 use Rattle.column_type.specs.Codes.{category}
 use Rattle.min_max.specs.Pairs.{pairs_together}
-use Rattle.numerical.specs.declared.Compatible.{Compatible}
-use Rattle.numerical.specs.Seen.{first_of, accepted}
+use Rattle.numerical.specs.Seen.{first_of}
 use Rattle.stands.specs.declared.Stand.{Stand}
 use Rattle.stands.specs.Stand.{stand_of, stand_at}
 use Rattle.stands.specs.Look.{pair_at}
@@ -20,14 +19,6 @@ is_part p = eqb p.held 1 && not (eqb p.typ no_type)
 -- each type is a u32
 pub record Coded (stands : List (List ℕ)) : Type 0 where
   pub each : (k : ℕ) → k < length stands → (stand_at stands k).typ < 4294967296
-
--- ---- one column
-
-unfoldable pub seen_with : Compatible → Stand → Compatible
-seen_with seen p = cond (is_part p) (accepted seen p.typ (pair_at p)) seen
-
-unfoldable pub becomes : ℕ → Stand → Bool
-becomes u p = not (is_part p) || is_coercible p.typ u (pair_at p)
 
 -- ---- the columns
 

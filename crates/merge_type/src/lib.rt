@@ -7,8 +7,8 @@ ghost use Rattle.definitions.specs.Types.{type_of};
 ghost use Rattle.min_max.specs.Keys.{pair_in};
 ghost use Rattle.numerical.specs.Seen.{none_seen, seen_from};
 ghost use Rattle.stands.specs.Look.{pair_at};
-ghost use Rattle.merge_type.specs.Parts.{is_part, types_in, Coded, held_in, seen_with, becomes, one_among, all_become, type_answer, held_pair, is_thinned, any_thinned, fits_first};
-ghost use Rattle.merge_type.specs.Only.{is_second, next_first, types_from};
+ghost use Rattle.merge_type.specs.Parts.{is_part, types_in, Coded, held_in, one_among, all_become, type_answer, held_pair, is_thinned, any_thinned, fits_first};
+ghost use Rattle.merge_type.specs.Only.{types_from};
 ghost use Rattle.merge_type.specs.Found.{found_with};
 
 use min_max::Range;
@@ -19,22 +19,6 @@ fn fits_first(first: u32, t: u32) -> bool
     ensures { result ≡ fits_first first t }
 {
     first == 255 || t == 255 || column_type::category_of(first) == column_type::category_of(t)
-}
-
-// Whether the required type and those of the present columns are of one category.
-fn one_category(required: u32, stands: &[StandNumbers]) -> bool
-    requires { Coded stands.now }
-    ensures { result ≡ one_among required (types_in stands.now) }
-{
-    let mut first = required;
-    for &row in stands {
-        let t = Stand::from(row).typ as u32;
-        if !fits_first(first, t) {
-            return false;
-        }
-        first = numerical::first_type(first, t);
-    }
-    true
 }
 
 #[tactic(auto, unfolding(crate::specs::Parts::is_part))]
@@ -54,65 +38,85 @@ fn range_at(p: Stand) -> Range
     }
 }
 
-// What the held columns say of the joined type.
-fn seen_columns(stands: &[StandNumbers]) -> numerical::Compatible
-    requires { Coded stands.now }
-    ensures { result ≡ seen_from none_seen (held_in stands.now) }
-{
-    let mut seen = numerical::Compatible::none();
-    for &row in stands {
-        let p = Stand::from(row);
-        if is_part(p) {
-            seen = seen.accept(p.typ as u32, range_at(p));
-        }
-    }
-    seen
+// The columns where they stand; each type is a u32.
+#[derive(Clone, Copy)]
+struct Columns<'a> {
+    stands: &'a [StandNumbers],
+    ghost coded: { Coded stands.now },
 }
 
-// Whether every held column becomes type u.
-fn all_become(u: u32, stands: &[StandNumbers]) -> bool
-    requires { Coded stands.now }
-    ensures { result ≡ all_become u (held_in stands.now) }
-{
-    for &row in stands {
-        let p = Stand::from(row);
-        if is_part(p) && !numerical::is_coercible(p.typ as u32, u, range_at(p)) {
-            return false;
-        }
-    }
-    true
-}
-
-// The only type of the held columns, 255 for none; None where there are several.
-fn held_types(stands: &[StandNumbers]) -> Option<u32>
-    requires { Coded stands.now }
-    ensures { result ≡ types_from 255 stands.now }
-{
-    let mut first = 255;
-    for &row in stands {
-        let p = Stand::from(row);
-        if is_part(p) {
-            let t = p.typ as u32;
-            if first != 255 && first != t {
-                return None;
+impl Columns<'_> {
+    // Whether the required type and those of the present columns are of one category.
+    fn one_category(&self, required: u32) -> bool
+        ensures { result ≡ one_among required (types_in self.now.stands.now) }
+    {
+        let mut first = required;
+        for &row in self.stands {
+            let t = Stand::from(row).typ as u32;
+            if !fits_first(first, t) {
+                return false;
             }
-            first = t;
+            first = numerical::first_type(first, t);
         }
+        true
     }
-    Some(first)
-}
 
-// The joined type.
-fn type_after_merge(required: u32, stands: &[StandNumbers]) -> u32
-    requires { Coded stands.now }
-    ensures { result ≡ type_of required (held_in stands.now) }
-{
-    if required != 255 {
-        return required;
+    // What the held columns say of the joined type.
+    fn seen(&self) -> numerical::Compatible
+        ensures { result ≡ seen_from none_seen (held_in self.now.stands.now) }
+    {
+        let mut seen = numerical::Compatible::none();
+        for &row in self.stands {
+            let p = Stand::from(row);
+            if is_part(p) {
+                seen = seen.accept(p.typ as u32, range_at(p));
+            }
+        }
+        seen
     }
-    match held_types(stands) {
-        Some(t) => t,
-        None => seen_columns(stands).joined_type(),
+
+    // Whether every held column becomes type u.
+    fn all_become(&self, u: u32) -> bool
+        ensures { result ≡ all_become u (held_in self.now.stands.now) }
+    {
+        for &row in self.stands {
+            let p = Stand::from(row);
+            if is_part(p) && !numerical::is_coercible(p.typ as u32, u, range_at(p)) {
+                return false;
+            }
+        }
+        true
+    }
+
+    // The only type of the held columns, 255 for none; None where there are several.
+    fn only_type(&self) -> Option<u32>
+        ensures { result ≡ types_from 255 self.now.stands.now }
+    {
+        let mut first = 255;
+        for &row in self.stands {
+            let p = Stand::from(row);
+            if is_part(p) {
+                let t = p.typ as u32;
+                if first != 255 && first != t {
+                    return None;
+                }
+                first = t;
+            }
+        }
+        Some(first)
+    }
+
+    // The joined type.
+    fn joined_type(&self, required: u32) -> u32
+        ensures { result ≡ type_of required (held_in self.now.stands.now) }
+    {
+        if required != 255 {
+            return required;
+        }
+        match self.only_type() {
+            Some(t) => t,
+            None => self.seen().joined_type(),
+        }
     }
 }
 
@@ -122,14 +126,12 @@ pub fn check_types(required: u32, stands: &[StandNumbers]) -> Option<u32>
     requires { Coded stands.now }
     ensures { result ≡ type_answer required stands.now }
 {
-    if !one_category(required, stands) {
+    let columns = Columns { stands };
+    if !columns.one_category(required) {
         return None;
     }
-    let u = type_after_merge(required, stands);
-    if !all_become(u, stands) {
-        return None;
-    }
-    Some(u)
+    let u = columns.joined_type(required);
+    columns.all_become(u).then_some(u)
 }
 
 // ---- the joined pair from the held columns' own
@@ -150,17 +152,18 @@ fn find_pair(to: u32, found: Option<Range>, p: Stand) -> Option<Range>
 pub fn held_pair(to: u32, stands: &[StandNumbers]) -> Range
     ensures { pair_in result ≡ held_pair to stands.now }
 {
+    let none = Range {
+        least: 0,
+        greatest: 0,
+    };
     if 1 < to {
-        return Range {
-            least: 0,
-            greatest: 0,
-        };
+        return none;
     }
     let mut found = None;
     for &row in stands {
         found = find_pair(to, found, Stand::from(row));
     }
-    found.unwrap_or(Range { least: 0, greatest: 0 })
+    found.unwrap_or(none)
 }
 
 // Whether a column is held and has an alive set.

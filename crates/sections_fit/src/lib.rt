@@ -59,7 +59,7 @@ pub fn totals_of(records: &[segment::RecordNumbers]) -> Totals
         alive: 0,
     };
     for &r in records {
-        t = plus(t, segment::record_of(r));
+        t = plus(t, segment::Record::from(r));
     }
     t
 }
@@ -87,7 +87,7 @@ fn all_codes_fit(records: &[segment::RecordNumbers]) -> bool
 {
     records
         .iter()
-        .all(|&r| segment_fit::codes_fit(segment::record_of(r)))
+        .all(|&r| segment_fit::codes_fit(segment::Record::from(r)))
 }
 
 #[tactic(auto, unfolding(crate::specs::Walks::known_codes))]
@@ -103,7 +103,7 @@ fn known_codes(mode: u32, required: u32, records: &[segment::RecordNumbers]) -> 
 fn none_old(records: &[segment::RecordNumbers]) -> bool
     ensures { result ≡ none_old (records_of records.now) }
 {
-    records.iter().all(|&r| segment::record_of(r).kind != 3)
+    records.iter().all(|&r| segment::Record::from(r).kind != 3)
 }
 
 // ---- 4
@@ -113,7 +113,7 @@ fn all_lists_fit(records: &[segment::RecordNumbers], mut ids: &[u32], mut offset
     ensures { result ≡ lists_from (records_of records.now) ids.now offsets.now }
 {
     for &r in records {
-        let r = segment::record_of(r);
+        let r = segment::Record::from(r);
         let (own_ids, other_ids) = ids.split_at(r.ids as usize);
         let (own_offsets, other_offsets) = offsets.split_at(r.offsets as usize);
         if !segment_fit::lists_fit(r, own_ids, own_offsets) {
@@ -137,7 +137,7 @@ fn all_values_fit(
     ensures { result ≡ values_from (records_of records.now) values.now lengths.now bytes.now }
 {
     for &r in records {
-        let r = segment::record_of(r);
+        let r = segment::Record::from(r);
         let (own_values, other_values) = values.split_at(segment::value_words(r));
         let (own_lengths, other_lengths) = lengths.split_at(r.terms as usize);
         if !segment_fit::values_fit(r, own_values, own_lengths, bytes) {
@@ -158,7 +158,7 @@ fn all_alive_fit(mode: u32, records: &[segment::RecordNumbers], mut alive: &[u64
     ensures { result ≡ alive_fits_from mode (records_of records.now) alive.now }
 {
     for &r in records {
-        let r = segment::record_of(r);
+        let r = segment::Record::from(r);
         let (own, others) = alive.split_at(segment::alive_words(r));
         if !segment_fit::alive_fits(mode, r, own) {
             return false;

@@ -211,7 +211,7 @@ pub fn fill_stands(records: &[segment::RecordNumbers], stands: &mut [StandNumber
 {
     let mut p = before_all();
     for (s, &r) in records.iter().enumerate() {
-        p = next(p, segment::record_of(r));
+        p = next(p, segment::Record::from(r));
         stands[s] = StandNumbers::from(p);
     }
 }

@@ -61,7 +61,7 @@ pub fn mark_terms(
     ensures { marks.new ≡ marked_all stands.now ids.now offsets.now values.now alive.now marks.old }
 {
     for &numbers in stands {
-        let p = stands::stand_of(numbers);
+        let p = Stand::from(numbers);
         let own = &mut marks[p.terms.from..p.terms.to];
         mark_segment(p, ids, offsets, values, alive, own);
     }

@@ -57,7 +57,7 @@ fn all_times_fit(records: &[segment::RecordNumbers], offsets: &[u32], values: &[
     let mut o: usize = 0;
     let mut v: usize = 0;
     for &numbers in records {
-        let r = segment::record_of(numbers);
+        let r = segment::Record::from(numbers);
         let o_end = o + r.offsets as usize;
         let v_end = v + segment::value_words(r);
         if !times_fit(r, &offsets[o..o_end], &values[v..v_end]) {
@@ -78,7 +78,7 @@ fn all_alive(records: &[segment::RecordNumbers]) -> usize
 {
     let mut n: usize = 0;
     for &numbers in records {
-        n += segment::record_of(numbers).alive as usize;
+        n += segment::Record::from(numbers).alive as usize;
     }
     n
 }

@@ -5,24 +5,24 @@ use Rattle.column_index_stacked.proofs.stacked_ids.Goals as goal
 
 pub put_segment_ids-at-requires-clause-rows_bound : goal.put_segment_ids-at-requires-clause-rows_bound
 put_segment_ids-at-requires-clause-rows_bound c =
-    omega (arith, now_rows c.requires.all_sound c.loop-row-test.true c.stand_of-p.ensures)
+    omega (arith, now_rows c.requires.all_sound c.loop-row-test.true c.from-p.ensures)
 
 pub put_segment_ids-at-requires-clause-offsets_in_bounds : goal.put_segment_ids-at-requires-clause-offsets_in_bounds
 put_segment_ids-at-requires-clause-offsets_in_bounds c =
-    ids-room c.requires.all_sound c.loop-row-test.true c.stand_of-p.ensures c.loop-row.first c.loop-row.invariant.1
+    ids-room c.requires.all_sound c.loop-row-test.true c.from-p.ensures c.loop-row.first c.loop-row.invariant.1
 
 pub overflow_cast-first : goal.overflow_cast-first
 overflow_cast-first c =
-    omega (arith, now_rows c.requires.all_sound c.loop-row-test.true c.stand_of-p.ensures)
+    omega (arith, now_rows c.requires.all_sound c.loop-row-test.true c.from-p.ensures)
 
 pub overflow_add-first : goal.overflow_add-first
 overflow_add-first c =
-    omega (arith, now_rows c.requires.all_sound c.loop-row-test.true c.stand_of-p.ensures)
+    omega (arith, now_rows c.requires.all_sound c.loop-row-test.true c.from-p.ensures)
 
 pub loop-row-preserved : goal.loop-row-preserved
 loop-row-preserved c = (
-  omega (arith, now_rows c.requires.all_sound c.loop-row-test.true c.stand_of-p.ensures),
-  ids_more c.requires.all_sound c.loop-row-test.true c.stand_of-p.ensures c.loop-row.first c.loop-row.invariant.1 c.put_segment_ids-at.ensures.value c.put_segment_ids-at.ensures.out_after,
+  omega (arith, now_rows c.requires.all_sound c.loop-row-test.true c.from-p.ensures),
+  ids_more c.requires.all_sound c.loop-row-test.true c.from-p.ensures c.loop-row.first c.loop-row.invariant.1 c.put_segment_ids-at.ensures.value c.put_segment_ids-at.ensures.out_after,
 )
 
 pub returns-clause-value : goal.returns-clause-value

@@ -10,24 +10,24 @@ loop-row-init c =
 
 pub put_segment_totals-at-requires-clause-count_bound : goal.put_segment_totals-at-requires-clause-count_bound
 put_segment_totals-at-requires-clause-count_bound c =
-    omega (arith, now_values c.requires.all_sound c.loop-row-test.true c.stand_of-p.ensures)
+    omega (arith, now_values c.requires.all_sound c.loop-row-test.true c.from-p.ensures)
 
 pub put_segment_totals-at-requires-clause-offsets_in_bounds : goal.put_segment_totals-at-requires-clause-offsets_in_bounds
 put_segment_totals-at-requires-clause-offsets_in_bounds c =
-    totals_room c.requires.all_sound c.loop-row-test.true c.stand_of-p.ensures c.loop-row.total c.loop-row.invariant.1
+    totals_room c.requires.all_sound c.loop-row-test.true c.from-p.ensures c.loop-row.total c.loop-row.invariant.1
 
 pub overflow_cast-total : goal.overflow_cast-total
 overflow_cast-total c =
-    omega (arith, now_values c.requires.all_sound c.loop-row-test.true c.stand_of-p.ensures)
+    omega (arith, now_values c.requires.all_sound c.loop-row-test.true c.from-p.ensures)
 
 pub overflow_add-total : goal.overflow_add-total
 overflow_add-total c =
-    omega (arith, now_values c.requires.all_sound c.loop-row-test.true c.stand_of-p.ensures)
+    omega (arith, now_values c.requires.all_sound c.loop-row-test.true c.from-p.ensures)
 
 pub loop-row-preserved : goal.loop-row-preserved
 loop-row-preserved c = (
-  omega (arith, now_values c.requires.all_sound c.loop-row-test.true c.stand_of-p.ensures),
-  totals_more c.requires.all_sound c.loop-row-test.true c.stand_of-p.ensures c.loop-row.total c.loop-row.invariant.1 c.put_segment_totals-at.ensures.value c.put_segment_totals-at.ensures.out_after,
+  omega (arith, now_values c.requires.all_sound c.loop-row-test.true c.from-p.ensures),
+  totals_more c.requires.all_sound c.loop-row-test.true c.from-p.ensures c.loop-row.total c.loop-row.invariant.1 c.put_segment_totals-at.ensures.value c.put_segment_totals-at.ensures.out_after,
 )
 
 pub returns-clause-value : goal.returns-clause-value

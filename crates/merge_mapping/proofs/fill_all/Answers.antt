@@ -6,4 +6,4 @@ loop-numbers-init c = laid_start _ _ _
 
 pub loop-numbers-preserved : goal.loop-numbers-preserved
 loop-numbers-preserved c =
-    laid_next _ _ _ _ c.stand_of-p.ensures c.loop-numbers.invariant c.fill_bits.ensures
+    laid_next _ _ _ _ c.from-p.ensures c.loop-numbers.invariant c.fill_bits.ensures

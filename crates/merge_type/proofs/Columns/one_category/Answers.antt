@@ -2,7 +2,7 @@ use mathlib.Core.Path.{refl, ap, ◌∙◌}
 use Rattle.lists.proofs.Tests.{fell, went}
 use Rattle.stands.specs.declared.Stand.{Stand}
 use Rattle.merge_type.proofs.Category.{same_step, same_end, same-is-one}
-use Rattle.merge_type.proofs.one_category.Goals as goal
+use Rattle.merge_type.proofs.Columns.one_category.Goals as goal
 
 pub returns-then-not-fits_first : goal.returns-then-not-fits_first
 returns-then-not-fits_first c =
