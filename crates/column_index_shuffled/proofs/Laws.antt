@@ -58,9 +58,6 @@ module _ {b : Bool} {whole old rest out : List ℕ} {at : ℕ} (g : Partly b who
 
 -- the first element, written before the others
 module _ (b : Bool) (x : ℕ) (vs old : List ℕ) (r : RoomIf b 0 (length (x ∷ vs)) (length old)) where
-  pub first-room : RoomIf b 0 1 (length old)
-  first-room = record { room = λ e. let k = r.room e in omega arith }
-
   module _ (out : List ℕ) (o : out ≡ put_if b 0 (x ∷ []) old) where
     pub partly_second : Partly b (x ∷ vs) out vs out 1
     unfolding put_if

@@ -2,7 +2,7 @@
 use Prim.Native.Nat.{ℕ, ◌+◌, ◌-◌, ◌≤◌, ◌<◌, zero-le, suc-le-suc}
 use native.Mathlib.Numerals.{add-one}
 use native.Mathlib.Omega.{arith}
-use mathlib.Core.Path.{◌≡◌, refl, sym, ap, ap₂, ◌∙◌, subst}
+use mathlib.Core.Path.{◌≡◌, refl, sym, ap, ap₂, ◌∙◌}
 use mathlib.Core.List.{List, [], ◌∷◌, ◌++◌, map, map-id, map-append}
 use mathlib.Core.Bool.{Bool, true, false, cond}
 use lib.ListN.{length, get_or, set, drop, length-map, length-set, drop_of_length-le}
@@ -14,10 +14,10 @@ use Rattle.runs.specs.Put.{put, looked}
 use Rattle.runs.proofs.Laws.{Filling, fill_room, fill_more, looked-length, put_nil, put_one, put-put, below-part}
 use Rattle.stands.specs.declared.Span.{Span}
 use Rattle.stands.specs.declared.Stand.{Stand}
-use Rattle.stands.specs.Stand.{part, Lies, stand_at}
+use Rattle.stands.specs.Stand.{part, stand_at}
 use Rattle.stands.specs.Look.{values_at}
-use Rattle.column_values_merge.specs.Word.{doubles, coerced_all, words_by, Words, new_words, Worded}
-use Rattle.column_values_merge.specs.Stack.{stacked_words, AllWorded}
+use Rattle.column_values_merge.specs.Word.{doubles, coerced_all, words_by, Words, new_words}
+use Rattle.column_values_merge.specs.Stack.{stacked_words}
 use Rattle.definitions.proofs.Lists.{get_or_in, map_mem}
 
 pub doubles-length : (t : ℕ) (vs : List ℕ) → length (doubles t vs) ≡ length vs
@@ -151,22 +151,16 @@ pub words_done : (to : ℕ) (stands : List (List ℕ)) (values table : List ℕ)
 unfolding stacked_words
 words_done to stands values table s h = rw (drop_of_length-le stands h)
 
-module _ {stands : List (List ℕ)} {values table : List ℕ} (l : AllWorded stands values table) {s : ℕ} (h : s < length stands) {p : Stand} (e : p ≡ stand_at stands s) where
-  pub now_lies : Lies p.values values
-  now_lies = subst (λ (q : Stand). Lies q.values values) (sym e) (l.lie s h)
+module _ (to : ℕ) (stands : List (List ℕ)) (values table : List ℕ) {s : ℕ} (h : s < length stands) {p : Stand} (e : p ≡ stand_at stands s)
+    {start : ℕ} {whole old out : List ℕ} {at : ℕ} (g : Filling start whole old (stacked_words to (drop s stands) values table) out at) where
+  left : stacked_words to (drop s stands) values table ≡ new_words to p table (values_at p values) ++ stacked_words to (drop (s + 1) stands) values table
+  left = words_step to stands values table s h ∙ ap (λ (q : Stand). new_words to q table (values_at q values) ++ stacked_words to (drop (s + 1) stands) values table) (sym e)
 
-  pub now_worded : Worded p table (values_at p values)
-  now_worded = subst (λ (q : Stand). Worded q table (values_at q values)) (sym e) (l.worded s h)
+  pub words-room : at + length (values_at p values) ≤ length out
+  words-room = rw (← words-length to p.typ p.map table (values_at p values)) (fill_room g (new_words to p table (values_at p values)) (stacked_words to (drop (s + 1) stands) values table) left)
 
-  module _ (to : ℕ) {start : ℕ} {whole old out : List ℕ} {at : ℕ} (g : Filling start whole old (stacked_words to (drop s stands) values table) out at) where
-    left : stacked_words to (drop s stands) values table ≡ new_words to p table (values_at p values) ++ stacked_words to (drop (s + 1) stands) values table
-    left = words_step to stands values table s h ∙ ap (λ (q : Stand). new_words to q table (values_at q values) ++ stacked_words to (drop (s + 1) stands) values table) (sym e)
-
-    pub words-room : at + length (values_at p values) ≤ length out
-    words-room = rw (← words-length to p.typ p.map table (values_at p values)) (fill_room g (new_words to p table (values_at p values)) (stacked_words to (drop (s + 1) stands) values table) left)
-
-    pub words_more : {out' : List ℕ} → out' ≡ put at (new_words to p table (values_at p values)) out
-        → Filling start whole old (stacked_words to (drop (s + 1) stands) values table) out' (at + length (values_at p values))
-    words_more {out'} o =
-        fill_more g (new_words to p table (values_at p values)) (stacked_words to (drop (s + 1) stands) values table) left out' (at + length (values_at p values))
-        (ap (λ (n : ℕ). at + n) (sym (words-length to p.typ p.map table (values_at p values)))) o
+  pub words_more : {out' : List ℕ} → out' ≡ put at (new_words to p table (values_at p values)) out
+      → Filling start whole old (stacked_words to (drop (s + 1) stands) values table) out' (at + length (values_at p values))
+  words_more {out'} o =
+      fill_more g (new_words to p table (values_at p values)) (stacked_words to (drop (s + 1) stands) values table) left out' (at + length (values_at p values))
+      (ap (λ (n : ℕ). at + n) (sym (words-length to p.typ p.map table (values_at p values)))) o

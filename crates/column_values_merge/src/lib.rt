@@ -69,8 +69,7 @@ fn new_word(to: u32, typ: usize, part: Span, word: u64, map: &[u32]) -> u64
     }
 }
 
-// Writes the words of a row whose values are those of the segment from g.start to g.end; returns the index after them. A value of one word or two is not
-// copied as a run.
+// Writes the words of a row whose values are those of the segment from g.start to g.end; returns the index after them. One word or two are not copied as a run.
 pub fn append_row(
     to: u32,
     p: Stand,

@@ -2,7 +2,7 @@
 use Prim.Native.Nat.{ℕ, zero, suc, ◌+◌, ◌-◌, ◌*◌, ◌/◌, ◌%◌, ◌^◌, ◌≤◌, ◌<◌}
 use native.Mathlib.Numerals.{add-one}
 use native.Mathlib.Omega.{arith}
-use mathlib.Core.Path.{◌≡◌, refl, sym, ap, ap₂, ◌∙◌, subst}
+use mathlib.Core.Path.{◌≡◌, refl, sym, ap, ap₂, ◌∙◌}
 use mathlib.Core.Bool.{Bool, true, false, ◌&&◌, cond}
 use mathlib.Core.List.{List, [], ◌∷◌, ◌++◌}
 use lib.Dec.{eqb, ltb}
@@ -22,7 +22,7 @@ use Rattle.runs.specs.Put.{put}
 use Rattle.runs.proofs.Laws.{length-put}
 use Rattle.runs.proofs.Zeros.{part-zero}
 use Rattle.lists.proofs.Parts.{run_length}
-use Rattle.merge_mapping.specs.Mapping.{bytes_for, alive_byte, alive_bytes, laid_out, Worded, AllWorded, Room, is_left, without, takes, left_by}
+use Rattle.merge_mapping.specs.Mapping.{bytes_for, alive_byte, alive_bytes, laid_out, Worded, is_left, without, takes, left_by}
 
 -- ---- a segment's bits laid out
 

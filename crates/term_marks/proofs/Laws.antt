@@ -35,7 +35,7 @@ pub set-end : (vs m : List ℕ) (j : ℕ) → length vs ≤ j → set_all (drop 
 unfolding set_all
 set-end vs m j h = rw (drop_of_length-le vs h)
 
-pub set-length : (vs m : List ℕ) → length (set_all vs m) ≡ length m
+set-length : (vs m : List ℕ) → length (set_all vs m) ≡ length m
 unfolding set_all
 set-length [] m = refl
 set-length (v ∷ vs) m = set-length vs (set m v 1) ∙ length-set m v 1
