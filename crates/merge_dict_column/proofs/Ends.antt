@@ -6,7 +6,7 @@ use mathlib.Core.List.{List, [], ◌++◌, map, append-nil}
 use Prim.Native.Nat.{ℕ, zero, suc, ◌+◌, ◌-◌, ◌≤◌, ◌<◌, zero-le}
 use native.Mathlib.Omega.{arith}
 use lib.Dec.{T}
-use lib.ListN.{length, get_or, take, drop, replicate}
+use lib.ListN.{length, take, drop}
 use Rattle.definitions.specs.Lists.{sum, terms_ascending, sort_terms}
 use Rattle.definitions.specs.Segment.{cut}
 use Rattle.definitions.specs.Join.{ordinal_of}
