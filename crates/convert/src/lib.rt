@@ -208,10 +208,10 @@ fn fill(offsets: &[u32], n: usize, out_ids: &mut [u32], out_offsets: &mut [u32])
     ensures out_ids_after { out_ids.new ≡ put 0 (risen_ids 0 offsets.now) out_ids.old }
     ensures out_offsets_after { out_offsets.new ≡ put 0 (0 ∷ risen_ends offsets.now) out_offsets.old }
 {
-    // Stays: a `while`, which ends with k and not with the row; a `for` over the rows would need an end and a `break` beside it.
     out_offsets[0] = 0;
     let mut k: usize = 0;
     let mut row: usize = 0;
+    // Stays: a `while`, which ends with k and not with the row; a `for` over the rows would need an end and a `break` beside it.
     while k < n {
         out_ids[k] = row as u32;
         out_offsets[k + 1] = offsets[row + 1];
