@@ -11,30 +11,8 @@ use Rattle.definitions.specs.Lists.{greatest, any, is_empty, sum}
 use Rattle.definitions.specs.Class.{row_class}
 use Rattle.stands.specs.Width.{id_part}
 use Rattle.census.specs.Census.{census_of}
-use Rattle.census.specs.Class.{kind_class_of, count_class}
+use Rattle.census.specs.Class.{count_class}
 use Rattle.census.proofs.Rows.{count_of, count-is, count-nil, count-cons, count-sum}
-
--- ---- without an alive set
-
-pub kind-empty : (kind rows : ℕ) → kind ≡ 0 → rows ≡ 0 → 0 ≡ kind_class_of kind rows
-unfolding kind_class_of
-kind-empty kind rows e f = rw (e, f)
-
-pub kind-bare : (kind rows : ℕ) → kind ≡ 0 → (rows ≡ 0 → ⊥) → 1 ≡ kind_class_of kind rows
-unfolding kind_class_of
-kind-bare kind rows e f = rw (e, ne_eqb rows 0 f)
-
-pub kind-full : (kind rows : ℕ) → kind ≡ 1 → 0 ≡ kind_class_of kind rows
-unfolding kind_class_of
-kind-full kind rows e = rw e
-
-pub kind-optional : (kind rows : ℕ) → kind ≡ 2 → 1 ≡ kind_class_of kind rows
-unfolding kind_class_of
-kind-optional kind rows e = rw e
-
-pub kind-multi : (kind rows : ℕ) → (kind ≡ 0 → ⊥) → (kind ≡ 1 → ⊥) → (kind ≡ 2 → ⊥) → 2 ≡ kind_class_of kind rows
-unfolding kind_class_of
-kind-multi kind rows a b c = rw (ne_eqb kind 0 a, ne_eqb kind 1 b, ne_eqb kind 2 c)
 
 -- the class of a row of so many values
 abbrev row_class_by : ℕ → ℕ

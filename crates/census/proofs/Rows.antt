@@ -306,23 +306,8 @@ counted-stacked (r ∷ rs) ids offsets words n =
 
 -- ---- a turn of the count by ids
 
-pub sum-next : (f : ℕ → ℕ) (k n x : ℕ) → n ≡ sum_below f k → x ≡ f k → n + x ≡ sum_below f (k + 1)
-sum-next f k n x e h = rw (e, h, add-one k)
-
 pub sum_fits : (f : ℕ → ℕ) (k m n x : ℕ) → k < m → n ≡ sum_below f k → x ≡ f k → n + x ≤ sum_below f m
 sum_fits f k m n x h e q = let a = below_mono f (suc k) m h in omega arith
-
-pub one_at_most : (b : Bool) → cond b 1 0 ≤ 1
-one_at_most true = le_refl 1
-one_at_most false = zero-le
-
-pub width_one : (kind : ℕ) (offsets : List ℕ) (k : ℕ) → kind ≡ 2 → 1 ≡ id_width kind offsets k
-unfolding id_width
-width_one kind offsets k e = rw (eq-eqb kind 2 e)
-
-pub width-between : (kind : ℕ) (offsets : List ℕ) (k a b : ℕ) → (kind ≡ 2 → ⊥) → a ≡ get_or offsets k 0 → b ≡ get_or offsets (k + 1) 0 → b - a ≡ id_width kind offsets k
-unfolding id_width
-width-between kind offsets k a b n e f = rw (ne_eqb kind 2 n, e, f)
 
 -- ascending numbers are at least their places
 asc-long : (os : List ℕ) (j : ℕ) → T (ascending os) → j < length os → j ≤ get_or os j 0
@@ -330,22 +315,6 @@ asc-long os zero h l = zero-le
 asc-long os (suc j) h l = let a = asc-long os j h (omega arith) in let b = asc_step os j h l in omega arith
 
 -- ---- the census by kind
-
-pub listed-none : (p : Stand) → p.kind ≡ 0 → 0 ≡ listed_at p
-unfolding listed_at
-listed-none p e = ap (λ (k : ℕ). cond (eqb k 0) 0 (cond (eqb k 1) p.rows (cond (eqb k 2) (many p.ids) (many p.ids)))) (sym e)
-
-pub listed_every : (p : Stand) → p.kind ≡ 1 → p.rows ≡ listed_at p
-unfolding listed_at
-listed_every p e = ap (λ (k : ℕ). cond (eqb k 0) 0 (cond (eqb k 1) p.rows (cond (eqb k 2) (many p.ids) (many p.ids)))) (sym e)
-
-pub listed-ids : (p : Stand) → (p.kind ≡ 0 → ⊥) → (p.kind ≡ 1 → ⊥) → many p.ids ≡ listed_at p
-unfolding listed_at
-listed-ids p a b = ap₂ (λ (x y : Bool). cond x 0 (cond y p.rows (many p.ids))) (sym (ne_eqb p.kind 0 a)) (sym (ne_eqb p.kind 1 b)) ∙ ap (λ (n : ℕ). cond (eqb p.kind 0) 0 (cond (eqb p.kind 1) p.rows n)) (go (eqb p.kind 2))
-  where
-    go : (c : Bool) → many p.ids ≡ cond c (many p.ids) (many p.ids)
-    go true = refl
-    go false = refl
 
 module _ {p : Stand} {ids offsets words : List ℕ} (k : Countable p ids offsets words) (set : p.flag ≡ 1) where
   words_long : length (alive_set_at p words) ≡ many p.alive

@@ -165,19 +165,15 @@ module _ {old : List (List ℕ)} {ids offsets lengths words : List ℕ} {now : L
   going_long : length now ≡ length old
   going_long = g.filling.kept
 
-  pub going_end : length now ≤ s → (t ≡ tally_from no_tally now ids offsets words) × (now ≡ settled_from 0 0 old ids offsets lengths words)
+  pub going_end : length old ≤ s → (t ≡ tally_from no_tally now ids offsets words) × (now ≡ settled_from 0 0 old ids offsets lengths words)
   unfolding settled_from tally_from
   going_end h =
-      let l : length old ≤ s = omega (arith, going_long) in
-      let n : drop s old ≡ [] = drop_of_length-le old l in
+      let n : drop s old ≡ [] = drop_of_length-le old h in
       let none : settled_from t.terms t.text (drop s old) ids offsets lengths words ≡ [] = ap (λ (l : List (List ℕ)). settled_from t.terms t.text l ids offsets lengths words) n in
       let whole = (fill_end g.filling none).1 ∙ put_whole (settled_from 0 0 old ids offsets lengths words) old (settled-length 0 0 old ids offsets lengths words) in
       (ap (λ (l : List (List ℕ)). tally_from t l ids offsets words) (sym none) ∙ g.tally ∙ ap (λ (l : List (List ℕ)). tally_from no_tally l ids offsets words) (sym whole), whole)
 
-  module _ (u : AllReady old ids offsets lengths words) (h : s < length now) where
-    below : s < length old
-    below = omega (arith, going_long)
-
+  module _ (u : AllReady old ids offsets lengths words) (below : s < length old) where
     here : get_or now s [] ≡ get_or old s []
     here =
         ap (λ (n : ℕ). get_or now n []) (let e : s ≡ s + 0 = omega arith in e) ∙ sym (get_or-drop s now 0 []) ∙ ap (λ (l : List (List ℕ)). get_or l 0 []) g.rest ∙ get_or-drop s old 0 []
@@ -256,7 +252,7 @@ module _ {old : List (List ℕ)} {ids offsets lengths words : List ℕ} {now : L
                 subst (λ (n : ℕ). Filling 0 (settled_from 0 0 old ids offsets lengths words) old (settled_from n x.text (drop (s + 1) old) ids offsets lengths words) (set now s r) (s + 1)) (sym te)
                 (subst (λ (n : ℕ). Filling 0 (settled_from 0 0 old ids offsets lengths words) old (settled_from q.map.to n (drop (s + 1) old) ids offsets lengths words) (set now s r) (s + 1)) (sym fe)
                 (fill_more g.filling (numbers_of q ∷ []) (settled_from q.map.to q.text.to (drop (s + 1) old) ids offsets lengths words) left (set now s r) (s + 1) refl
-                (ap (λ (y : List ℕ). set now s y) re ∙ put_one s (numbers_of q) now h)));
+                (ap (λ (y : List ℕ). set now s y) re ∙ put_one s (numbers_of q) now (omega (arith, below, going_long)))));
             rest = drop-set-lt (s + 1) now s r (omega arith) ∙ sym (drop-drop 1 s now) ∙ ap (drop 1) g.rest ∙ drop-drop 1 s old;
             tally =
                 (λ i. tally_from ((xe ∙ ap (plus_tally t q) census_is) i) (settled_from (te i) (fe i) (drop (s + 1) old) ids offsets lengths words) ids offsets words)

@@ -24,68 +24,46 @@ pub struct Census {
 // ---- one segment
 
 // How many rows have a value: the stand alone tells.
+#[tactic(auto, unfolding(crate::specs::Census::listed_at))]
 fn listed_rows(p: Stand) -> usize
     requires { p.ids.from ≤ p.ids.to }
     ensures { result ≡ listed_at p }
 {
-    if p.kind == 0 {
-        return 0;
+    match p.kind {
+        0 => 0,
+        1 => p.rows,
+        _ => p.ids.len(),
     }
-    if p.kind == 1 {
-        return p.rows;
-    }
-    p.ids.to - p.ids.from
-}
-
-// What is counted for a row counts if it is alive.
-fn if_alive(words: &[u64], row: usize, n: usize) -> usize
-    requires { row < 64 * length words.now }
-    ensures { result ≡ cond (bit_at words.now row) n 0 }
-{
-    if !alive_set::is_alive(words, row) {
-        return 0;
-    }
-    n
 }
 
 // How many values the row of id k has: one in kind 2, else those between two offsets.
+#[tactic(auto, unfolding(crate::specs::Census::id_width))]
 fn id_width(kind: usize, offsets: &[u32], k: usize) -> usize
     requires { (kind ≡ 2 → ⊥) → Offsets offsets.now k }
     ensures { result ≡ id_width kind offsets.now k }
 {
     if kind == 2 {
-        return 1;
+        1
+    } else {
+        (offsets[k + 1] - offsets[k]) as usize
     }
-    segment::wide(offsets[k + 1]) - segment::wide(offsets[k])
 }
 
-// Of a list of rows: how many have a value, and how many values they have.
-#[derive(Clone, Copy)]
-struct Counts {
-    listed: usize,
-    values: usize,
-}
-
-// Of the alive rows of a segment of kind 2 or 4: those that have values are ids.
-fn id_counts(kind: usize, ids: &[u32], offsets: &[u32], words: &[u64]) -> Counts
+// Of the alive rows of a segment of kind 2 or 4, how many have a value, and how many values they have: those that have values are ids.
+fn id_counts(kind: usize, ids: &[u32], offsets: &[u32], words: &[u64]) -> (usize, usize)
     requires { Ids kind ids.now offsets.now words.now }
-    ensures listed_value { result.listed ≡ sum_below (listed_by ids.now words.now) (length ids.now) }
-    ensures values_value { result.values ≡ sum_below (values_by kind ids.now offsets.now words.now) (length ids.now) }
+    ensures listed_value { result.0 ≡ sum_below (listed_by ids.now words.now) (length ids.now) }
+    ensures values_value { result.1 ≡ sum_below (values_by kind ids.now offsets.now words.now) (length ids.now) }
 {
-    let mut k: usize = 0;
-    let mut listed: usize = 0;
-    let mut values: usize = 0;
-    while k < ids.len() {
-        let row = segment::wide(ids[k]);
-        let w = id_width(kind, offsets, k);
-        listed += if_alive(words, row, 1);
-        values += if_alive(words, row, w);
-        k += 1;
+    let mut listed = 0;
+    let mut values = 0;
+    for (k, &row) in ids.iter().enumerate() {
+        if alive_set::is_alive(words, row as usize) {
+            listed += 1;
+            values += id_width(kind, offsets, k);
+        }
     }
-    Counts {
-        listed: listed,
-        values: values,
-    }
+    (listed, values)
 }
 
 // Of a segment with an alive set. How many rows are alive is what its record says, and 6 has found right. Each row of kind 1 has a value.
@@ -94,32 +72,31 @@ fn alive_census(p: Stand, ids: &[u32], offsets: &[u32], words: &[u64]) -> Census
     requires flag_value { p.flag ≡ 1 }
     ensures { result ≡ alive_census p ids.now offsets.now words.now }
 {
-    let n = p.live;
-    if p.kind == 0 {
-        return Census {
-            alive: n,
+    let alive = p.live;
+    match p.kind {
+        0 => Census {
+            alive,
             listed: 0,
             values: 0,
-        };
-    }
-    if p.kind == 1 {
-        return Census {
-            alive: n,
-            listed: n,
-            values: n,
-        };
-    }
-    let a = p.alive.from;
-    let b = p.alive.to;
-    let i = p.ids.from;
-    let j = p.ids.to;
-    let o = p.offsets.from;
-    let e = p.offsets.to;
-    let c = id_counts(p.kind, &ids[i..j], &offsets[o..e], &words[a..b]);
-    Census {
-        alive: n,
-        listed: c.listed,
-        values: c.values,
+        },
+        1 => Census {
+            alive,
+            listed: alive,
+            values: alive,
+        },
+        _ => {
+            let (listed, values) = id_counts(
+                p.kind,
+                p.ids.of(ids),
+                p.offsets.of(offsets),
+                p.alive.of(words),
+            );
+            Census {
+                alive,
+                listed,
+                values,
+            }
+        }
     }
 }
 
@@ -129,78 +106,66 @@ pub fn count(p: Stand, ids: &[u32], offsets: &[u32], words: &[u64]) -> Census
     ensures { result ≡ census_in p ids.now offsets.now words.now }
 {
     if p.flag == 1 {
-        return alive_census(p, ids, offsets, words);
-    }
-    Census {
-        alive: p.rows,
-        listed: listed_rows(p),
-        values: p.count,
+        alive_census(p, ids, offsets, words)
+    } else {
+        Census {
+            alive: p.rows,
+            listed: listed_rows(p),
+            values: p.count,
+        }
     }
 }
 
 // ---- class
 
-fn greater(a: u32, b: u32) -> u32
-    ensures { result ≡ max a b }
-{
-    if a < b {
-        return b;
-    }
-    a
-}
-
 // The class of a segment without an alive set.
+#[tactic(auto, unfolding(crate::specs::Class::kind_class_of))]
 fn kind_class(kind: usize, rows: usize) -> u32
     ensures { result ≡ kind_class_of kind rows }
 {
-    if kind == 0 {
-        if rows == 0 {
-            return 0;
-        }
-        return 1;
+    match kind {
+        0 if rows == 0 => 0,
+        0 => 1,
+        1 => 0,
+        2 => 1,
+        _ => 2,
     }
-    if kind < 2 {
-        return 0;
-    }
-    if kind < 3 {
-        return 1;
-    }
-    2
 }
 
 // The class of rows that are counted: a row has several values, or else one has none, or else each has one.
+#[tactic(auto, unfolding(crate::specs::Class::count_class))]
 fn count_class(c: Census) -> u32
     ensures { result ≡ count_class c }
 {
     if c.listed < c.values {
-        return 2;
+        2
+    } else if c.listed < c.alive {
+        1
+    } else {
+        0
     }
-    if c.listed < c.alive {
-        return 1;
-    }
-    0
 }
 
 // The class of a segment with its census.
+#[tactic(auto, unfolding(crate::specs::Class::class_by))]
 fn class_by(p: Stand, c: Census) -> u32
     ensures { result ≡ class_by p c }
 {
     if p.flag == 1 {
-        return count_class(c);
+        count_class(c)
+    } else {
+        kind_class(p.kind, p.rows)
     }
-    kind_class(p.kind, p.rows)
 }
 
 // ---- all segments
 
 // Whether the column is present and not dropped: an alive row has a value.
+#[tactic(auto, unfolding(crate::specs::Settled::held_by))]
 fn is_held(typ: usize, values: usize) -> bool
     ensures { result ≡ held_by typ values }
 {
-    if typ == 255 {
-        return false;
-    }
-    values != 0
+    typ != 255 && values != 0
 }
 
 // A held segment, its part of the map from an index on.
@@ -209,47 +174,62 @@ fn kept_at(p: Stand, map: usize, text: Span) -> Stand
     requires from_bound { map + (p.terms.to - p.terms.from) < 18446744073709551616 }
     ensures { result ≡ kept p map text }
 {
-    let mut q = p;
-    let n = p.terms.to - p.terms.from;
-    let part = stands::from_on(map, n);
-    q.held = 1;
-    q.text = text;
-    q.map = part;
-    q
+    Stand {
+        held: 1,
+        text,
+        map: stands::from_on(map, p.terms.len()),
+        ..p
+    }
 }
 
 // One that is not held is Empty and has no runs.
 fn dropped_at(p: Stand, map: usize, text: Span) -> Stand
     ensures { result ≡ dropped p map text }
 {
-    let mut q = p;
-    q.kind = 0;
-    q.held = 0;
-    q.count = 0;
-    q.unit = 1;
-    q.ids.to = p.ids.from;
-    q.offsets.to = p.offsets.from;
-    q.values.to = p.values.from;
-    q.terms.to = p.terms.from;
-    q.text.from = text.to;
-    q.text.to = text.to;
-    q.map.from = map;
-    q.map.to = map;
-    q.least = 0;
-    q.greatest = 0;
-    q
+    Stand {
+        kind: 0,
+        held: 0,
+        count: 0,
+        unit: 1,
+        ids: Span {
+            to: p.ids.from,
+            ..p.ids
+        },
+        offsets: Span {
+            to: p.offsets.from,
+            ..p.offsets
+        },
+        values: Span {
+            to: p.values.from,
+            ..p.values
+        },
+        terms: Span {
+            to: p.terms.from,
+            ..p.terms
+        },
+        text: Span {
+            from: text.to,
+            ..text
+        },
+        map: Span { from: map, to: map },
+        least: 0,
+        greatest: 0,
+        ..p
+    }
 }
 
 // A segment as it counts in the join.
+#[tactic(auto, unfolding(crate::specs::Settled::settled))]
 fn settle(p: Stand, c: Census, map: usize, text: Span) -> Stand
     requires from_le_to { p.terms.from ≤ p.terms.to }
     requires from_bound { map + (p.terms.to - p.terms.from) < 18446744073709551616 }
     ensures { result ≡ settled p c map text }
 {
     if is_held(p.typ, c.values) {
-        return kept_at(p, map, text);
+        kept_at(p, map, text)
+    } else {
+        dropped_at(p, map, text)
     }
-    dropped_at(p, map, text)
 }
 
 // Where a segment's term bytes are that begin at an index.
@@ -259,23 +239,22 @@ fn text_from(p: Stand, lengths: &[u32], from: usize) -> Span
     requires from_bound { from ≤ 1099511627776 }
     ensures { result ≡ text_from p lengths.now from }
 {
-    let a = p.terms.from;
-    let b = p.terms.to;
-    let n = runs::sum_of(&lengths[a..b]);
-    stands::from_on(from, n)
+    stands::from_on(from, runs::sum_of(p.terms.of(lengths)))
 }
 
 // Its census.
+#[tactic(auto, unfolding(crate::specs::Settled::census_as))]
 fn census_as(q: Stand, c: Census) -> Census
     ensures { result ≡ census_as q c }
 {
     if q.held == 1 {
-        return c;
-    }
-    Census {
-        alive: c.alive,
-        listed: 0,
-        values: 0,
+        c
+    } else {
+        Census {
+            listed: 0,
+            values: 0,
+            ..c
+        }
     }
 }
 
@@ -292,6 +271,7 @@ pub struct Tally {
     pub text: usize,
 }
 
+#[tactic(auto, unfolding(crate::specs::Settled::plus_tally))]
 fn plus(t: Tally, q: Stand, c: Census) -> Tally
     requires low_tally { LowTally t 1099511627776 }
     requires rows_bound { q.rows ≤ 4294967296 }
@@ -302,12 +282,12 @@ fn plus(t: Tally, q: Stand, c: Census) -> Tally
     ensures { result ≡ plus_tally t q c }
 {
     Tally {
-        class: greater(t.class, class_by(q, c)),
+        class: t.class.max(class_by(q, c)),
         rows: t.rows + q.rows,
         listed: t.listed + c.listed,
         values: t.values + c.values,
         terms: q.map.to,
-        bytes: t.bytes + (q.text.to - q.text.from),
+        bytes: t.bytes + q.text.len(),
         text: q.text.to,
     }
 }
@@ -333,16 +313,13 @@ pub fn settle_all(
         bytes: 0,
         text: 0,
     };
-    let mut s: usize = 0;
-    while s < stands.len() {
-        let p = stands::stand_at(stands, s);
+    for r in stands.iter_mut() {
+        let p = Stand::from(*r);
         let c = count(p, ids, offsets, words);
         let text = text_from(p, lengths, t.text);
         let q = settle(p, c, t.terms, text);
-        let d = census_as(q, c);
-        t = plus(t, q, d);
-        stands[s] = stands::numbers_of(q);
-        s += 1;
+        t = plus(t, q, census_as(q, c));
+        *r = StandNumbers::from(q);
     }
     t
 }

@@ -1,12 +1,11 @@
 -- The answer by the columns where they stand, and that it is the definitions' for the segments that they stand for. Assumes nothing.
-use mathlib.Core.Path.{◌≡◌, refl, sym, ap, ◌∙◌}
+use mathlib.Core.Path.{◌≡◌, refl, ap, ◌∙◌}
 use mathlib.Core.Bool.{Bool, true, false, not, cond, ◌&&◌, ◌||◌}
 use mathlib.Core.List.{List, [], ◌∷◌, map}
 use Prim.Native.Nat.{ℕ, suc, ◌<◌, zero-le, suc-le-suc}
 use native.Mathlib.Omega.{arith}
 use lib.Dec.{eqb, ltb}
 use lib.ListN.{length, get_or}
-use borrow.Author.Tests.{not-true, not-false}
 use Rattle.definitions.specs.Lists.{all, any, filter}
 use Rattle.definitions.specs.Segment.{Segment, Pair}
 use Rattle.definitions.specs.Row.{no_type, is_dropped, is_held, held_of}
@@ -16,37 +15,8 @@ use Rattle.definitions.specs.Answer.{present_types, all_coercible, types_wrong}
 use Rattle.min_max.specs.Pairs.{pairs_together}
 use Rattle.stands.specs.Stand.{stand_of, stand_at}
 use Rattle.stands.specs.Look.{pair_at}
-use Rattle.merge_type.specs.declared.TypeAnswer.{TypeAnswer}
-use Rattle.merge_type.specs.declared.TypeAnswer.TheVariants.{Wrong, Joined}
+use Rattle.std.proofs.Common.{Option, None, Some}
 use Rattle.merge_type.specs.Parts.{is_part, types_in, column_of, held_in, one_among, all_become, type_answer, held_pair}
-
--- ---- the answer, case by case
-
-answer-two : (one become : Bool) (u : ℕ) → one ≡ false → Wrong ≡ cond (one && become) (Joined u) Wrong
-answer-two one become u h = rw h
-
-answer-some : (one become : Bool) (u : ℕ) → one ≡ true → become ≡ false → Wrong ≡ cond (one && become) (Joined u) Wrong
-answer-some one become u h k = rw (h, k)
-
-answer-all : (one become : Bool) (u : ℕ) → one ≡ true → become ≡ true → Joined u ≡ cond (one && become) (Joined u) Wrong
-answer-all one become u h k = rw (h, k)
-
-module _ (required : ℕ) (stands : List (List ℕ)) {b : Bool} (e : b ≡ one_among required (types_in stands)) where
-  pub wrong_types : not b ≡ true → Wrong ≡ type_answer required stands
-  unfolding type_answer
-  wrong_types k = answer-two _ _ _ (sym e ∙ not-true b k)
-
-  module _ (k : not b ≡ false) {u : ℕ} (u-is : u ≡ type_of required (held_in stands)) {c : Bool} (g : c ≡ all_become u (held_in stands)) where
-    become_is : all_become (type_of required (held_in stands)) (held_in stands) ≡ c
-    become_is = ap (λ (x : ℕ). all_become x (held_in stands)) (sym u-is) ∙ sym g
-
-    pub wrong_value : not c ≡ true → Wrong ≡ type_answer required stands
-    unfolding type_answer
-    wrong_value h = answer-some _ _ _ (sym e ∙ not-false b k) (become_is ∙ not-true c h)
-
-    pub right_type : not c ≡ false → Joined u ≡ type_answer required stands
-    unfolding type_answer
-    right_type h = ap Joined u-is ∙ answer-all _ _ _ (sym e ∙ not-false b k) (become_is ∙ not-false c h)
 
 -- ---- of a segment the rules read type and pair alone
 
@@ -141,19 +111,19 @@ held-typed (r ∷ rs) (s ∷ ss) t =
     go more true e = λ i. column_of (type-here t i) (t.pair 0 (suc-le-suc zero-le) e i) ∷ more i
     go more false e = more
 
-cond-not : (b : Bool) (x y : TypeAnswer) → cond b x y ≡ cond (not b) y x
+cond-not : (b : Bool) (x y : Option ℕ) → cond b x y ≡ cond (not b) y x
 cond-not true x y = refl
 cond-not false x y = refl
 
 -- the answer is 10 where the definitions say that types are wrong, and else the joined type
-pub answer-is : (required : ℕ) {stands : List (List ℕ)} {ss : List Segment} → Typed stands ss → type_answer required stands ≡ cond (types_wrong required ss) Wrong (Joined (joined_type required ss))
+pub answer-is : (required : ℕ) {stands : List (List ℕ)} {ss : List Segment} → Typed stands ss → type_answer required stands ≡ cond (types_wrong required ss) None (Some (joined_type required ss))
 unfolding type_answer one_among types_wrong present_types all_coercible all_become joined_type
 answer-is required {stands} {ss} t =
     let held = held-typed stands ss t in
     let a = ap (one_among required) (types_typed stands ss t) in
     let u = ap (type_of required) held ∙ type-bare required (held_of ss) in
     let b = (λ i. all_become (u i) (held i)) ∙ become_bare (joined_type required ss) (held_of ss) in
-    (λ i. cond (a i && b i) (Joined (u i)) Wrong) ∙ cond-not (one_among required (map (λ (s : Segment). s.type) ss) && all_become (joined_type required ss) (held_of ss)) (Joined (joined_type required ss)) Wrong
+    (λ i. cond (a i && b i) (Some (u i)) None) ∙ cond-not (one_among required (map (λ (s : Segment). s.type) ss) && all_become (joined_type required ss) (held_of ss)) (Some (joined_type required ss)) None
 
 -- and the pairs put together are the held segments'
 pub held-pair-is : (to : ℕ) {stands : List (List ℕ)} {ss : List Segment} → Typed stands ss → held_pair to stands ≡ pairs_together to (map (λ (s : Segment). s.pair) (held_of ss))

@@ -1,88 +1,29 @@
 -- The walk over the columns: one column, and what is left behind it. Assumes nothing.
-use mathlib.Core.Path.{◌≡◌, refl, sym, ap, ◌∙◌, subst}
-use mathlib.Core.Bool.{Bool, true, false, not, cond, ◌&&◌, ◌||◌}
+use mathlib.Core.Path.{◌≡◌}
+use mathlib.Core.Bool.{Bool, true, false, cond}
 use mathlib.Core.List.{List, [], ◌∷◌}
-use Prim.Native.Nat.{ℕ, suc, ◌+◌, ◌≤◌, ◌<◌}
+use Prim.Native.Nat.{ℕ, ◌+◌, ◌≤◌, ◌<◌}
 use native.Mathlib.Numerals.{add-one}
 use lib.ListN.{length, drop, drop_of_length-le}
 use lib.Seq.{drop-cons}
-use borrow.Author.Tests.{not-true, not-false}
-use Rattle.definitions.specs.Segment.{Segment, Pair}
-use Rattle.definitions.specs.Types.{is_coercible}
-use Rattle.numerical.specs.declared.Compatible.{Compatible}
-use Rattle.numerical.specs.Seen.{accepted, seen_from}
 use Rattle.stands.specs.declared.Stand.{Stand}
 use Rattle.stands.specs.Stand.{stand_at}
 use Rattle.stands.specs.Look.{pair_at}
-use Rattle.merge_type.specs.Parts.{is_part, Coded, column_of, held_at, held_in, seen_with, becomes, all_become}
+use Rattle.merge_type.specs.Parts.{is_part, column_of, held_in}
 
--- ---- one column: b is whether it is held, t its type, x its pair, as the code found
+-- ---- a turn at the column s, where b is whether it is held, as the code found
 
-module _ (p : Stand) {b : Bool} (e : b ≡ is_part p) where
-  pub seen_out : (seen : Compatible) → not b ≡ true → seen ≡ seen_with seen p
-  unfolding seen_with
-  seen_out seen k = rw (← e, not-true b k)
-
-  pub becomes_out : (u : ℕ) → not b ≡ true → true ≡ becomes u p
-  unfolding becomes
-  becomes_out u k = rw (← e, not-true b k)
-
-  module _ {t : ℕ} {x : Pair} (k : not b ≡ false) (d : t ≡ p.typ) (f : x ≡ pair_at p) where
-    pub seen-in : (seen : Compatible) {y : Compatible} → y ≡ accepted seen t x → y ≡ seen_with seen p
-    unfolding seen_with
-    seen-in seen q = q ∙ rw (← e, not-false b k, d, f)
-
-    pub becomes_in : (u : ℕ) {y : Bool} → y ≡ is_coercible t u x → y ≡ becomes u p
-    unfolding becomes
-    becomes_in u q = q ∙ rw (← e, not-false b k, d, f)
-
-seen_cons : (seen : Compatible) (p : Stand) (hs : List Segment) → seen_from (seen_with seen p) hs ≡ seen_from seen (held_at p hs)
-unfolding seen_with
-seen_cons seen p hs = go (is_part p)
-  where
-    go : (b : Bool) → seen_from (cond b (accepted seen p.typ (pair_at p)) seen) hs ≡ seen_from seen (cond b (column_of p.typ (pair_at p) ∷ hs) hs)
-    go true = refl
-    go false = refl
-
-become_cons : (u : ℕ) (p : Stand) (hs : List Segment) → all_become u (held_at p hs) ≡ becomes u p && all_become u hs
-unfolding all_become becomes
-become_cons u p hs = go (is_part p)
-  where
-    go : (b : Bool) → all_become u (cond b (column_of p.typ (pair_at p) ∷ hs) hs) ≡ (not b || is_coercible p.typ u (pair_at p)) && all_become u hs
-    go true = refl
-    go false = refl
-
--- ---- a turn at the column s
-
-pub now_code : {stands : List (List ℕ)} → Coded stands → {s : ℕ} → s < length stands → {p : Stand} → p ≡ stand_at stands s → p.typ < 4294967296
-now_code l {s} h e = subst (λ (q : Stand). q.typ < 4294967296) (sym e) (l.each s h)
-
-module _ (stands : List (List ℕ)) {s : ℕ} (h : s < length stands) {p : Stand} (e : p ≡ stand_at stands s) where
-  abbrev left : ℕ → List Segment
-  left k = held_in (drop k stands)
-
-  step : left s ≡ held_at p (left (s + 1))
+module _ (stands : List (List ℕ)) {s : ℕ} (h : s < length stands) {p : Stand} (e : p ≡ stand_at stands s) {b : Bool} (q : b ≡ is_part p) where
+  step : held_in (drop s stands) ≡ cond b (column_of p.typ (pair_at p) ∷ held_in (drop (s + 1) stands)) (held_in (drop (s + 1) stands))
   unfolding held_in
-  step = rw (add-one s, drop-cons stands s [] h) (ap (λ (q : Stand). held_at q (held_in (drop (suc s) stands))) (sym e))
+  step = rw (q, e, add-one s, drop-cons stands s [] h)
 
-  pub seen_next : (seen : Compatible) {seen' : Compatible} → seen' ≡ seen_with seen p → seen_from seen' (left (s + 1)) ≡ seen_from seen (left s)
-  seen_next seen q = ap (λ (x : Compatible). seen_from x (left (s + 1))) q ∙ seen_cons seen p (left (s + 1)) ∙ ap (seen_from seen) (sym step)
+  pub held_more : b ≡ true → held_in (drop s stands) ≡ column_of p.typ (pair_at p) ∷ held_in (drop (s + 1) stands)
+  held_more k = rw (step, k)
 
-  module _ (u : ℕ) {b : Bool} (q : b ≡ becomes u p) where
-    become_step : all_become u (left s) ≡ b && all_become u (left (s + 1))
-    become_step = ap (all_become u) step ∙ become_cons u p (left (s + 1)) ∙ ap (λ (x : Bool). x && all_become u (left (s + 1))) (sym q)
+  pub held_same : b ≡ false → held_in (drop s stands) ≡ held_in (drop (s + 1) stands)
+  held_same k = rw (step, k)
 
-    pub become_stop : not b ≡ true → false ≡ all_become u (left s)
-    become_stop k = sym (become_step ∙ ap (λ (x : Bool). x && all_become u (left (s + 1))) (not-true b k))
-
-    pub become_next : not b ≡ false → all_become u (left (s + 1)) ≡ all_become u (left s)
-    become_next k = sym (become_step ∙ ap (λ (x : Bool). x && all_become u (left (s + 1))) (not-false b k))
-
-module _ (stands : List (List ℕ)) (s : ℕ) (h : length stands ≤ s) where
-  pub seen_end : (seen : Compatible) → seen ≡ seen_from seen (held_in (drop s stands))
-  unfolding held_in
-  seen_end seen = rw (drop_of_length-le stands h)
-
-  pub become_end : (u : ℕ) → true ≡ all_become u (held_in (drop s stands))
-  unfolding all_become held_in
-  become_end u = rw (drop_of_length-le stands h)
+pub held_end : (stands : List (List ℕ)) (s : ℕ) → length stands ≤ s → held_in (drop s stands) ≡ []
+unfolding held_in
+held_end stands s h = rw (drop_of_length-le stands h)

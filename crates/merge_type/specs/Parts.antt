@@ -1,5 +1,5 @@
 -- What check 10, the joined type and the joined pair read of the columns where they stand: each one's type, its least and greatest value, and whether it is held. Assumes nothing.
-use Rattle.std.specs.Prelude.{ℕ, ◌<◌, List, [], ◌∷◌, map, Bool, true, ◌&&◌, ◌||◌, cond, not, eqb, length}
+use Rattle.std.specs.Prelude.{ℕ, ◌<◌, List, [], ◌∷◌, map, Bool, true, ◌&&◌, ◌||◌, cond, not, eqb, length, Option, None, Some}
 use Rattle.definitions.specs.Lists.{all, any, filter}
 use Rattle.definitions.specs.Segment.{Segment, Pair}
 use Rattle.definitions.specs.Row.{no_type}
@@ -7,13 +7,10 @@ use Rattle.definitions.specs.Types.{is_coercible, type_of}
 use Rattle.definitions.specs.Answer.{one_category}
 use Rattle.column_type.specs.Codes.{category}
 use Rattle.min_max.specs.Pairs.{pairs_together}
-use Rattle.numerical.specs.declared.Compatible.{Compatible}
-use Rattle.numerical.specs.Seen.{first_of, accepted}
+use Rattle.numerical.specs.Seen.{first_of}
 use Rattle.stands.specs.declared.Stand.{Stand}
 use Rattle.stands.specs.Stand.{stand_of, stand_at}
 use Rattle.stands.specs.Look.{pair_at}
-use Rattle.merge_type.specs.declared.TypeAnswer.{TypeAnswer}
-use Rattle.merge_type.specs.declared.TypeAnswer.TheVariants.{Wrong, Joined}
 
 -- marked as held, and present
 unfoldable pub is_part : Stand → Bool
@@ -22,14 +19,6 @@ is_part p = eqb p.held 1 && not (eqb p.typ no_type)
 -- each type is a u32
 pub record Coded (stands : List (List ℕ)) : Type 0 where
   pub each : (k : ℕ) → k < length stands → (stand_at stands k).typ < 4294967296
-
--- ---- one column
-
-unfoldable pub seen_with : Compatible → Stand → Compatible
-seen_with seen p = cond (is_part p) (accepted seen p.typ (pair_at p)) seen
-
-unfoldable pub becomes : ℕ → Stand → Bool
-becomes u p = not (is_part p) || is_coercible p.typ u (pair_at p)
 
 -- ---- the columns
 
@@ -57,9 +46,10 @@ one_among required ts = one_category (filter (λ (t : ℕ). not (eqb t no_type))
 unfoldable pub all_become : ℕ → List Segment → Bool
 all_become u hs = all (λ (s : Segment). is_coercible s.type u s.pair) hs
 
-unfoldable pub type_answer : ℕ → List (List ℕ) → TypeAnswer
+-- the joined type, or none where check 10 fails
+unfoldable pub type_answer : ℕ → List (List ℕ) → Option ℕ
 type_answer required stands =
-    cond (one_among required (types_in stands) && all_become (type_of required (held_in stands)) (held_in stands)) (Joined (type_of required (held_in stands))) Wrong
+    cond (one_among required (types_in stands) && all_become (type_of required (held_in stands)) (held_in stands)) (Some (type_of required (held_in stands))) None
 
 -- the pairs of the held columns put together, by type u
 unfoldable pub held_pair : ℕ → List (List ℕ) → Pair

@@ -2,10 +2,10 @@
 // (columnar/merge/mod.rs: `Vec<Option<..>>` of columns).
 #![tactic(auto)]
 
-ghost use Rattle.std.specs.Prelude.{◌≡◌, ◌<◌, length, get_or, set};
+ghost use Rattle.std.specs.Prelude.{◌≡◌, ◌<◌, length, get_or};
 ghost use Rattle.segment.specs.Records.{record_in};
 ghost use Rattle.segment_fit.specs.Fits.{fits_codes};
-ghost use Rattle.records.specs.Rows.{none, numbers_of, count_of, blank, laid_to};
+ghost use Rattle.records.specs.Rows.{none, numbers_of, count_of, laid_to};
 
 // Record i.
 pub fn record_of(records: &[segment::Record], i: usize) -> segment::Record
@@ -28,52 +28,24 @@ pub fn row_of(records: &[segment::Record], i: usize) -> segment::RecordNumbers
     requires { i < length records.now }
     ensures { result ≡ numbers_of (get_or records.now i none) }
 {
-    segment::numbers_of(records[i])
+    records[i].into()
 }
 
 // How many records a table of 257 rows takes: one more than may be joined, so that too many are seen.
+#[tactic(auto, unfolding(crate::specs::Rows::count_of))]
 pub fn count_of(n: usize) -> usize
     ensures { result ≡ count_of n }
 {
-    if n < 257 {
-        return n;
-    }
-    257
-}
-
-// The table with a row at place i.
-fn put_row(
-    table: [segment::RecordNumbers; 257],
-    i: usize,
-    row: segment::RecordNumbers,
-) -> [segment::RecordNumbers; 257]
-    requires { i < 257 }
-    ensures { result ≡ set table i row }
-{
-    let mut t = table;
-    t[i] = row;
-    t
-}
-
-// No rows.
-fn no_rows() -> [segment::RecordNumbers; 257]
-    ensures { result ≡ blank }
-{
-    [[0; segment::WIDTH]; 257]
+    n.min(257)
 }
 
 // The table with a row for each record.
 pub fn rows_of(records: &[segment::Record]) -> [segment::RecordNumbers; 257]
     ensures { result ≡ laid_to records.now (count_of (length records.now)) }
 {
-    let n = count_of(records.len());
-    let mut table = no_rows();
-    let mut i: usize = 0;
-    while i < n {
-        let row = row_of(records, i);
-        let next = put_row(table, i, row);
-        table = next;
-        i += 1;
+    let mut table = [[0; segment::WIDTH]; 257];
+    for i in 0..count_of(records.len()) {
+        table[i] = row_of(records, i);
     }
     table
 }

@@ -1,21 +1,21 @@
 -- The laws of the walks over the segments: what each says at the next number or record, and at the end. Assumes nothing.
-use mathlib.Core.Path.{◌≡◌, refl, sym, ◌∙◌}
-use mathlib.Core.Bool.{true, ◌&&◌, not}
+use mathlib.Core.Path.{◌≡◌, sym, ◌∙◌}
+use mathlib.Core.Bool.{true, ◌&&◌}
 use mathlib.Core.List.{List, [], ◌∷◌}
-use Prim.Native.Nat.{ℕ, ◌+◌, ◌-◌, ◌≤◌, ◌<◌}
+use Prim.Native.Nat.{ℕ, ◌+◌, ◌≤◌, ◌<◌}
+use native.Mathlib.Omega.{arith}
 use native.Mathlib.Nat.{add-zero, zero-add, add_assoc}
-use lib.Dec.{eqb}
-use lib.ListN.{length, drop, take, get_or}
+use lib.ListN.{length, drop, take, get_or, length-drop}
 use Rattle.definitions.specs.Lists.{sum}
 use Rattle.definitions.specs.Segment.{SegmentRecord, alive_words, record_words}
 use Rattle.definitions.specs.Answer.{total}
 use Rattle.segment.specs.declared.Record.{Record}
 use Rattle.segment.specs.Records.{struct_of, record_in, records_of}
-use Rattle.segment.proofs.Walk.{records-end, records-step}
-use Rattle.segment_fit.specs.Fits.{fits_codes, fits_lists, fits_values, fits_alive}
+use Rattle.segment.proofs.Walk.{records-end, records-step, total_step}
+use Rattle.segment_fit.specs.Fits.{fits_lists, fits_values, fits_alive}
 use Rattle.sections_fit.specs.declared.Totals.{Totals}
-use Rattle.sections_fit.specs.Walks.{codes_from, none_old, lists_from, values_from, alive_fits_from, totals_of, add_to}
-use Rattle.lists.proofs.Parts.{part-rest, part-is, rest-is}
+use Rattle.sections_fit.specs.Walks.{HoldsLists, lists_from, HoldsValues, values_from, alive_fits_from, totals_of, add_to}
+use Rattle.lists.proofs.Sums.{sum_split}
 
 -- ---- the records' sums
 
@@ -59,14 +59,6 @@ totals_all rs =
 -- ---- the walks
 
 module _ (records : List (List ℕ)) (s : ℕ) (h : length records ≤ s) where
-  pub codes-end : true ≡ codes_from (records_of (drop s records))
-  unfolding codes_from
-  codes-end = rw (records-end records s h)
-
-  pub old_end : true ≡ none_old (records_of (drop s records))
-  unfolding none_old
-  old_end = rw (records-end records s h)
-
   pub lists_end : (ids offsets : List ℕ) → true ≡ lists_from (records_of (drop s records)) ids offsets
   unfolding lists_from
   lists_end ids offsets = rw (records-end records s h)
@@ -83,35 +75,42 @@ module _ (records : List (List ℕ)) (s : ℕ) (h : length records ≤ s) where
   unfolding totals_from
   totals_end t = rw (records-end records s h)
 
+-- each section is split into the segment's own part and that of the others
 module _ (records : List (List ℕ)) (s : ℕ) (h : s < length records) {r : Record} (e : r ≡ struct_of (get_or records s [])) where
-  pub codes_step : codes_from (records_of (drop s records)) ≡ fits_codes (record_in r) && codes_from (records_of (drop (s + 1) records))
-  unfolding codes_from
-  codes_step = rw (records-step records s h e)
+  module _ (ids offsets : List ℕ) {own own' others others' : List ℕ} (i : own ≡ take r.ids ids) (o : own' ≡ take r.offsets offsets) (i' : others ≡ drop r.ids ids) (o' : others' ≡ drop r.offsets offsets) where
+    pub lists_step : lists_from (records_of (drop s records)) ids offsets ≡ fits_lists (record_in r) own own' && lists_from (records_of (drop (s + 1) records)) others others'
+    unfolding lists_from
+    lists_step = rw (i, o, i', o', records-step records s h e)
 
-  pub old_step : none_old (records_of (drop s records)) ≡ not (eqb r.kind 3) && none_old (records_of (drop (s + 1) records))
-  unfolding none_old
-  old_step = rw (records-step records s h e)
+    pub lists_held : HoldsLists (records_of (drop s records)) ids offsets → HoldsLists (records_of (drop (s + 1) records)) others others'
+    lists_held u =
+        record {
+          ids = rw (i', length-drop r.ids ids) (omega (arith, u.ids, total_step records s h e (λ (x : SegmentRecord). x.ids)));
+          offsets = rw (o', length-drop r.offsets offsets) (omega (arith, u.offsets, total_step records s h e (λ (x : SegmentRecord). x.offsets)));
+        }
 
-  pub lists_step : (ids offsets : List ℕ) (i i' o o' : ℕ) → i' ≡ i + r.ids → o' ≡ o + r.offsets
-      → lists_from (records_of (drop s records)) (drop i ids) (drop o offsets)
-      ≡ fits_lists (record_in r) (take (i' - i) (drop i ids)) (take (o' - o) (drop o offsets)) && lists_from (records_of (drop (s + 1) records)) (drop i' ids) (drop o' offsets)
-  unfolding lists_from
-  lists_step ids offsets i i' o o' p q =
-      rw (part-is r.ids i i' ids p, part-is r.offsets o o' offsets q, rest-is r.ids i i' ids p, rest-is r.offsets o o' offsets q, records-step records s h e)
+  module _ (values lengths bytes : List ℕ) {own own' others others' : List ℕ} {n : ℕ} (v : own ≡ take n values) (t : own' ≡ take r.terms lengths) (v' : others ≡ drop n values) (t' : others' ≡ drop r.terms lengths)
+      (k : n ≡ record_words (record_in r)) where
+    pub terms_few : HoldsValues (records_of (drop s records)) values lengths bytes → sum own' + sum others' ≤ length bytes
+    terms_few u = rw (t, t') (omega (arith, u.bytes, sum_split r.terms lengths))
 
-  pub values_step : (values lengths bytes : List ℕ) (v v' t t' b n : ℕ) → v' ≡ v + record_words (record_in r) → t' ≡ t + r.terms → n ≡ sum (take (t' - t) (drop t lengths))
-      → values_from (records_of (drop s records)) (drop v values) (drop t lengths) (drop b bytes)
-      ≡ fits_values (record_in r) (take (v' - v) (drop v values)) (take (t' - t) (drop t lengths)) (take (length bytes - b) (drop b bytes))
-      && values_from (records_of (drop (s + 1) records)) (drop v' values) (drop t' lengths) (drop (b + n) bytes)
-  unfolding values_from
-  values_step values lengths bytes v v' t t' b n p q k =
-      rw (rest-is n b (b + n) bytes refl, k, part-is (record_words (record_in r)) v v' values p, part-is r.terms t t' lengths q, rest-is (record_words (record_in r)) v v' values p, rest-is r.terms t t' lengths q, part-rest b bytes, records-step records s h e)
+    module _ {m : ℕ} {rest : List ℕ} (f : m ≡ sum own') (b : rest ≡ drop m bytes) where
+      pub values_step : values_from (records_of (drop s records)) values lengths bytes ≡ fits_values (record_in r) own own' bytes && values_from (records_of (drop (s + 1) records)) others others' rest
+      unfolding values_from
+      values_step = rw (b, f, v, t, v', t', k, records-step records s h e)
 
-  pub alive_step : (mode : ℕ) (alive : List ℕ) (a a' n : ℕ) → n ≡ alive_words (record_in r) → a' ≡ a + n
-      → alive_fits_from mode (records_of (drop s records)) (drop a alive)
-      ≡ fits_alive mode (record_in r) (take (a' - a) (drop a alive)) && alive_fits_from mode (records_of (drop (s + 1) records)) (drop a' alive)
-  unfolding alive_fits_from
-  alive_step mode alive a a' n k p = rw (part-is n a a' alive p, rest-is n a a' alive p, k, records-step records s h e)
+      pub values_held : HoldsValues (records_of (drop s records)) values lengths bytes → HoldsValues (records_of (drop (s + 1) records)) others others' rest
+      values_held u =
+          record {
+            words = rw (v', length-drop n values) (omega (arith, u.words, k, total_step records s h e record_words));
+            terms = rw (t', length-drop r.terms lengths) (omega (arith, u.terms, total_step records s h e (λ (x : SegmentRecord). x.terms)));
+            bytes = rw (b, length-drop m bytes) (omega (arith, f, terms_few u));
+          }
+
+  module _ (mode : ℕ) (alive : List ℕ) {own others : List ℕ} {n : ℕ} (a : own ≡ take n alive) (a' : others ≡ drop n alive) (k : n ≡ alive_words (record_in r)) where
+    pub alive_step : alive_fits_from mode (records_of (drop s records)) alive ≡ fits_alive mode (record_in r) own && alive_fits_from mode (records_of (drop (s + 1) records)) others
+    unfolding alive_fits_from
+    alive_step = rw (a, a', k, records-step records s h e)
 
   pub totals_step : (t : Totals) → totals_from (add_to t (record_in r)) (records_of (drop (s + 1) records)) ≡ totals_from t (records_of (drop s records))
   unfolding totals_from

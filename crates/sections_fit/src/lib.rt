@@ -6,9 +6,12 @@ ghost use Rattle.std.specs.Prelude.{◌≡◌, [], ◌<◌, ◌≤◌, length};
 ghost use Rattle.definitions.specs.Segment.{alive_words};
 ghost use Rattle.definitions.specs.Checks.{first_of};
 ghost use Rattle.definitions.specs.Answer.{total, checks_to_seven};
-ghost use Rattle.segment.specs.Records.{record_in, records_of, sections_in};
-ghost use Rattle.segment.specs.Lent.{lent_input};
+ghost use Rattle.segment.specs.Records.{record_in, records_of};
+ghost use Rattle.segment.specs.Lent.{sections_of, input_in};
+ghost use Rattle.refusal.specs.Number.{answer_number};
 ghost use Rattle.sections_fit.specs.Walks.{totals_of, add_to, Below, Grown, lengths_right, codes_from, known_codes, none_old, HoldsLists, lists_from, HoldsValues, values_from, alive_fits_from, sums_right};
+
+use refusal::Refusal;
 
 // ---- sums
 
@@ -30,21 +33,14 @@ fn plus(t: Totals, r: segment::Record) -> Totals
     ensures value { result ≡ add_to t (record_in r) }
     ensures grown { Grown t result }
 {
-    let rows = t.rows + segment::wide(r.rows);
-    let ids = t.ids + segment::wide(r.ids);
-    let offsets = t.offsets + segment::wide(r.offsets);
-    let values = t.values + segment::wide(r.values);
-    let words = t.words + segment::value_words(r);
-    let terms = t.terms + segment::wide(r.terms);
-    let alive = t.alive + segment::alive_words(r);
     Totals {
-        rows: rows,
-        ids: ids,
-        offsets: offsets,
-        values: values,
-        words: words,
-        terms: terms,
-        alive: alive,
+        rows: t.rows + r.rows as usize,
+        ids: t.ids + r.ids as usize,
+        offsets: t.offsets + r.offsets as usize,
+        values: t.values + r.values as usize,
+        words: t.words + segment::value_words(r),
+        terms: t.terms + r.terms as usize,
+        alive: t.alive + segment::alive_words(r),
     }
 }
 
@@ -62,46 +58,26 @@ pub fn totals_of(records: &[segment::RecordNumbers]) -> Totals
         terms: 0,
         alive: 0,
     };
-    let mut i: usize = 0;
-    while i < records.len() {
-        let r = segment::record_at(records, i);
-        t = plus(t, r);
-        i += 1;
+    for &r in records {
+        t = plus(t, segment::Record::from(r));
     }
     t
 }
 
 // ---- 2
 
-fn lengths_fit(
-    records: &[segment::RecordNumbers],
-    ids: &[u32],
-    offsets: &[u32],
-    values: &[u64],
-    lengths: &[u32],
-    bytes: &[u8],
-    alive: &[u64],
-) -> bool
+#[tactic(auto, unfolding(crate::specs::Walks::lengths_right))]
+fn lengths_fit(records: &[segment::RecordNumbers], sections: &segment::Sections) -> bool
     requires { length records.now ≤ 256 }
-    ensures { result ≡ lengths_right (records_of records.now) (sections_in ids.now offsets.now values.now lengths.now bytes.now alive.now) }
+    ensures { result ≡ lengths_right (records_of records.now) (sections_of sections.now) }
 {
     let t = totals_of(records);
-    if t.ids != ids.len() {
-        return false;
-    }
-    if t.offsets != offsets.len() {
-        return false;
-    }
-    if t.words != values.len() {
-        return false;
-    }
-    if t.terms != lengths.len() {
-        return false;
-    }
-    if !runs::adds_up(lengths, bytes.len()) {
-        return false;
-    }
-    t.alive == alive.len()
+    t.ids == sections.ids.len()
+        && t.offsets == sections.offsets.len()
+        && t.words == sections.values.len()
+        && t.terms == sections.lengths.len()
+        && runs::adds_up(sections.lengths, sections.bytes.len())
+        && t.alive == sections.alive.len()
 }
 
 // ---- 3
@@ -109,27 +85,16 @@ fn lengths_fit(
 fn all_codes_fit(records: &[segment::RecordNumbers]) -> bool
     ensures { result ≡ codes_from (records_of records.now) }
 {
-    let mut s: usize = 0;
-    while s < records.len() {
-        let r = segment::record_at(records, s);
-        if !segment_fit::codes_fit(r) {
-            return false;
-        }
-        s += 1;
-    }
-    true
+    records
+        .iter()
+        .all(|&r| segment_fit::codes_fit(segment::Record::from(r)))
 }
 
+#[tactic(auto, unfolding(crate::specs::Walks::known_codes))]
 fn known_codes(mode: u32, required: u32, records: &[segment::RecordNumbers]) -> bool
     ensures { result ≡ known_codes mode required (records_of records.now) }
 {
-    if 2 <= mode {
-        return false;
-    }
-    if !column_type::is_known(required) {
-        return false;
-    }
-    all_codes_fit(records)
+    mode < 2 && column_type::is_known(required) && all_codes_fit(records)
 }
 
 // ---- 19
@@ -138,36 +103,24 @@ fn known_codes(mode: u32, required: u32, records: &[segment::RecordNumbers]) -> 
 fn none_old(records: &[segment::RecordNumbers]) -> bool
     ensures { result ≡ none_old (records_of records.now) }
 {
-    let mut s: usize = 0;
-    while s < records.len() {
-        let r = segment::record_at(records, s);
-        if r.kind == 3 {
-            return false;
-        }
-        s += 1;
-    }
-    true
+    records.iter().all(|&r| segment::Record::from(r).kind != 3)
 }
 
 // ---- 4
 
-fn all_lists_fit(records: &[segment::RecordNumbers], ids: &[u32], offsets: &[u32]) -> bool
+fn all_lists_fit(records: &[segment::RecordNumbers], mut ids: &[u32], mut offsets: &[u32]) -> bool
     requires { HoldsLists (records_of records.now) ids.now offsets.now }
     ensures { result ≡ lists_from (records_of records.now) ids.now offsets.now }
 {
-    let mut s: usize = 0;
-    let mut i: usize = 0;
-    let mut o: usize = 0;
-    while s < records.len() {
-        let r = segment::record_at(records, s);
-        let i_end = i + segment::wide(r.ids);
-        let o_end = o + segment::wide(r.offsets);
-        if !segment_fit::lists_fit(r, &ids[i..i_end], &offsets[o..o_end]) {
+    for &r in records {
+        let r = segment::Record::from(r);
+        let (own_ids, other_ids) = ids.split_at(r.ids as usize);
+        let (own_offsets, other_offsets) = offsets.split_at(r.offsets as usize);
+        if !segment_fit::lists_fit(r, own_ids, own_offsets) {
             return false;
         }
-        i = i_end;
-        o = o_end;
-        s += 1;
+        ids = other_ids;
+        offsets = other_offsets;
     }
     true
 }
@@ -176,106 +129,89 @@ fn all_lists_fit(records: &[segment::RecordNumbers], ids: &[u32], offsets: &[u32
 
 fn all_values_fit(
     records: &[segment::RecordNumbers],
-    values: &[u64],
-    lengths: &[u32],
-    bytes: &[u8],
+    mut values: &[u64],
+    mut lengths: &[u32],
+    mut bytes: &[u8],
 ) -> bool
     requires { HoldsValues (records_of records.now) values.now lengths.now bytes.now }
     ensures { result ≡ values_from (records_of records.now) values.now lengths.now bytes.now }
 {
-    let mut s: usize = 0;
-    let mut v: usize = 0;
-    let mut t: usize = 0;
-    let mut b: usize = 0;
-    while s < records.len() {
-        let r = segment::record_at(records, s);
-        let v_end = v + segment::value_words(r);
-        let t_end = t + segment::wide(r.terms);
-        if !segment_fit::values_fit(r, &values[v..v_end], &lengths[t..t_end], &bytes[b..]) {
+    for &r in records {
+        let r = segment::Record::from(r);
+        let (own_values, other_values) = values.split_at(segment::value_words(r));
+        let (own_lengths, other_lengths) = lengths.split_at(r.terms as usize);
+        if !segment_fit::values_fit(r, own_values, own_lengths, bytes) {
             return false;
         }
-        b += runs::sum_of(&lengths[t..t_end]);
-        v = v_end;
-        t = t_end;
-        s += 1;
+        values = other_values;
+        lengths = other_lengths;
+        let (_, other_bytes) = bytes.split_at(runs::sum_of(own_lengths));
+        bytes = other_bytes;
     }
     true
 }
 
 // ---- 6
 
-fn all_alive_fit(mode: u32, records: &[segment::RecordNumbers], alive: &[u64]) -> bool
+fn all_alive_fit(mode: u32, records: &[segment::RecordNumbers], mut alive: &[u64]) -> bool
     requires { total alive_words (records_of records.now) ≤ length alive.now }
     ensures { result ≡ alive_fits_from mode (records_of records.now) alive.now }
 {
-    let mut s: usize = 0;
-    let mut a: usize = 0;
-    while s < records.len() {
-        let r = segment::record_at(records, s);
-        let end = a + segment::alive_words(r);
-        if !segment_fit::alive_fits(mode, r, &alive[a..end]) {
+    for &r in records {
+        let r = segment::Record::from(r);
+        let (own, others) = alive.split_at(segment::alive_words(r));
+        if !segment_fit::alive_fits(mode, r, own) {
             return false;
         }
-        a = end;
-        s += 1;
+        alive = others;
     }
     true
 }
 
 // ---- 7
 
+#[tactic(auto, unfolding(crate::specs::Walks::sums_right))]
 fn sums_fit(rows: usize, values: usize, bytes: usize) -> bool
     ensures { result ≡ sums_right rows values bytes }
 {
-    if 4294967294 < rows {
-        return false;
-    }
-    if 4294967294 < values {
-        return false;
-    }
-    bytes <= 4294967294
+    rows <= 4294967294 && values <= 4294967294 && bytes <= 4294967294
 }
 
 // ---- 1 to 7, with 19 right after 3
 
-// The first of the checks up to 7 that fails, or 0.
+// The first of the checks up to 7 that fails.
 pub fn first_to_seven(
     mode: u32,
     required: u32,
     records: &[segment::RecordNumbers],
-    ids: &[u32],
-    offsets: &[u32],
-    values: &[u64],
-    lengths: &[u32],
-    bytes: &[u8],
-    alive: &[u64],
-) -> u32
-    ensures { result ≡ first_of (checks_to_seven (lent_input mode required records.now ids.now offsets.now values.now lengths.now bytes.now alive.now [] 0)) }
+    sections: &segment::Sections,
+) -> Result<(), Refusal>
+    ensures { answer_number result ≡ first_of (checks_to_seven (input_in mode required records.now sections.now [] 0)) }
 {
     if 256 < records.len() {
-        return 1;
+        return Err(Refusal::TooManySegments);
     }
-    if !lengths_fit(records, ids, offsets, values, lengths, bytes, alive) {
-        return 2;
+    if !lengths_fit(records, sections) {
+        return Err(Refusal::Lengths);
     }
     if !known_codes(mode, required, records) {
-        return 3;
+        return Err(Refusal::UnknownCode);
     }
     if !none_old(records) {
-        return 19;
+        return Err(Refusal::OldMultivalued);
     }
-    if !all_lists_fit(records, ids, offsets) {
-        return 4;
+    if !all_lists_fit(records, sections.ids, sections.offsets) {
+        return Err(Refusal::RowLists);
     }
-    if !all_values_fit(records, values, lengths, bytes) {
-        return 5;
+    if !all_values_fit(records, sections.values, sections.lengths, sections.bytes) {
+        return Err(Refusal::Contents);
     }
-    if !all_alive_fit(mode, records, alive) {
-        return 6;
+    if !all_alive_fit(mode, records, sections.alive) {
+        return Err(Refusal::AliveSet);
     }
     let t = totals_of(records);
-    if !sums_fit(t.rows, t.values, bytes.len()) {
-        return 7;
+    if !sums_fit(t.rows, t.values, sections.bytes.len()) {
+        return Err(Refusal::TooLarge);
     }
-    0
+    Ok(())
 }

@@ -1,11 +1,11 @@
 // Where each segment's runs stand in the lent sections, and lookups of a row there (column_index/merge/mod.rs: the columns' indexes, a dropped one as `ColumnIndex::Empty`).
 #![tactic(auto)]
 
-ghost use Rattle.std.specs.Prelude.{◌≡◌, [], ◌<◌, ◌≤◌, ◌+◌, length, get_or};
+ghost use Rattle.std.specs.Prelude.{◌≡◌, [], ◌<◌, ◌≤◌, ◌+◌, ◌-◌, length, get_or, take, drop};
 ghost use Rattle.runs.specs.Put.{put};
 ghost use Rattle.segment.specs.Records.{record_in};
 ghost use Rattle.stands.specs.Width.{id_part};
-ghost use Rattle.stands.specs.Stand.{table, stand_of, numbers_of, span, nowhere, next_stand, Low, Grown, stand_in};
+ghost use Rattle.stands.specs.Stand.{table, stand_of, numbers_of, many, span, nowhere, next_stand, Low, Grown, stand_in};
 ghost use Rattle.stands.specs.Look.{start_in, end_in, Within};
 
 use std::ops::Range;
@@ -15,6 +15,25 @@ use std::ops::Range;
 pub struct Span {
     pub from: usize,
     pub to: usize,
+}
+
+impl Span {
+    // How many elements that are.
+    pub fn len(self) -> usize
+        requires { self.from ≤ self.to }
+        ensures { result ≡ many self }
+    {
+        self.to - self.from
+    }
+
+    // What stands there.
+    pub fn of<'a, T>(self, list: &'a [T]) -> &'a [T]
+        requires rises { self.from ≤ self.to }
+        requires ends { self.to ≤ length list.now }
+        ensures { result.now ≡ take (self.to - self.from) (drop self.from list.now) }
+    {
+        &list[self.from..self.to]
+    }
 }
 
 // Where a segment stands: the codes and rows of its record, whether it is held, its first byte where there is a working byte for each row, how many values it has
@@ -47,57 +66,86 @@ pub const NUMBERS: usize = 25;
 // A stand's numbers, as a table has them.
 pub type StandNumbers = [usize; NUMBERS];
 
-// This function and `numbers_of` alone know the order of a stand's numbers.
-pub fn stand_of(r: StandNumbers) -> Stand
-    ensures { result ≡ stand_of r }
-{
-    let ids = Span {
-        from: r[8],
-        to: r[9],
-    };
-    let offsets = Span {
-        from: r[10],
-        to: r[11],
-    };
-    let values = Span {
-        from: r[12],
-        to: r[13],
-    };
-    let terms = Span {
-        from: r[14],
-        to: r[15],
-    };
-    let text = Span {
-        from: r[16],
-        to: r[17],
-    };
-    let alive = Span {
-        from: r[18],
-        to: r[19],
-    };
-    let map = Span {
-        from: r[20],
-        to: r[21],
-    };
-    Stand {
-        typ: r[0],
-        kind: r[1],
-        flag: r[2],
-        held: r[3],
-        rows: r[4],
-        work: r[5],
-        count: r[6],
-        unit: r[7],
-        ids: ids,
-        offsets: offsets,
-        values: values,
-        terms: terms,
-        text: text,
-        alive: alive,
-        map: map,
-        live: r[22],
-        least: r[23],
-        greatest: r[24],
+// This impl and its way back alone know the order of a stand's numbers.
+impl From<StandNumbers> for Stand {
+    ghost from_gives = { λ r p. p ≡ stand_of r };
+
+    fn from(r: StandNumbers) -> Stand {
+        Stand {
+            typ: r[0],
+            kind: r[1],
+            flag: r[2],
+            held: r[3],
+            rows: r[4],
+            work: r[5],
+            count: r[6],
+            unit: r[7],
+            ids: Span {
+                from: r[8],
+                to: r[9],
+            },
+            offsets: Span {
+                from: r[10],
+                to: r[11],
+            },
+            values: Span {
+                from: r[12],
+                to: r[13],
+            },
+            terms: Span {
+                from: r[14],
+                to: r[15],
+            },
+            text: Span {
+                from: r[16],
+                to: r[17],
+            },
+            alive: Span {
+                from: r[18],
+                to: r[19],
+            },
+            map: Span {
+                from: r[20],
+                to: r[21],
+            },
+            live: r[22],
+            least: r[23],
+            greatest: r[24],
+        }
+    }
+}
+
+impl From<Stand> for StandNumbers {
+    ghost from_gives = { λ p r. r ≡ numbers_of p };
+
+    fn from(p: Stand) -> StandNumbers {
+        [
+            p.typ,
+            p.kind,
+            p.flag,
+            p.held,
+            p.rows,
+            p.work,
+            p.count,
+            p.unit,
+            p.ids.from,
+            p.ids.to,
+            p.offsets.from,
+            p.offsets.to,
+            p.values.from,
+            p.values.to,
+            p.terms.from,
+            p.terms.to,
+            p.text.from,
+            p.text.to,
+            p.alive.from,
+            p.alive.to,
+            p.map.from,
+            p.map.to,
+            p.live,
+            p.least,
+            p.greatest,
+        ]
     }
 }
 
@@ -106,40 +154,7 @@ pub fn stand_at(stands: &[StandNumbers], s: usize) -> Stand
     requires { s < length stands.now }
     ensures { result ≡ stand_of (get_or stands.now s []) }
 {
-    let r = stands[s];
-    stand_of(r)
-}
-
-pub fn numbers_of(p: Stand) -> StandNumbers
-    ensures { result ≡ numbers_of p }
-{
-    [
-        p.typ,
-        p.kind,
-        p.flag,
-        p.held,
-        p.rows,
-        p.work,
-        p.count,
-        p.unit,
-        p.ids.from,
-        p.ids.to,
-        p.offsets.from,
-        p.offsets.to,
-        p.values.from,
-        p.values.to,
-        p.terms.from,
-        p.terms.to,
-        p.text.from,
-        p.text.to,
-        p.alive.from,
-        p.alive.to,
-        p.map.from,
-        p.map.to,
-        p.live,
-        p.least,
-        p.greatest,
-    ]
+    Stand::from(stands[s])
 }
 
 // ---- the table
@@ -149,17 +164,14 @@ pub fn from_on(from: usize, n: usize) -> Span
     requires { from + n < 18446744073709551616 }
     ensures { result ≡ span from n }
 {
-    Span {
-        from: from,
-        to: from + n,
-    }
+    Span { from, to: from + n }
 }
 
 // Before the first segment.
 fn before_all() -> Stand
     ensures { result ≡ nowhere }
 {
-    stand_of([0; NUMBERS])
+    Stand::from([0; NUMBERS])
 }
 
 // The segment of a record whose runs follow those of the segment at p.
@@ -168,29 +180,24 @@ fn next(p: Stand, r: segment::Record) -> Stand
     ensures value { result ≡ next_stand p (record_in r) }
     ensures grown { Grown p result }
 {
-    let ids = from_on(p.ids.to, segment::wide(r.ids));
-    let offsets = from_on(p.offsets.to, segment::wide(r.offsets));
-    let values = from_on(p.values.to, segment::value_words(r));
-    let terms = from_on(p.terms.to, segment::wide(r.terms));
-    let alive = from_on(p.alive.to, segment::alive_words(r));
     let none = Span { from: 0, to: 0 };
     Stand {
-        typ: segment::wide(r.typ),
-        kind: segment::wide(r.kind),
-        flag: segment::wide(r.flag),
+        typ: r.typ as usize,
+        kind: r.kind as usize,
+        flag: r.flag as usize,
         held: 0,
-        rows: segment::wide(r.rows),
+        rows: r.rows as usize,
         work: p.work + p.rows,
-        count: segment::wide(r.values),
+        count: r.values as usize,
         unit: column_type::words_per_value(r.typ),
-        ids: ids,
-        offsets: offsets,
-        values: values,
-        terms: terms,
+        ids: from_on(p.ids.to, r.ids as usize),
+        offsets: from_on(p.offsets.to, r.offsets as usize),
+        values: from_on(p.values.to, segment::value_words(r)),
+        terms: from_on(p.terms.to, r.terms as usize),
         text: none,
-        alive: alive,
+        alive: from_on(p.alive.to, segment::alive_words(r)),
         map: none,
-        live: segment::wide(r.alive),
+        live: r.alive as usize,
         least: r.least as usize,
         greatest: r.greatest as usize,
     }
@@ -203,12 +210,9 @@ pub fn fill_stands(records: &[segment::RecordNumbers], stands: &mut [StandNumber
     ensures { stands.new ≡ put 0 (table (λ k. numbers_of (stand_in records.now k)) (length records.now)) stands.old }
 {
     let mut p = before_all();
-    let mut s: usize = 0;
-    while s < records.len() {
-        let r = segment::record_at(records, s);
-        p = next(p, r);
-        stands[s] = numbers_of(p);
-        s += 1;
+    for (s, &r) in records.iter().enumerate() {
+        p = next(p, segment::Record::from(r));
+        stands[s] = StandNumbers::from(p);
     }
 }
 
@@ -226,11 +230,7 @@ pub fn range_in(
     ensures start_value { result.start ≡ start_in p ids.now offsets.now row }
     ensures end_value { result.end ≡ end_in p ids.now offsets.now row }
 {
-    let a = p.ids.from;
-    let b = p.ids.to;
-    let c = p.offsets.from;
-    let d = p.offsets.to;
-    column_index::value_range(p.kind, &ids[a..b], &offsets[c..d], row, near)
+    column_index::value_range(p.kind, p.ids.of(ids), p.offsets.of(offsets), row, near)
 }
 
 // 1 if the row has a value, else 0.
@@ -238,8 +238,5 @@ pub fn one_if(w: usize) -> usize
     ensures value { result ≡ length (id_part 0 w) }
     ensures upper_bound { result ≤ 1 }
 {
-    if w == 0 {
-        return 0;
-    }
-    1
+    w.min(1)
 }

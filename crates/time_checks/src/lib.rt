@@ -5,9 +5,12 @@
 ghost use Rattle.std.specs.Prelude.{◌≡◌, ◌<◌, ◌≤◌, length};
 ghost use Rattle.definitions.specs.Answer.{total};
 ghost use Rattle.definitions.specs.TimeOrder.{time_of, time_answer};
+ghost use Rattle.refusal.specs.Number.{answer_number};
 ghost use Rattle.segment.specs.Records.{record_in, records_of};
 ghost use Rattle.time_checks.specs.Times.{singles, times_rise, fits_times, times_from, HoldsTimes, alive_of};
-ghost use Rattle.time_checks.specs.Lent.{lent_times};
+ghost use Rattle.time_checks.specs.Lent.{times_in};
+
+use refusal::Refusal;
 
 // ---- 12
 
@@ -54,7 +57,7 @@ fn all_times_fit(records: &[segment::RecordNumbers], offsets: &[u32], values: &[
     let mut o: usize = 0;
     let mut v: usize = 0;
     for &numbers in records {
-        let r = segment::record_of(numbers);
+        let r = segment::Record::from(numbers);
         let o_end = o + r.offsets as usize;
         let v_end = v + segment::value_words(r);
         if !times_fit(r, &offsets[o..o_end], &values[v..v_end]) {
@@ -75,37 +78,27 @@ fn all_alive(records: &[segment::RecordNumbers]) -> usize
 {
     let mut n: usize = 0;
     for &numbers in records {
-        n += segment::record_of(numbers).alive as usize;
+        n += segment::Record::from(numbers).alive as usize;
     }
     n
 }
 
 // ---- the answers
 
-// The first of the checks up to 7, 11 and 12 that fails, or 0; the output has place for so many addresses.
+// The first of the checks up to 7, 11 and 12 that fails; the output has place for so many addresses.
 pub fn answer(
     records: &[segment::RecordNumbers],
-    ids: &[u32],
-    offsets: &[u32],
-    values: &[u64],
-    lengths: &[u32],
-    bytes: &[u8],
-    alive: &[u64],
+    sections: &segment::Sections,
     space: usize,
-) -> u32
-    ensures { result ≡ time_answer (lent_times records.now ids.now offsets.now values.now lengths.now bytes.now alive.now space) }
+) -> Result<(), Refusal>
+    ensures { answer_number result ≡ time_answer (times_in records.now sections.now space) }
 {
-    let first = sections_fit::first_to_seven(
-        1, 255, records, ids, offsets, values, lengths, bytes, alive,
-    );
-    if first != 0 {
-        return first;
-    }
+    sections_fit::first_to_seven(1, 255, records, sections)?;
     if space < all_alive(records) {
-        return 11;
+        return Err(Refusal::OutputSpace);
     }
-    if !all_times_fit(records, offsets, values) {
-        return 12;
+    if !all_times_fit(records, sections.offsets, sections.values) {
+        return Err(Refusal::Times);
     }
-    0
+    Ok(())
 }

@@ -7,4 +7,4 @@ returns-in_default c =
 
 pub returns : goal.returns
 returns c =
-    planned_column _ _ _ _ _ _ c.check_types.ensures c.in-Joined.is c.rows_of-rows.ensures c.shape_of.ensures
+    planned_column _ _ _ _ _ _ c.check_types.ensures c.in-Some.is c.rows_of-rows.ensures c.shape_of.ensures

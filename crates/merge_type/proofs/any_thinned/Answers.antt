@@ -1,21 +1,17 @@
-use Prim.Native.Nat.{zero-le}
-use mathlib.Core.Path.{refl, ◌∙◌}
-use borrow.Author.Rules.{rules}
-use Rattle.merge_type.proofs.Pair.{thinned_stop, thinned_next, thinned_end}
+use Rattle.std.proofs.Common.{refl, ◌∙◌, ℕ, List, ◌||◌, rules, tests}
+use Rattle.std.proofs.lemmas.Iterator.{YieldsList-from_slice}
+use Rattle.std.proofs.lemmas.Iterator.Search.{any_from_yields_List}
+use Rattle.std.proofs.lemmas.List.Recursion.{same_from_clauses}
+use Rattle.std.specs.List.{list_any}
+use Rattle.definitions.specs.Lists.{any}
+use Rattle.stands.specs.Stand.{stand_of}
+use Rattle.merge_type.specs.Parts.{is_thinned, any_thinned}
 use Rattle.merge_type.proofs.any_thinned.Goals as goal
 
-pub loop-s-init : goal.loop-s-init
-loop-s-init c =
-    (zero-le, refl)
-
-pub returns-then-is_thinned : goal.returns-then-is_thinned
-returns-then-is_thinned c =
-    thinned_stop _ c.loop-s-test.true c.stand_at.ensures c.is_thinned.ensures c.if-is_thinned.true ∙ c.loop-s.invariant.1
-
-pub loop-s-preserved : goal.loop-s-preserved
-loop-s-preserved c =
-    (search rules, thinned_next _ c.loop-s-test.true c.stand_at.ensures c.is_thinned.ensures c.if-is_thinned.false ∙ c.loop-s.invariant.1)
-
 pub returns : goal.returns
+unfolding any_thinned
 returns c =
-    thinned_end _ _ c.loop-s-test.false ∙ c.loop-s.invariant.1
+    let rs = c.args.stands.now in
+    let p = λ (r : List ℕ). is_thinned (stand_of r) in
+    any_from_yields_List p _ _ _ c.any.ensures.ran (YieldsList-from_slice rs cc) (λ x b q k. search (rules, tests))
+    ∙ same_from_clauses (list_any p) (any p) (λ x b. p x || b) refl (λ _ _. refl) (λ _ _. refl) rs

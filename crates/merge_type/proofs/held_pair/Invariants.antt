@@ -1,11 +1,9 @@
-use Prim.Native.Nat.{◌≤◌, ◌-◌}
-use mathlib.Core.Path.{◌≡◌}
-use lib.ListN.{length, drop}
-use Rattle.merge_type.specs.Found.{none_found, found_from}
+use Rattle.std.proofs.Common.{◌≡◌, None}
+use lib.ListN.{drop}
+use Rattle.std.specs.Option.{option_map}
+use Rattle.min_max.specs.Keys.{pair_in}
+use Rattle.merge_type.specs.Found.{found_from}
 use Rattle.merge_type.proofs.held_pair.Given as goal
 
-abbrev pub invariant-loop-s : goal.invariant-loop-s
-invariant-loop-s l = (l.s ≤ length l.stands) × (found_from l.to l.f (drop l.s l.stands) ≡ found_from l.to none_found l.stands)
-
-abbrev pub decreases-loop-s : goal.decreases-loop-s
-decreases-loop-s l = length l.stands - l.s
+abbrev pub invariant-loop-row : goal.invariant-loop-row
+invariant-loop-row l = found_from l.to (option_map pair_in l.found) (drop l.row-index l.stands) ≡ found_from l.to None l.stands

@@ -1,22 +1,17 @@
-use mathlib.Core.Path.{refl, ◌∙◌}
-use Prim.Native.Nat.{zero-le}
-use native.Mathlib.Omega.{arith}
-use Rattle.sections_fit.proofs.Walks.{codes_step, codes-end}
-use Rattle.lists.proofs.Tests.{fell, went}
+use Rattle.std.proofs.Common.{refl, ◌∙◌, ℕ, List, ◌&&◌, rules, tests}
+use Rattle.std.proofs.lemmas.Iterator.{YieldsList-from_slice}
+use Rattle.std.proofs.lemmas.Iterator.Search.{all_from_yields_List}
+use Rattle.std.proofs.lemmas.List.Recursion.{same_from_clauses}
+use Rattle.std.specs.List.{list_all}
+use Rattle.segment.specs.Records.{row_record, records_of}
+use Rattle.segment_fit.specs.Fits.{fits_codes}
+use Rattle.sections_fit.specs.Walks.{codes_from}
 use Rattle.sections_fit.proofs.all_codes_fit.Goals as goal
 
-pub loop-s-init : goal.loop-s-init
-loop-s-init c =
-    (zero-le, refl)
-
-pub returns-then-not-codes_fit : goal.returns-then-not-codes_fit
-returns-then-not-codes_fit c =
-    fell _ c.codes_fit.ensures (codes_step c.args.records.now c.loop-s.s c.loop-s-test.true c.record_at-r.ensures) c.if-not-codes_fit.true ∙ c.loop-s.invariant.1
-
-pub loop-s-preserved : goal.loop-s-preserved
-loop-s-preserved c =
-    (omega arith, went _ c.codes_fit.ensures (codes_step c.args.records.now c.loop-s.s c.loop-s-test.true c.record_at-r.ensures) c.if-not-codes_fit.false ∙ c.loop-s.invariant.1)
-
 pub returns : goal.returns
+unfolding codes_from
 returns c =
-    codes-end c.args.records.now c.loop-s.s c.loop-s-test.false ∙ c.loop-s.invariant.1
+    let rs = c.args.records.now in
+    let p = λ (r : List ℕ). fits_codes (row_record r) in
+    all_from_yields_List p _ _ _ c.all.ensures.ran (YieldsList-from_slice rs cc) (λ x b q k. search (rules, tests))
+    ∙ same_from_clauses (list_all p) (λ l. codes_from (records_of l)) (λ x b. p x && b) refl (λ _ _. refl) (λ _ _. refl) rs

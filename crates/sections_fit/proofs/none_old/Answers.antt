@@ -1,28 +1,18 @@
-use mathlib.Core.Path.{refl, sym, ap, ◌∙◌}
-use mathlib.Core.Bool.{Bool, ◌&&◌, not}
-use Prim.Native.Nat.{◌+◌, zero-le}
-use native.Mathlib.Omega.{arith}
-use lib.ListN.{drop}
-use borrow.Author.Tests.{eq-eqb, ne_eqb}
-use Rattle.sections_fit.proofs.Walks.{old_step, old_end}
+use Rattle.std.proofs.Common.{refl, ◌∙◌, ℕ, List, ◌&&◌, rules, tests}
+use mathlib.Core.Bool.{not}
+use lib.Dec.{eqb}
+use Rattle.std.proofs.lemmas.Iterator.{YieldsList-from_slice}
+use Rattle.std.proofs.lemmas.Iterator.Search.{all_from_yields_List}
+use Rattle.std.proofs.lemmas.List.Recursion.{same_from_clauses}
+use Rattle.std.specs.List.{list_all}
+use Rattle.segment.specs.Records.{row_record, records_of}
 use Rattle.sections_fit.specs.Walks.{none_old}
-use Rattle.segment.specs.Records.{records_of}
 use Rattle.sections_fit.proofs.none_old.Goals as goal
 
-pub loop-s-init : goal.loop-s-init
-loop-s-init c =
-    (zero-le, refl)
-
-pub returns-then-r-eq3 : goal.returns-then-r-eq3
-returns-then-r-eq3 c =
-    let step = old_step c.args.records.now c.loop-s.s c.loop-s-test.true c.record_at-r.ensures in
-    sym (ap (λ (b : Bool). not b && none_old (records_of (drop (c.loop-s.s + 1) c.args.records.now))) (eq-eqb _ _ c.if-r-eq3.true)) ∙ sym step ∙ c.loop-s.invariant.1
-
-pub loop-s-preserved : goal.loop-s-preserved
-loop-s-preserved c =
-    let step = old_step c.args.records.now c.loop-s.s c.loop-s-test.true c.record_at-r.ensures in
-    (omega arith, sym (ap (λ (b : Bool). not b && none_old (records_of (drop (c.loop-s.s + 1) c.args.records.now))) (ne_eqb _ _ c.if-r-eq3.false)) ∙ sym step ∙ c.loop-s.invariant.1)
-
 pub returns : goal.returns
+unfolding none_old
 returns c =
-    old_end c.args.records.now c.loop-s.s c.loop-s-test.false ∙ c.loop-s.invariant.1
+    let rs = c.args.records.now in
+    let p = λ (r : List ℕ). not (eqb (row_record r).kind 3) in
+    all_from_yields_List p _ _ _ c.all.ensures.ran (YieldsList-from_slice rs cc) (λ x b q k. search (rules, tests))
+    ∙ same_from_clauses (list_all p) (λ l. none_old (records_of l)) (λ x b. p x && b) refl (λ _ _. refl) (λ _ _. refl) rs
