@@ -8,12 +8,12 @@ use mathlib.Core.List.{List, [], ◌∷◌}
 use mathlib.Core.Logic.{◌⊎◌, inl, inr}
 use mathlib.Core.Bool.{Bool, true, false, cond}
 use lib.ListN.{length, take, drop, set, get_or, length-drop}
-use lib.Seq.{drop-cons, drop-drop, take_all, length-take-le}
+use lib.Seq.{drop-cons, drop-drop, take_all}
 use lib.Dec.{ltb}
 use Rattle.runs.specs.Put.{put}
 use Rattle.runs.proofs.Laws.{put_one, put-put, Filling}
 use Rattle.lists.proofs.Numbers.{le-lt}
-use Rattle.convert.specs.Risen.{one_if, risen_ids, risen_ends, steps_by, rises, falls, SideBySide}
+use Rattle.convert.specs.Risen.{one_if, risen_ids, risen_ends, steps_by, rises, falls}
 
 -- ---- the next row, and the end
 
@@ -100,6 +100,29 @@ module _ (t : ℕ → ℕ → Bool) where
   steps_end (o ∷ p ∷ ps) zero h = absurd (omega arith)
   steps_end (o ∷ os) (suc row) h = steps_end os row (omega arith)
 
+  -- from a row back to the one before it
+  pub steps_back : (os : List ℕ) (i : ℕ) → 1 ≤ i → i < length os → steps_by t (drop (i - 1) os) ≡ one_if (t (get_or os (i - 1) 0) (get_or os i 0)) + steps_by t (drop (i + 1 - 1) os)
+  steps_back os i l h =
+      let e : i - 1 + 1 ≡ i = omega arith in
+      let f : i - 1 + 1 ≡ i + 1 - 1 = omega arith in
+      steps_step os (i - 1) (omega arith) ∙ ap₂ (λ (m n : ℕ). one_if (t (get_or os (i - 1) 0) (get_or os m 0)) + steps_by t (drop n os)) e f
+
+  pub steps_past : (os : List ℕ) (i : ℕ) → 1 ≤ i → length os ≤ i → steps_by t (drop (i - 1) os) ≡ 0
+  steps_past os i l h = steps_end os (i - 1) (omega arith)
+
+  -- of the next two, and past them
+  pub steps_pair : (rest next pair : List ℕ) → 2 ≤ length rest → pair ≡ take 2 rest → next ≡ drop 1 rest → steps_by t rest ≡ one_if (t (get_or pair 0 0) (get_or pair 1 0)) + steps_by t next
+  unfolding steps_by
+  steps_pair [] next pair h p n = absurd (omega arith)
+  steps_pair (o ∷ []) next pair h p n = absurd (omega arith)
+  steps_pair (o ∷ q ∷ qs) next pair h p n = rw (p, n)
+
+  pub steps_none : (rest : List ℕ) → length rest < 2 → steps_by t rest ≡ 0
+  unfolding steps_by
+  steps_none [] h = refl
+  steps_none (o ∷ []) h = refl
+  steps_none (o ∷ q ∷ qs) h = absurd (omega arith)
+
   -- of two parts that share an element
   steps_split : (os : List ℕ) (q : ℕ) → q < length os → steps_by t (take (suc q) os) + steps_by t (drop q os) ≡ steps_by t os
   unfolding steps_by
@@ -154,25 +177,6 @@ module _ (t : ℕ → ℕ → Bool) where
 pub quarter : (n : ℕ) → (n ≡ 0 → ⊥) → 4 * ((n - 1) / 4) < n
 quarter zero h = absurd (h refl)
 quarter (suc m) h = omega arith
-
-module _ (os : List ℕ) (q : ℕ) (h : 4 * q < length os) where
-  pub part-first : q + 1 ≡ length (take (q + 1) os)
-  part-first = sym (length-take-le (q + 1) os (omega arith))
-
-  part_later : (a b : ℕ) → a ≡ b + q → b + q < length os → length (take (a + 1 - b) (drop b os)) ≡ length (take (q + 1) os)
-  part_later a b e l =
-      let k = length-drop b os in
-      length-take-le (a + 1 - b) (drop b os) (omega arith) ∙ (let z : a + 1 - b ≡ q + 1 = omega arith in z) ∙ part-first
-
-  pub parts_beside : length os < 4294967296
-      → SideBySide (take (q + 1) os) (take (q + q + 1 - q) (drop q os)) (take (q + q + q + 1 - (q + q)) (drop (q + q) os)) (take (q + q + q + q + 1 - (q + q + q)) (drop (q + q + q) os))
-  parts_beside n =
-      record {
-        second = part_later (q + q) q refl (omega arith);
-        third = part_later (q + q + q) (q + q) refl (omega arith);
-        fourth = part_later (q + q + q + q) (q + q + q) refl (omega arith);
-        few = omega (arith, part-first);
-      }
 
 pub no_steps : (os : List ℕ) → length os ≡ 0 → (0 ≡ length (risen_ids 0 os)) × (0 ≡ falls os)
 unfolding risen_ids steps_by

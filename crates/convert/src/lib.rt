@@ -33,19 +33,11 @@ fn lengths_fit(r: segment::Record, sections: &segment::Sections) -> bool
 }
 
 // Type and flag are known, and there is a column of kind 3.
+#[tactic(auto, unfolding(crate::specs::Fits::fits_kind))]
 fn kind_fits(r: segment::Record) -> bool
     ensures { result ≡ fits_kind (record_in r) }
 {
-    if !column_type::is_known(r.typ) {
-        return false;
-    }
-    if 2 <= r.flag {
-        return false;
-    }
-    if r.typ == 255 {
-        return false;
-    }
-    r.kind == 3
+    column_type::is_known(r.typ) && r.flag < 2 && r.typ != 255 && r.kind == 3
 }
 
 // ---- 4
@@ -59,7 +51,7 @@ fn one_if_below(a: u32, b: u32) -> u32
 }
 
 // How many offsets are above the one before them, and how many below it.
-#[derive(Clone, Copy)]
+#[derive(Clone, Copy, Default)]
 struct Steps {
     risen: u32,
     fallen: u32,
@@ -83,14 +75,9 @@ fn steps_in(offsets: &[u32]) -> Steps
     ensures risen_value { result.risen ≡ rises offsets.now }
     ensures fallen_value { result.fallen ≡ falls offsets.now }
 {
-    let mut s = Steps {
-        risen: 0,
-        fallen: 0,
-    };
-    let mut i: usize = 0;
-    while i + 1 < offsets.len() {
-        s = one_more(s, offsets[i], offsets[i + 1]);
-        i += 1;
+    let mut s = Steps::default();
+    for pair in offsets.windows(2) {
+        s = one_more(s, pair[0], pair[1]);
     }
     s
 }
@@ -101,17 +88,12 @@ fn steps_in_four(a: &[u32], b: &[u32], c: &[u32], d: &[u32]) -> Steps
     ensures risen_value { result.risen ≡ rises a.now + rises b.now + rises c.now + rises d.now }
     ensures fallen_value { result.fallen ≡ falls a.now + falls b.now + falls c.now + falls d.now }
 {
-    let mut s = Steps {
-        risen: 0,
-        fallen: 0,
-    };
-    let mut i: usize = 0;
-    while i + 1 < a.len() {
-        s = one_more(s, a[i], a[i + 1]);
-        s = one_more(s, b[i], b[i + 1]);
-        s = one_more(s, c[i], c[i + 1]);
-        s = one_more(s, d[i], d[i + 1]);
-        i += 1;
+    let mut s = Steps::default();
+    for i in 1..a.len() {
+        s = one_more(s, a[i - 1], a[i]);
+        s = one_more(s, b[i - 1], b[i]);
+        s = one_more(s, c[i - 1], c[i]);
+        s = one_more(s, d[i - 1], d[i]);
     }
     s
 }
@@ -122,11 +104,8 @@ fn count_steps(offsets: &[u32]) -> Steps
     ensures risen_value { result.risen ≡ length (risen_ids 0 offsets.now) }
     ensures fallen_value { result.fallen ≡ falls offsets.now }
 {
-    if offsets.len() == 0 {
-        return Steps {
-            risen: 0,
-            fallen: 0,
-        };
+    if offsets.is_empty() {
+        return Steps::default();
     }
     let q = (offsets.len() - 1) / 4;
     let r = q + q;
@@ -146,20 +125,15 @@ fn count_steps(offsets: &[u32]) -> Steps
 }
 
 // No ids, and rows + 1 offsets from 0 to the number of values, none of them below the one before it.
+#[tactic(auto, unfolding(crate::specs::Fits::fits_old))]
 fn old_fits(rows: u32, values: u32, fallen: u32, ids: &[u32], offsets: &[u32]) -> bool
     requires { fallen ≡ falls offsets.now }
     ensures { result ≡ fits_old rows values ids.now offsets.now }
 {
-    if ids.len() != 0 {
-        return false;
-    }
-    if offsets.len() != segment::wide(rows) + 1 {
-        return false;
-    }
-    if !segment_fit::offsets_fit(offsets, values) {
-        return false;
-    }
-    fallen == 0
+    ids.is_empty()
+        && offsets.len() == rows as usize + 1
+        && segment_fit::offsets_fit(offsets, values)
+        && fallen == 0
 }
 
 // ---- 2 to 6
@@ -204,10 +178,11 @@ fn fill(offsets: &[u32], n: usize, out_ids: &mut [u32], out_offsets: &mut [u32])
     out_offsets[0] = 0;
     let mut k: usize = 0;
     let mut row: usize = 0;
+    // Stays: a `while`, which ends with k and not with the row; a `for` over the rows would need an end and a `break` beside it.
     while k < n {
         out_ids[k] = row as u32;
         out_offsets[k + 1] = offsets[row + 1];
-        k += segment::wide(one_if_below(offsets[row], offsets[row + 1]));
+        k += one_if_below(offsets[row], offsets[row + 1]) as usize;
         row += 1;
     }
 }
@@ -218,17 +193,10 @@ fn renewed_record(r: segment::Record, n: usize) -> segment::Record
     ensures { result ≡ renewed_record r n }
 {
     segment::Record {
-        typ: r.typ,
         kind: 4,
-        rows: r.rows,
         ids: n as u32,
         offsets: (n + 1) as u32,
-        values: r.values,
-        terms: r.terms,
-        flag: r.flag,
-        alive: r.alive,
-        least: r.least,
-        greatest: r.greatest,
+        ..r
     }
 }
 

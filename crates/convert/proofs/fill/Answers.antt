@@ -9,41 +9,12 @@ use Rattle.convert.proofs.Risen.{ids_step, ends_step, ends-ids, none_left, turn,
 use borrow.Author.Rules.{rules}
 use Rattle.convert.proofs.fill.Goals as goal
 
-pub bounds-out_offsets-0 : goal.bounds-out_offsets-0
-bounds-out_offsets-0 c =
-    omega (arith, c.requires.n_in_bounds_2)
-
 pub loop-k-init : goal.loop-k-init
 loop-k-init c =
     (zero-le, fill-from 0 (risen_ids 0 c.args.offsets.now) _ (omega (arith, c.requires.n_value, c.requires.n_in_bounds)), fill-from 1 (risen_ends c.args.offsets.now) _ (simp length-set (omega (arith, c.requires.n_value, c.requires.n_in_bounds_2, ends-ids 0 c.args.offsets.now))))
 
-pub overflow_cast-out_ids : goal.overflow_cast-out_ids
-overflow_cast-out_ids c =
-    let t = turn c.requires.n_value c.loop-k.invariant.1 c.loop-k.invariant.2 c.loop-k-test.true in
-    search rules
-
-pub bounds-out_ids-k : goal.bounds-out_ids-k
-bounds-out_ids-k c =
-    let t = turn c.requires.n_value c.loop-k.invariant.1 c.loop-k.invariant.2 c.loop-k-test.true in
-    search rules
-
-pub overflow_add-out_offsets : goal.overflow_add-out_offsets
-overflow_add-out_offsets c =
-    let t = turn c.requires.n_value c.loop-k.invariant.1 c.loop-k.invariant.2 c.loop-k-test.true in
-    search rules
-
 pub bounds-offsets-row : goal.bounds-offsets-row
 bounds-offsets-row c =
-    let t = turn c.requires.n_value c.loop-k.invariant.1 c.loop-k.invariant.2 c.loop-k-test.true in
-    search rules
-
-pub overflow_add-out_offsets-in-loop-k : goal.overflow_add-out_offsets-in-loop-k
-overflow_add-out_offsets-in-loop-k c =
-    let t = turn c.requires.n_value c.loop-k.invariant.1 c.loop-k.invariant.2 c.loop-k-test.true in
-    search rules
-
-pub bounds-out_offsets-k : goal.bounds-out_offsets-k
-bounds-out_offsets-k c =
     let t = turn c.requires.n_value c.loop-k.invariant.1 c.loop-k.invariant.2 c.loop-k-test.true in
     search rules
 
@@ -52,23 +23,8 @@ bounds-offsets-row-in-loop-k c =
     let t = turn c.requires.n_value c.loop-k.invariant.1 c.loop-k.invariant.2 c.loop-k-test.true in
     search rules
 
-pub overflow_add-row : goal.overflow_add-row
-overflow_add-row c =
-    let t = turn c.requires.n_value c.loop-k.invariant.1 c.loop-k.invariant.2 c.loop-k-test.true in
-    search rules
-
 pub bounds-offsets-row-in-loop-k-2 : goal.bounds-offsets-row-in-loop-k-2
 bounds-offsets-row-in-loop-k-2 c =
-    let t = turn c.requires.n_value c.loop-k.invariant.1 c.loop-k.invariant.2 c.loop-k-test.true in
-    search rules
-
-pub overflow_add-k : goal.overflow_add-k
-overflow_add-k c =
-    let t = turn c.requires.n_value c.loop-k.invariant.1 c.loop-k.invariant.2 c.loop-k-test.true in
-    omega (arith, t.id, c.wide-k.ensures.value, c.one_if_below.ensures.upper_bound)
-
-pub overflow_add-row-in-loop-k : goal.overflow_add-row-in-loop-k
-overflow_add-row-in-loop-k c =
     let t = turn c.requires.n_value c.loop-k.invariant.1 c.loop-k.invariant.2 c.loop-k-test.true in
     search rules
 
@@ -81,19 +37,11 @@ pub loop-k-preserved : goal.loop-k-preserved
 loop-k-preserved c =
     let t = turn c.requires.n_value c.loop-k.invariant.1 c.loop-k.invariant.2 c.loop-k-test.true in
     let b = ltb (get_or c.args.offsets.now c.loop-k.row 0) (get_or c.args.offsets.now (c.loop-k.row + 1) 0) in
-    let d = c.wide-k.ensures.value ∙ c.one_if_below.ensures.value in (
+    let d = c.one_if_below.ensures.value in (
       omega (arith, t.left),
       fill_if c.loop-k.invariant.1 b c.loop-k.row (risen_ids (c.loop-k.row + 1) (drop (c.loop-k.row + 1) c.args.offsets.now)) (ids_step c.args.offsets.now c.loop-k.row t.left c.loop-k.row) (omega (arith, c.loop-k-test.true, c.requires.n_value)) (ap (λ (n : ℕ). c.loop-k.k + n) d),
       fill_if c.loop-k.invariant.2 b (get_or c.args.offsets.now (c.loop-k.row + 1) 0) (risen_ends (drop (c.loop-k.row + 1) c.args.offsets.now)) (ends_step c.args.offsets.now c.loop-k.row t.left) (omega (arith, c.loop-k-test.true, c.requires.n_value, ends-ids 0 c.args.offsets.now)) (omega (arith, d)),
     )
-
-pub shape_of-out_ids : goal.shape_of-out_ids
-shape_of-out_ids c =
-    c.loop-k.invariant.1.kept
-
-pub shape_of-out_offsets : goal.shape_of-out_offsets
-shape_of-out_offsets c =
-    c.loop-k.invariant.2.kept ∙ length-set c.args.out_offsets.now 0 0
 
 pub returns-clause-out_ids_after : goal.returns-clause-out_ids_after
 returns-clause-out_ids_after c =

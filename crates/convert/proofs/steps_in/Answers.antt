@@ -1,32 +1,33 @@
 use native.Mathlib.Omega.{arith}
+use mathlib.Core.Path.{ap, ◌∙◌}
+use Prim.Native.Nat.{ℕ}
 use lib.Dec.{ltb}
-use borrow.Author.Rules.{rules}
-use Rattle.convert.proofs.Risen.{steps_step, steps_end}
+use lib.ListN.{length, take, length-drop}
+use Rattle.std.specs.Slice.Iter.{windows_rest}
+use Rattle.convert.proofs.Risen.{steps_pair, steps_none}
 use Rattle.convert.proofs.steps_in.Goals as goal
 
-pub loop-i-init : goal.loop-i-init
-loop-i-init c =
-    (search rules, omega arith, omega arith, search rules, search rules)
-
-pub loop-i-preserved : goal.loop-i-preserved
-loop-i-preserved c =
-    let up0 = steps_step (λ o p. ltb o p) c.args.offsets.now c.loop-i.i c.loop-i-test.true in
-    let down0 = steps_step (λ o p. ltb p o) c.args.offsets.now c.loop-i.i c.loop-i-test.true in (
-      search rules,
-      omega (arith, c.loop-i.invariant.1, c.one_more-s.ensures.risen_value.0),
-      omega (arith, c.loop-i.invariant.2, c.one_more-s.ensures.fallen_value.0),
-      omega (arith, c.loop-i.invariant.3, c.one_more-s.ensures.risen_value.1),
-      omega (arith, c.loop-i.invariant.4, c.one_more-s.ensures.fallen_value.1),
+pub loop-pair-preserved : goal.loop-pair-preserved
+loop-pair-preserved c =
+    let h = c.in-Some.ensures.steps in
+    let rest = windows_rest c.loop-pair.pair-iterator in
+    let next = windows_rest c.next.new.self in
+    let pair = c.in-Some.pair.now in
+    let two = h.1.1 ∙ ap (λ (n : ℕ). take n rest) c.loop-pair.invariant.0 in
+    let up = steps_pair (λ o p. ltb o p) rest next pair (omega arith) two h.1.2 in
+    let down = steps_pair (λ o p. ltb p o) rest next pair (omega arith) two h.1.2 in
+    let l = ap length h.1.2 ∙ length-drop 1 rest in (
+      h.0 ∙ c.loop-pair.invariant.0,
+      omega (arith, c.one_more-s.ensures.risen_value.0),
+      omega (arith, c.one_more-s.ensures.fallen_value.0),
+      omega (arith, c.one_more-s.ensures.risen_value.1),
+      omega (arith, c.one_more-s.ensures.fallen_value.1),
     )
 
 pub returns-clause-risen_value : goal.returns-clause-risen_value
 returns-clause-risen_value c =
-    let up0 = steps_end (λ o p. ltb o p) c.args.offsets.now c.loop-i.i c.loop-i-test.false in
-    let down0 = steps_end (λ o p. ltb p o) c.args.offsets.now c.loop-i.i c.loop-i-test.false in
-    omega (arith, c.loop-i.invariant.1)
+    let z = steps_none (λ o p. ltb o p) (windows_rest c.loop-pair.pair-iterator) (omega (arith, c.in-None.ensures.steps.1.0)) in omega (arith, c.loop-pair.invariant.1)
 
 pub returns-clause-fallen_value : goal.returns-clause-fallen_value
 returns-clause-fallen_value c =
-    let up0 = steps_end (λ o p. ltb o p) c.args.offsets.now c.loop-i.i c.loop-i-test.false in
-    let down0 = steps_end (λ o p. ltb p o) c.args.offsets.now c.loop-i.i c.loop-i-test.false in
-    omega (arith, c.loop-i.invariant.2)
+    let z = steps_none (λ o p. ltb p o) (windows_rest c.loop-pair.pair-iterator) (omega (arith, c.in-None.ensures.steps.1.0)) in omega (arith, c.loop-pair.invariant.2)

@@ -1,15 +1,13 @@
 use mathlib.Core.Path.{◌≡◌}
 use Prim.Native.Nat.{◌+◌, ◌-◌, ◌*◌, ◌≤◌}
-use lib.ListN.{length, drop}
+use lib.ListN.{drop}
 use Rattle.convert.specs.Risen.{rises, falls}
 use Rattle.convert.proofs.steps_in_four.Given as goal
 
 abbrev pub invariant-loop-i : goal.invariant-loop-i
-invariant-loop-i l = (l.i ≤ length l.a)
-    × (l.s.risen + (rises (drop l.i l.a) + rises (drop l.i l.b) + rises (drop l.i l.c) + rises (drop l.i l.d)) ≡ rises l.a + rises l.b + rises l.c + rises l.d)
-    × (l.s.fallen + (falls (drop l.i l.a) + falls (drop l.i l.b) + falls (drop l.i l.c) + falls (drop l.i l.d)) ≡ falls l.a + falls l.b + falls l.c + falls l.d)
-    × (l.s.risen ≤ 4 * l.i)
-    × (l.s.fallen ≤ 4 * l.i)
-
-abbrev pub decreases-loop-i : goal.decreases-loop-i
-decreases-loop-i l = length l.a - l.i
+invariant-loop-i l =
+    let j = l.i - 1 in
+    (l.s.risen + (rises (drop j l.a) + rises (drop j l.b) + rises (drop j l.c) + rises (drop j l.d)) ≡ rises l.a + rises l.b + rises l.c + rises l.d)
+    × (l.s.fallen + (falls (drop j l.a) + falls (drop j l.b) + falls (drop j l.c) + falls (drop j l.d)) ≡ falls l.a + falls l.b + falls l.c + falls l.d)
+    × (l.s.risen ≤ 4 * j)
+    × (l.s.fallen ≤ 4 * j)
