@@ -191,22 +191,10 @@ fn dropped_at(p: Stand, map: usize, text: Span) -> Stand
         held: 0,
         count: 0,
         unit: 1,
-        ids: Span {
-            to: p.ids.from,
-            ..p.ids
-        },
-        offsets: Span {
-            to: p.offsets.from,
-            ..p.offsets
-        },
-        values: Span {
-            to: p.values.from,
-            ..p.values
-        },
-        terms: Span {
-            to: p.terms.from,
-            ..p.terms
-        },
+        ids: p.ids.emptied(),
+        offsets: p.offsets.emptied(),
+        values: p.values.emptied(),
+        terms: p.terms.emptied(),
         text: Span {
             from: text.to,
             ..text
