@@ -1,16 +1,16 @@
 -- The set bits of the words of an alive set, word by word. Assumes nothing.
 use Prim.Native.Nat.{ℕ, zero, suc, ◌+◌, ◌*◌, ◌/◌, ◌%◌, ◌^◌, ◌≤◌, ◌<◌}
 use native.Mathlib.Nat.{add-suc, div-one, pow-suc}
-use native.Mathlib.Numerals.{add-one}
 use native.Mathlib.Omega.{arith}
 use mathlib.Core.Path.{◌≡◌, refl, sym, ap, ap₂, ◌∙◌}
-use mathlib.Core.List.{List, ◌∷◌}
+use mathlib.Core.List.{List, [], ◌∷◌}
 use mathlib.Core.Bool.{Bool, cond}
-use lib.ListN.{length, get_or, drop, drop_of_length-le}
-use lib.Seq.{drop-cons}
+use lib.ListN.{length, get_or}
 use lib.Dec.{eqb}
 use lib.Pow.{shr-shr}
 use lib.Count.{ones, ones_step, ones-le}
+use Rattle.std.specs.List.{sum_by}
+use Rattle.std.proofs.lemmas.List.Sums.{sum_by-cons}
 use Rattle.definitions.specs.Lists.{count, up_from}
 use Rattle.definitions.specs.Row.{bit_at, set_bits}
 use Rattle.definitions.proofs.AliveNumber.{count_same, count_split, odd_or-even, bits_count}
@@ -73,11 +73,7 @@ bits_words w ws h =
     (count_same (bit_at (w ∷ ws)) (digit w) 0 64 (first_word w ws) ∙ digits_ones 64 w h)
     (count-moved (bit_at (w ∷ ws)) 64 0 (64 * length ws) ∙ count_same (λ r. bit_at (w ∷ ws) (64 + r)) (bit_at ws) 0 (64 * length ws) (λ r l. next-words w ws r) ∙ sym (bits_count ws))
 
--- ---- a counting loop
-
-pub count_step : (words : List ℕ) (i : ℕ) → i < length words → get_or words i 0 < 2 ^ 64 → set_bits (drop i words) ≡ ones (get_or words i 0) + set_bits (drop (i + 1) words)
-count_step words i h l = rw (add-one i, drop-cons words i 0 h) (bits_words (get_or words i 0) (drop (suc i) words) l)
-
-pub count-end : (words : List ℕ) (i : ℕ) → length words ≤ i → set_bits (drop i words) ≡ 0
+pub sum_by-ones : (words : List ℕ) → ((i : ℕ) → get_or words i 0 < 2 ^ 64) → sum_by ones words ≡ set_bits words
 unfolding set_bits
-count-end words i h = rw (drop_of_length-le words h)
+sum_by-ones [] h = refl
+sum_by-ones (w ∷ ws) h = sum_by-cons ones w ws ∙ ap (λ (n : ℕ). ones w + n) (sum_by-ones ws (λ i. h (suc i))) ∙ sym (bits_words w ws (h 0))

@@ -10,9 +10,7 @@ pub fn is_alive(words: &[u64], row: usize) -> bool
     requires { row < 64 * length words.now }
     ensures { result ≡ bit_at words.now row }
 {
-    let w = words[row / 64];
-    let b = (row % 64) as u64;
-    (w >> b) % 2 == 1
+    words[row / 64] >> (row % 64) & 1 == 1
 }
 
 // How many bits are set, by counting the ones of each word.
@@ -20,13 +18,7 @@ pub fn count_alive(words: &[u64]) -> usize
     requires { length words.now ≤ 67108864 }
     ensures { result ≡ set_bits words.now }
 {
-    let mut n: usize = 0;
-    let mut i: usize = 0;
-    while i < words.len() {
-        n += segment::wide(u64::count_ones(words[i]));
-        i += 1;
-    }
-    n
+    words.iter().map(|w| w.count_ones() as usize).sum()
 }
 
 // Sets the row's bit, which is not set.
@@ -35,8 +27,7 @@ pub fn set_alive(words: &mut [u64], row: usize)
     requires row_value { bit_at words.old row ≡ false }
     ensures { words.new ≡ with_bit words.old (row / 64) (row % 64) }
 {
-    let b = (row % 64) as u64;
-    words[row / 64] += 1u64 << b;
+    words[row / 64] |= 1 << (row % 64);
 }
 
 // Clears the row's bit, which is set.
@@ -45,6 +36,5 @@ pub fn clear_alive(words: &mut [u64], row: usize)
     requires row_value { bit_at words.old row ≡ true }
     ensures { words.new ≡ without_bit words.old (row / 64) (row % 64) }
 {
-    let b = (row % 64) as u64;
-    words[row / 64] -= 1u64 << b;
+    words[row / 64] &= !(1 << (row % 64));
 }

@@ -1,164 +1,107 @@
 -- What the readers carry on from one turn of their loops to the next. Assumes nothing.
-use mathlib.Core.Path.{◌≡◌, refl, sym, ap, ◌∙◌}
+use mathlib.Core.Path.{◌≡◌, refl, sym, ap, ap₂, ◌∙◌}
 use mathlib.Core.List.{List, [], ◌∷◌, ◌++◌, append-nil, append_assoc}
-use Prim.Native.Nat.{ℕ, zero, suc, ◌+◌, ◌-◌, ◌*◌, ◌≤◌, ◌<◌, zero-le}
-use native.Mathlib.Nat.{zero-add}
+use Prim.Native.Nat.{ℕ, suc, ◌+◌, ◌-◌, ◌*◌, ◌≤◌, ◌<◌, min}
 use native.Mathlib.Numerals.{add-one}
 use native.Mathlib.Omega.{arith}
-use lib.ListN.{length, take, drop, get_or, set, drop_of_length-le, length-set}
-use lib.Seq.{drop-cons, take-length, take-suc-set}
-use borrow.Author.Tests.{eq-eqb, ne_eqb, lt-ltb, le-ltb}
-use Rattle.case_text.specs.Counts.{Counts}
-use Rattle.case_text.specs.Text.{cap_at, digit_of, skip_from, digits_from, number_in, read_from, place_after, fill_from, capped_in, row_in, Listed}
-use Rattle.case_text.proofs.Counting.{counts}
+use lib.ListN.{length, take, drop, set, length-set}
+use lib.Seq.{take-suc-set}
+use mathlib.Core.Bool.{true, false}
+use Rattle.std.specs.Prelude.{None, Some}
+use Rattle.std.specs.Option.{is_some}
+use Rattle.std.proofs.lemmas.List.{take_all}
+use borrow.Author.Tests.{lt-ltb, le-ltb}
+use Rattle.case_text.specs.Text.{digit_of, skipped, digits_from, number_in, capped_in, read_from, row_in, rest_after, Listed}
 
-pub cap_below : (most n : ℕ) → n < most → n ≡ cap_at most n
-unfolding cap_at
-cap_below most n h = rw (lt-ltb n most h)
-
-pub cap_above : (most n : ℕ) → most ≤ n → most ≡ cap_at most n
-unfolding cap_at
-cap_above most n h = rw (le-ltb n most h)
-
--- ---- digits
-
-module _ (b : ℕ) where
-  pub digit-below : b < 48 → 16 ≡ digit_of b
-  unfolding digit_of
-  digit-below h = rw (lt-ltb b 48 h)
-
-  pub digit_ten : 48 ≤ b → b < 58 → b - 48 ≡ digit_of b
-  unfolding digit_of
-  digit_ten h k = rw (le-ltb b 48 h, lt-ltb b 58 k)
-
-  pub digit-between : 58 ≤ b → b < 97 → 16 ≡ digit_of b
-  unfolding digit_of
-  digit-between h k = rw (le-ltb b 48 (let x : 48 ≤ b = omega arith in x), le-ltb b 58 h, lt-ltb b 97 k)
-
-  pub digit_letter : 97 ≤ b → b < 103 → b - 87 ≡ digit_of b
-  unfolding digit_of
-  digit_letter h k = rw (le-ltb b 48 (let x : 48 ≤ b = omega arith in x), le-ltb b 58 (let x : 58 ≤ b = omega arith in x), le-ltb b 97 h, lt-ltb b 103 k)
-
-  pub digit-above : 103 ≤ b → 16 ≡ digit_of b
-  unfolding digit_of
-  digit-above h =
-      rw (le-ltb b 48 (let x : 48 ≤ b = omega arith in x), le-ltb b 58 (let x : 58 ≤ b = omega arith in x), le-ltb b 97 (let x : 97 ≤ b = omega arith in x), le-ltb b 103 h)
-
--- ---- the byte at place i, with the digit d
-
-module _ (text : List ℕ) (i : ℕ) where
-  pub skip_end : length text ≤ i → i ≡ skip_from i (drop i text)
-  unfolding skip_from
-  skip_end h = rw (drop_of_length-le text h)
-
-  pub digits_end : (n : ℕ) → length text ≤ i → (n, i) ≡ digits_from n i (drop i text)
-  unfolding digits_from
-  digits_end n h = rw (drop_of_length-le text h)
-
-  module _ (h : i < length text) (d : ℕ) (e : d ≡ digit_of (get_or text i 0)) where
-    pub skip_here : d < 16 → i ≡ skip_from i (drop i text)
-    unfolding skip_from
-    skip_here l = rw (drop-cons text i 0 h, ← e, lt-ltb d 16 l)
-
-    pub skip_on : 16 ≤ d → skip_from (i + 1) (drop (i + 1) text) ≡ skip_from i (drop i text)
-    unfolding skip_from
-    skip_on l = rw (drop-cons text i 0 h, ← e, le-ltb d 16 l, add-one i)
-
-    pub digits-stop : (n : ℕ) → d ≡ 16 → (n, i) ≡ digits_from n i (drop i text)
-    unfolding digits_from
-    digits-stop n q = rw (drop-cons text i 0 h, ← e, eq-eqb d 16 q)
-
-    pub digits_wide : (n : ℕ) → (d ≡ 16 → ⊥) → 1152921504606846975 < n → (n, i) ≡ digits_from n i (drop i text)
-    unfolding digits_from
-    digits_wide n q l = rw (drop-cons text i 0 h, ← e, ne_eqb d 16 q, lt-ltb 1152921504606846975 n l)
-
-    pub digits_on : (n : ℕ) → (d ≡ 16 → ⊥) → n ≤ 1152921504606846975 → digits_from (n * 16 + d) (i + 1) (drop (i + 1) text) ≡ digits_from n i (drop i text)
-    unfolding digits_from
-    digits_on n q l = rw (drop-cons text i 0 h, ← e, ne_eqb d 16 q, le-ltb 1152921504606846975 n l, add-one i)
-
-pub number_start : (text : List ℕ) (from i : ℕ) → i ≡ skip_from from (drop from text) → digits_from 0 i (drop i text) ≡ number_in text from
-unfolding number_in
-number_start text from i e = ap (λ (k : ℕ). digits_from 0 k (drop k text)) e
-
--- ---- a list: what is left to read is written behind what is written
-
-pub record Reading {A : Type 0} (f : ℕ → A × ℕ) (n at₀ : ℕ) (out₀ out : List A) (at i : ℕ) : Type 0 where
-  pub within : i ≤ n
+-- i elements of out are read, and what is left to read follows them
+pub record Reading {A : Type 0} (f : List ℕ → A × List ℕ) (text₀ : List ℕ) (out₀ : List A) (text : List ℕ) (out : List A) (i : ℕ) : Type 0 where
   pub room : length out ≡ length out₀
-  pub behind : place_after f (n - i) at ≡ place_after f n at₀
-  pub written : fill_from i (read_from f (n - i) at) out ≡ fill_from 0 (read_from f n at₀) out₀
+  pub behind : rest_after f (length out₀ - i) text ≡ rest_after f (length out₀) text₀
+  pub written : take i out ++ read_from f (length out₀ - i) text ≡ read_from f (length out₀) text₀
 
-module _ {A : Type 0} {f : ℕ → A × ℕ} {n at₀ : ℕ} {out₀ : List A} where
-  pub reading_start : Reading f n at₀ out₀ out₀ at₀ 0
-  reading_start =
-      let e : n - 0 ≡ n = omega arith in
-      record { within = zero-le; room = refl; behind = ap (λ (k : ℕ). place_after f k at₀) e; written = ap (λ (k : ℕ). fill_from 0 (read_from f k at₀) out₀) e }
-
-  pub reading_step : {out : List A} {at i : ℕ} {x : A} {at' : ℕ} → Reading f n at₀ out₀ out at i → i < n → (x, at') ≡ f at → Reading f n at₀ out₀ (set out i x) at' (i + 1)
-  unfolding read_from place_after fill_from
-  reading_step {out} {at} {i} {x} {at'} r h e =
-      let m : n - i ≡ suc (n - (i + 1)) = omega arith in
+module _ {A : Type 0} {f : List ℕ → A × List ℕ} {text₀ : List ℕ} {out₀ : List A} where
+  pub reading_step : {text text' : List ℕ} {out : List A} {i : ℕ} {x : A} → Reading f text₀ out₀ text out i → i < length out₀ → (x, text') ≡ f text → Reading f text₀ out₀ text' (set out i x) (i + 1)
+  unfolding read_from rest_after
+  reading_step {text} {text'} {out} {i} {x} r h e =
+      let m : length out₀ - i ≡ suc (length out₀ - (i + 1)) = omega arith in
+      let l : i < length out = omega (arith, r.room) in
       record {
-        within = omega arith;
         room = rw (length-set out i x) r.room;
-        behind = ap (place_after f (n - (i + 1))) (ap (λ (p : A × ℕ). p.1) e) ∙ ap (λ (k : ℕ). place_after f k at) (sym m) ∙ r.behind;
+        behind = ap (λ (p : A × List ℕ). rest_after f (length out₀ - (i + 1)) p.1) e ∙ ap (λ (k : ℕ). rest_after f k text) (sym m) ∙ r.behind;
         written =
-            rw (add-one i)
-            (ap (λ (p : A × ℕ). fill_from (suc i) (read_from f (n - (suc i)) p.1) (set out i p.0)) e
-            ∙ ap (λ (k : ℕ). fill_from i (read_from f k at) out) (sym (let m' : n - i ≡ suc (n - suc i) = omega arith in m'))
-            ∙ r.written);
+            ap (λ (l : List A). l ++ read_from f (length out₀ - (i + 1)) text') (ap (λ (k : ℕ). take k (set out i x)) (add-one i) ∙ take-suc-set out i x l)
+            ∙ append_assoc (take i out) (x ∷ []) (read_from f (length out₀ - (i + 1)) text')
+            ∙ ap (λ (p : A × List ℕ). take i out ++ (p.0 ∷ read_from f (length out₀ - (i + 1)) p.1)) e
+            ∙ ap (λ (k : ℕ). take i out ++ read_from f k text) (sym m)
+            ∙ r.written;
       }
 
-  pub reading_end : {out : List A} {at i : ℕ} {text : List ℕ} {from v : ℕ} → Reading f n at₀ out₀ out at i → n ≤ i → (v, at₀) ≡ number_in text from → n ≡ cap_at (length out₀) v → n ≤ length out₀
-      → Counts n out × Listed f text from out₀ n at out
-  unfolding read_from place_after fill_from
-  reading_end {out} {at} {i} {text} {from} {v} r h e k l =
-      let z : n - i ≡ 0 = omega arith in
-      let p : at₀ ≡ (number_in text from).1 = ap (λ (q : ℕ × ℕ). q.1) e in (
-        counts n out (rw r.room l),
-        record {
-          count = k ∙ ap (λ (q : ℕ × ℕ). cap_at (length out₀) q.0) e;
-          behind = ap (λ (m : ℕ). place_after f m at) (sym z) ∙ r.behind ∙ ap (place_after f n) p;
-          written = ap (λ (m : ℕ). fill_from i (read_from f m at) out) (sym z) ∙ r.written ∙ ap (λ (a : ℕ). fill_from 0 (read_from f n a) out₀) p;
-        },
+  pub reading_end : {text : List ℕ} {out : List A} {i : ℕ} → Reading f text₀ out₀ text out i → length out₀ ≤ i → (out ≡ read_from f (length out₀) text₀) × (text ≡ rest_after f (length out₀) text₀)
+  unfolding read_from rest_after
+  reading_end {text} {out} {i} r h =
+      let z : length out₀ - i ≡ 0 = omega arith in (
+        sym (append-nil out)
+            ∙ ap (λ (l : List A). l ++ []) (sym (take_all i out (omega (arith, r.room))))
+            ∙ ap (λ (m : ℕ). take i out ++ read_from f m text) (sym z)
+            ∙ r.written,
+        ap (λ (m : ℕ). rest_after f m text) (sym z) ∙ r.behind,
       )
 
--- ---- one element
+-- ---- a text by its first byte
 
-pub capped_is : (most : ℕ) (text : List ℕ) (at : ℕ) {v x at' : ℕ} → (v, at') ≡ number_in text at → x ≡ cap_at most v → (x, at') ≡ capped_in most text at
+pub skipped-end : (l : List ℕ) → length l ≡ 0 → l ≡ skipped l
+unfolding skipped
+skipped-end [] h = refl
+skipped-end (b ∷ bs) h = absurd (omega arith)
+
+pub digits-end : (n : ℕ) (l : List ℕ) → length l ≡ 0 → (n, l) ≡ digits_from n l
+unfolding digits_from
+digits-end n [] h = refl
+digits-end n (b ∷ bs) h = absurd (omega arith)
+
+module _ {l bs : List ℕ} {b : ℕ} (f : l ≡ b ∷ bs) where
+  pub skipped-here : is_some (digit_of b) ≡ true → l ≡ skipped l
+  unfolding skipped
+  skipped-here k = rw (f, k)
+
+  pub skipped_on : is_some (digit_of b) ≡ false → skipped bs ≡ skipped l
+  unfolding skipped
+  skipped_on k = rw (f, k)
+
+  pub digits-stop : (n : ℕ) → digit_of b ≡ None → (n, l) ≡ digits_from n l
+  unfolding digits_from
+  digits-stop n k = rw (f, k, digits_from)
+
+  module _ (n d : ℕ) (e : digit_of b ≡ Some d) where
+    pub digits_wide : 1152921504606846975 < n → (n, l) ≡ digits_from n l
+    unfolding digits_from
+    digits_wide w = rw (f, e, digits_from, lt-ltb 1152921504606846975 n w)
+
+    pub digits_on : n ≤ 1152921504606846975 → digits_from (n * 16 + d) bs ≡ digits_from n l
+    unfolding digits_from
+    digits_on w = rw (f, e, digits_from, le-ltb 1152921504606846975 n w)
+
+pub number_start : (text l : List ℕ) → l ≡ skipped text → digits_from 0 l ≡ number_in text
+unfolding number_in
+number_start text l e = ap (digits_from 0) e
+
+pub capped_is : (most : ℕ) (text : List ℕ) {v x : ℕ} {left : List ℕ} → (v, left) ≡ number_in text → x ≡ min v most → (x, left) ≡ capped_in most text
 unfolding capped_in
-capped_is most text at {v} {x} {at'} e k = ap (λ (y : ℕ). (y, at')) k ∙ ap (λ (p : ℕ × ℕ). (cap_at most p.0, p.1)) e
+capped_is most text {v} {x} {left} e k = ap (λ (y : ℕ). (y, left)) k ∙ ap (λ (p : ℕ × List ℕ). (min p.0 most, p.1)) e
 
--- a row's numbers, read one after another
-pub row-none : (text : List ℕ) (at : ℕ) → ([], at) ≡ row_in 0 text at
-unfolding row_in read_from place_after
-row-none text at = refl
+-- a list, from its count and the part of out that was filled
+pub listed : {A : Type 0} {f : List ℕ → A × List ℕ} {text left left' : List ℕ} {out part : List A} {n m : ℕ} → (n, left) ≡ capped_in (length out) text → m ≡ n → part ≡ read_from f m left → left' ≡ rest_after f m left
+    → Listed f text out n left' (part ++ drop n out)
+unfolding capped_in
+listed {A} {f} {text} {left} {left'} {out} {part} {n} {m} e q p r =
+    let a = ap (λ (p : ℕ × List ℕ). p.0) e in
+    let b = ap (λ (p : ℕ × List ℕ). p.1) e in
+    record {
+      count = a;
+      behind = r ∙ ap (λ (k : ℕ). rest_after f k left) q ∙ ap (rest_after f n) b;
+      written = ap (λ (l : List A). l ++ drop n out) (p ∙ ap (λ (k : ℕ). read_from f k left) q ∙ ap (read_from f n) b);
+    }
 
-pub row_more : (text : List ℕ) (at k : ℕ) {x at' end : ℕ} {xs : List ℕ} → (x, at') ≡ capped_in 4294967295 text at → (xs, end) ≡ row_in k text at' → (x ∷ xs, end) ≡ row_in (suc k) text at
-unfolding row_in read_from place_after
-row_more text at k {x} {at'} {end} {xs} e q =
-    ap (λ (p : List ℕ × ℕ). (x ∷ p.0, p.1)) q ∙ ap (λ (p : ℕ × ℕ). (p.0 ∷ (row_in k text p.1).0, (row_in k text p.1).1)) e
-
--- a list that is written over whole
-fill_all : {A : Type 0} (i : ℕ) (xs out : List A) → i + length xs ≡ length out → fill_from i xs out ≡ take i out ++ xs
-unfolding fill_from
-fill_all i [] out e = sym (append-nil (take i out) ∙ (let k : i ≡ length out = omega arith in ap (λ (n : ℕ). take n out) k ∙ take-length out))
-fill_all i (x ∷ xs) out e =
-    fill_all (suc i) xs (set out i x) (rw (length-set out i x) (omega arith))
-    ∙ ap (λ (l : List _). l ++ xs) (take-suc-set out i x (omega arith))
-    ∙ append_assoc (take i out) (x ∷ []) xs
-
-read_many : {A : Type 0} (f : ℕ → A × ℕ) (n at : ℕ) → length (read_from f n at) ≡ n
-unfolding read_from
-read_many f zero at = refl
-read_many f (suc n) at = ap suc (read_many f n (f at).1)
-
--- a row, from a walk that writes over all of it
-pub reading_row : (n : ℕ) (text : List ℕ) (from : ℕ) (out₀ : List ℕ) → length out₀ ≡ n → {out : List ℕ} {at i : ℕ} → Reading (capped_in 4294967295 text) n from out₀ out at i → n ≤ i → (out, at) ≡ row_in n text from
-unfolding row_in read_from place_after fill_from
-reading_row n text from out₀ e {out} {at} {i} r h =
-    let f = capped_in 4294967295 text in
-    let z : n - i ≡ 0 = omega arith in
-    let w = ap (λ (m : ℕ). fill_from i (read_from f m at) out) (sym z) ∙ r.written ∙ fill_all 0 (read_from f n from) out₀ (zero-add (length (read_from f n from)) ∙ read_many f n from ∙ sym e) in
-    let b = ap (λ (m : ℕ). place_after f m at) (sym z) ∙ r.behind in
-    λ j. (w j, b j)
+pub row_is : (k : ℕ) (text : List ℕ) {m : ℕ} {row left : List ℕ} → m ≡ k → row ≡ read_from (capped_in 4294967295) m text → left ≡ rest_after (capped_in 4294967295) m text → (row, left) ≡ row_in k text
+unfolding row_in
+row_is k text {m} {row} {left} e p q = ap₂ (λ (r l : List ℕ). (r, l)) p q ∙ ap (λ (n : ℕ). row_in n text) e

@@ -1,53 +1,45 @@
--- Numbers and lists as text, in the words of src/lib.rt: what the readers give and write. Assumes nothing.
-use Rattle.std.specs.Prelude.{ℕ, zero, suc, ◌+◌, ◌-◌, ◌*◌, ◌≡◌, cond, List, [], ◌∷◌, length, drop, set, eqb, ltb}
+-- Numbers and lists as text, in the words of src/lib.rt: what the readers give, and what they leave of the text. Assumes nothing.
+use Rattle.std.specs.Prelude.{ℕ, zero, suc, ◌+◌, ◌-◌, ◌*◌, ◌≡◌, cond, List, [], ◌∷◌, ◌++◌, length, drop, ltb, min, Option, None, Some}
+use Rattle.std.specs.Option.{is_some}
 
--- n, or the widest that there is place for
-unfoldable pub cap_at : ℕ → ℕ → ℕ
-cap_at most n = cond (ltb n most) n most
+-- the number of a hexadecimal digit
+abbrev pub digit_of : ℕ → Option ℕ
+digit_of b = cond (ltb b 48) None (cond (ltb b 58) (Some (b - 48)) (cond (ltb b 97) None (cond (ltb b 103) (Some (b - 97 + 10)) None)))
 
--- the number of a hexadecimal digit, 16 for another byte
-unfoldable pub digit_of : ℕ → ℕ
-digit_of b = cond (ltb b 48) 16 (cond (ltb b 58) (b - 48) (cond (ltb b 97) 16 (cond (ltb b 103) (b - 87) 16)))
+-- from the first digit on
+unfoldable pub skipped : List ℕ → List ℕ
+skipped [] = []
+skipped (b ∷ bs) = cond (is_some (digit_of b)) (b ∷ bs) (skipped bs)
 
--- the place of the first digit; the bytes stand from place i on
-unfoldable pub skip_from : ℕ → List ℕ → ℕ
-skip_from i [] = i
-skip_from i (b ∷ bs) = cond (ltb (digit_of b) 16) i (skip_from (suc i) bs)
+-- the number that n's digits and those that follow make, and what is left behind them; one that has 60 bits takes no more
+unfoldable pub digits_from : ℕ → List ℕ → ℕ × List ℕ
+digits_from n [] = (n, [])
+digits_from n (b ∷ bs) = elim (digit_of b) [ None ↦ (n, b ∷ bs) | Some d ↦ cond (ltb 1152921504606846975 n) (n, b ∷ bs) (digits_from (n * 16 + d) bs) ]
 
--- the number that the digits up to place i and those that follow make, and the place behind them; one that has 60 bits takes no more
-unfoldable pub digits_from : ℕ → ℕ → List ℕ → ℕ × ℕ
-digits_from n i [] = (n, i)
-digits_from n i (b ∷ bs) = cond (eqb (digit_of b) 16) (n, i) (cond (ltb 1152921504606846975 n) (n, i) (digits_from (n * 16 + digit_of b) (suc i) bs))
+-- the next number, and what is left behind it
+unfoldable pub number_in : List ℕ → ℕ × List ℕ
+number_in text = digits_from 0 (skipped text)
 
--- the next number from a place on, and the place behind it
-unfoldable pub number_in : List ℕ → ℕ → ℕ × ℕ
-number_in text from = digits_from 0 (skip_from from (drop from text)) (drop (skip_from from (drop from text)) text)
+-- the next number, or the widest that there is place for
+unfoldable pub capped_in : ℕ → List ℕ → ℕ × List ℕ
+capped_in most text = (min (number_in text).0 most, (number_in text).1)
 
 module _ {A : Type 0} where
-  -- n elements, each read where the one before it ended, and the place behind them
-  unfoldable pub read_from : (ℕ → A × ℕ) → ℕ → ℕ → List A
-  read_from f zero at = []
-  read_from f (suc n) at = (f at).0 ∷ read_from f n (f at).1
+  -- n elements, each read where the one before it ended, and what is left behind them
+  unfoldable pub read_from : (List ℕ → A × List ℕ) → ℕ → List ℕ → List A
+  read_from f zero text = []
+  read_from f (suc n) text = (f text).0 ∷ read_from f n (f text).1
 
-  unfoldable pub place_after : (ℕ → A × ℕ) → ℕ → ℕ → ℕ
-  place_after f zero at = at
-  place_after f (suc n) at = place_after f n (f at).1
-
-  -- xs written over out from place i on
-  unfoldable pub fill_from : ℕ → List A → List A → List A
-  fill_from i [] out = out
-  fill_from i (x ∷ xs) out = fill_from (suc i) xs (set out i x)
-
--- the next number, capped
-unfoldable pub capped_in : ℕ → List ℕ → ℕ → ℕ × ℕ
-capped_in most text at = (cap_at most (number_in text at).0, (number_in text at).1)
+  unfoldable pub rest_after : (List ℕ → A × List ℕ) → ℕ → List ℕ → List ℕ
+  rest_after f zero text = text
+  rest_after f (suc n) text = rest_after f n (f text).1
 
 -- k numbers of 32 bits as one element
-unfoldable pub row_in : ℕ → List ℕ → ℕ → List ℕ × ℕ
-row_in k text at = (read_from (capped_in 4294967295 text) k at, place_after (capped_in 4294967295 text) k at)
+unfoldable pub row_in : ℕ → List ℕ → List ℕ × List ℕ
+row_in k text = (read_from (capped_in 4294967295) k text, rest_after (capped_in 4294967295) k text)
 
--- a list after its count, cut to its place: n elements read one after another by f and written, the place behind them, and the rest of out as it was
-pub record Listed {A : Type 0} (f : ℕ → A × ℕ) (text : List ℕ) (from : ℕ) (out : List A) (n at : ℕ) (out' : List A) : Type 0 where
-  pub count : n ≡ cap_at (length out) (number_in text from).0
-  pub behind : at ≡ place_after f n (number_in text from).1
-  pub written : out' ≡ fill_from 0 (read_from f n (number_in text from).1) out
+-- a list after its count, cut to its place: n elements read one after another by f and written, what is left behind them, and the rest of out as it was
+pub record Listed {A : Type 0} (f : List ℕ → A × List ℕ) (text : List ℕ) (out : List A) (n : ℕ) (left : List ℕ) (out' : List A) : Type 0 where
+  pub count : n ≡ min (number_in text).0 (length out)
+  pub behind : left ≡ rest_after f n (number_in text).1
+  pub written : out' ≡ read_from f n (number_in text).1 ++ drop n out

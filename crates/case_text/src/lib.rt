@@ -2,229 +2,125 @@
 // is taken as the widest, and a list longer than its place is cut.
 #![tactic(auto)]
 
-ghost use Rattle.std.specs.Prelude.{◌≡◌, drop, ◌≤◌};
+ghost use Rattle.std.specs.Prelude.{ℕ, ◌≡◌, ◌<◌, ◌≤◌, List, length, IfSome};
 ghost use Rattle.case_text.specs.Counts.{Counts};
-ghost use Rattle.case_text.specs.Text.{cap_at, digit_of, skip_from, number_in, capped_in, row_in, Listed};
-ghost use Rattle.segment.specs.Records.{row_width};
+ghost use Rattle.case_text.specs.Text.{digit_of, skipped, number_in, capped_in, row_in, read_from, rest_after, Listed};
 
-// A number, and the place behind it.
-#[derive(Clone, Copy)]
-pub struct Found {
-    pub value: u64,
-    pub at: usize,
+// A text, of which this much is left to read.
+#[derive(Drop)]
+pub struct Reader<'a> {
+    pub rest: &'a [u8],
 }
 
-// How many elements were read, and the place behind them.
-#[derive(Clone, Copy)]
-pub struct Part {
-    pub count: usize,
-    pub at: usize,
+// What lists are made of.
+pub trait Element: Copy {
+    // the next element of a text, and what is left behind it
+    ghost element_in: { List ℕ → Self × List ℕ };
+
+    fn read(reader: &mut Reader) -> Self
+        ensures { (result, reader.new.rest.now) ≡ element_in reader.old.rest.now };
 }
 
-#[derive(Clone, Copy)]
-struct RecordAt {
-    record: segment::RecordNumbers,
-    at: usize,
+impl Element for u64 {
+    ghost element_in = { number_in };
+
+    fn read(reader: &mut Reader) -> u64 {
+        reader.number()
+    }
 }
 
-#[derive(Clone, Copy)]
-struct PairAt {
-    pair: [u32; 2],
-    at: usize,
+impl Element for u32 {
+    ghost element_in = { capped_in 4294967295 };
+
+    fn read(reader: &mut Reader) -> u32 {
+        reader.number().min(4294967295) as u32
+    }
 }
 
-// The number of a hexadecimal digit, 16 for another byte.
-fn digit(b: u8) -> u64
-    ensures { (result ≡ digit_of b) × (result ≤ 16) }
+impl Element for u8 {
+    ghost element_in = { capped_in 255 };
+
+    fn read(reader: &mut Reader) -> u8 {
+        reader.number().min(255) as u8
+    }
+}
+
+// A row of numbers of 32 bits.
+impl<const N: usize> Element for [u32; N] {
+    ghost element_in = { row_in N };
+
+    fn read(reader: &mut Reader) -> [u32; N] {
+        let mut row = [0; N];
+        reader.fill(&mut row);
+        row
+    }
+}
+
+// The number of a hexadecimal digit.
+fn digit(b: u8) -> Option<u64>
+    ensures value { result ≡ digit_of b }
+    ensures below { IfSome result (λ d. d < 16) }
 {
-    if b < 48 {
-        return 16;
+    match b {
+        b'0'..=b'9' => Some((b - b'0') as u64),
+        b'a'..=b'f' => Some((b - b'a' + 10) as u64),
+        _ => None,
     }
-    if b < 58 {
-        return (b - 48) as u64;
-    }
-    if b < 97 {
-        return 16;
-    }
-    if b < 103 {
-        return (b - 87) as u64;
-    }
-    16
 }
 
-// The first place from the given one on that has a digit.
-fn skip(text: &[u8], from: usize) -> usize
-    ensures { result ≡ skip_from from (drop from text.now) }
-{
-    let mut i = from;
-    while i < text.len() {
-        if digit(text[i]) < 16 {
-            return i;
+impl Reader<'_> {
+    // On to the next digit.
+    fn skip(&mut self)
+        ensures { self.new.rest.now ≡ skipped self.old.rest.now }
+    {
+        while let Some((&b, rest)) = self.rest.split_first()
+            && digit(b).is_none()
+        {
+            self.rest = rest;
         }
-        i += 1;
     }
-    i
-}
 
-// The next number; 0 at the end of the text.
-pub fn number(text: &[u8], from: usize) -> Found
-    ensures { (result.value, result.at) ≡ number_in text.now from }
-{
-    let mut i = skip(text, from);
-    let mut n: u64 = 0;
-    while i < text.len() {
-        let d = digit(text[i]);
-        if d == 16 {
-            return Found { value: n, at: i };
+    // The next number; 0 at the end of the text.
+    pub fn number(&mut self) -> u64
+        ensures { (result, self.new.rest.now) ≡ number_in self.old.rest.now }
+    {
+        self.skip();
+        let mut n = 0;
+        while let Some((&b, rest)) = self.rest.split_first()
+            && let Some(d) = digit(b)
+            && n <= u64::MAX / 16
+        {
+            n = n * 16 + d;
+            self.rest = rest;
         }
-        if 1152921504606846975 < n {
-            return Found { value: n, at: i };
+        n
+    }
+
+    // The next number, as a count of elements that have a place.
+    pub fn count(&mut self, most: usize) -> usize
+        ensures read { (result, self.new.rest.now) ≡ capped_in most self.old.rest.now }
+        ensures capped { result ≤ most }
+    {
+        (self.number() as usize).min(most)
+    }
+
+    // Elements one after another, over all of out.
+    pub fn fill<T: Element>(&mut self, out: &mut [T])
+        ensures read { out.new ≡ read_from T.element_in (length out.old) self.old.rest.now }
+        ensures left { self.new.rest.now ≡ rest_after T.element_in (length out.old) self.old.rest.now }
+    {
+        for x in out.iter_mut() {
+            *x = T::read(self);
         }
-        n = n * 16 + d;
-        i += 1;
     }
-    Found { value: n, at: i }
-}
 
-// As 32 bits.
-pub fn narrow(n: u64) -> u32
-    ensures { result ≡ cap_at 4294967295 n }
-{
-    if n < 4294967295 {
-        return n as u32;
+    // A list after its count; answers how many of its elements stand at the start of out.
+    pub fn list<T: Element>(&mut self, out: &mut [T]) -> usize
+        ensures counts { Counts result out.new }
+        ensures listed { Listed T.element_in self.old.rest.now out.old result self.new.rest.now out.new }
+    {
+        let n = self.count(out.len());
+        self.fill(&mut out[..n]);
+        n
     }
-    4294967295
-}
-
-fn byte(n: u64) -> u8
-    ensures { result ≡ cap_at 255 n }
-{
-    if n < 255 {
-        return n as u8;
-    }
-    255
-}
-
-// A count that a place of so many elements can hold.
-pub fn capped(n: u64, most: usize) -> usize
-    ensures { (result ≡ cap_at most n) × (result ≤ most) }
-{
-    let k = n as usize;
-    if k < most {
-        return k;
-    }
-    most
-}
-
-pub fn read_words(text: &[u8], from: usize, out: &mut [u64]) -> Part
-    ensures counts { Counts result.count out.new }
-    ensures listed { Listed (number_in text.now) text.now from out.old result.count result.at out.new }
-{
-    let c = number(text, from);
-    let n = capped(c.value, out.len());
-    let mut at = c.at;
-    let mut i: usize = 0;
-    while i < n {
-        let x = number(text, at);
-        out[i] = x.value;
-        at = x.at;
-        i += 1;
-    }
-    Part { count: n, at: at }
-}
-
-pub fn read_numbers(text: &[u8], from: usize, out: &mut [u32]) -> Part
-    ensures counts { Counts result.count out.new }
-    ensures listed { Listed (capped_in 4294967295 text.now) text.now from out.old result.count result.at out.new }
-{
-    let c = number(text, from);
-    let n = capped(c.value, out.len());
-    let mut at = c.at;
-    let mut i: usize = 0;
-    while i < n {
-        let x = number(text, at);
-        out[i] = narrow(x.value);
-        at = x.at;
-        i += 1;
-    }
-    Part { count: n, at: at }
-}
-
-pub fn read_bytes(text: &[u8], from: usize, out: &mut [u8]) -> Part
-    ensures counts { Counts result.count out.new }
-    ensures listed { Listed (capped_in 255 text.now) text.now from out.old result.count result.at out.new }
-{
-    let c = number(text, from);
-    let n = capped(c.value, out.len());
-    let mut at = c.at;
-    let mut i: usize = 0;
-    while i < n {
-        let x = number(text, at);
-        out[i] = byte(x.value);
-        at = x.at;
-        i += 1;
-    }
-    Part { count: n, at: at }
-}
-
-fn read_record(text: &[u8], from: usize) -> RecordAt
-    ensures { (result.record, result.at) ≡ row_in row_width text.now from }
-{
-    let mut r = [0u32; segment::WIDTH];
-    let mut at = from;
-    let mut i: usize = 0;
-    while i < segment::WIDTH {
-        let x = number(text, at);
-        r[i] = narrow(x.value);
-        at = x.at;
-        i += 1;
-    }
-    RecordAt { record: r, at: at }
-}
-
-// Segment records, counted whole.
-pub fn read_records(text: &[u8], from: usize, out: &mut [segment::RecordNumbers]) -> Part
-    ensures counts { Counts result.count out.new }
-    ensures listed { Listed (row_in row_width text.now) text.now from out.old result.count result.at out.new }
-{
-    let c = number(text, from);
-    let n = capped(c.value, out.len());
-    let mut at = c.at;
-    let mut i: usize = 0;
-    while i < n {
-        let x = read_record(text, at);
-        let r = x.record;
-        out[i] = r;
-        at = x.at;
-        i += 1;
-    }
-    Part { count: n, at: at }
-}
-
-fn read_pair(text: &[u8], from: usize) -> PairAt
-    ensures { (result.pair, result.at) ≡ row_in 2 text.now from }
-{
-    let a = number(text, from);
-    let b = number(text, a.at);
-    let p = [narrow(a.value), narrow(b.value)];
-    PairAt { pair: p, at: b.at }
-}
-
-// Addresses (segment, row), counted in pairs.
-pub fn read_pairs(text: &[u8], from: usize, out: &mut [[u32; 2]]) -> Part
-    ensures counts { Counts result.count out.new }
-    ensures listed { Listed (row_in 2 text.now) text.now from out.old result.count result.at out.new }
-{
-    let c = number(text, from);
-    let n = capped(c.value, out.len());
-    let mut at = c.at;
-    let mut i: usize = 0;
-    while i < n {
-        let x = read_pair(text, at);
-        let p = x.pair;
-        out[i] = p;
-        at = x.at;
-        i += 1;
-    }
-    Part { count: n, at: at }
 }

@@ -1,25 +1,31 @@
 -- Rank and membership in ascending ids, and a row's range by the segment's kind. Assumes nothing.
-use Prim.Native.Nat.{ℕ, zero, suc, ◌+◌, ◌-◌, ◌≤◌, ◌<◌, suc-le-suc}
+use Prim.Native.Nat.{ℕ, min, zero, suc, ◌+◌, ◌-◌, ◌≤◌, ◌<◌, zero-le}
 use native.Mathlib.Numerals.{add-one}
 use native.Mathlib.Omega.{arith}
-use mathlib.Core.Path.{◌≡◌, refl, sym, ap, ◌∙◌}
+use mathlib.Core.Path.{◌≡◌, refl, sym, ap, ◌∙◌, subst}
 use mathlib.Core.List.Memᴰ
 use mathlib.Core.List.{List, []}
-use mathlib.Core.Bool.{Bool, true, false, cond, false≢true}
-use lib.ListN.{length, get_or}
-use lib.Seq.{slice}
-use lib.Dec.{T, eqb, ltb, leb}
-use borrow.Author.Tests.{ne_eqb, ltb-true, ltb-false, eqb-true, eqb-false, leb-true, leb-false}
+use mathlib.Core.Bool.{Bool, true, false, cond}
+use lib.ListN.{length, get_or, take, drop}
+use lib.Seq.{slice, length-take-le}
+use lib.Dec.{T, eqb, ltb}
+use borrow.Author.Tests.{ne_eqb, ltb-true, ltb-false, eqb-true, eqb-false}
 use Rattle.definitions.specs.Lists.{elem, ascending}
 use Rattle.definitions.specs.Segment.{Segment}
 use Rattle.definitions.specs.Row.{rank, one_at, between, if_listed, row_values}
 use Rattle.definitions.proofs.Fit.{rank_lt, rank-le}
 use Rattle.segment.proofs.Kind.{by_index_lem}
-use Rattle.column_index.specs.Lookup.{rank_in, lesser, is_in, start_of, end_of}
+use Rattle.column_index.specs.Lookup.{rank_in, is_in, start_of, end_of}
 use Rattle.definitions.proofs.Lists.{mem_elem, mem_at}
-use Rattle.definitions.proofs.Ranks.{counts, before-rank, after-rank, found}
+use Rattle.definitions.proofs.Ranks.{counts, asc-sorted, before-rank, after-rank, found}
 use mathlib.Core.Logic.{◌⊎◌, inl, inr}
 use Rattle.lists.proofs.Numbers.{le-lt}
+use Rattle.std.specs.List.{prefix_len}
+use Rattle.std.specs.List.Sorted.{IsPartitionedBy, IsPartitionPoint}
+use Rattle.std.proofs.lemmas.List.{get_or-take, get_or-drop, length-drop}
+use Rattle.std.proofs.lemmas.List.Folds.{length-prefix_len}
+use Rattle.std.proofs.lemmas.List.Sums.{prefix_len-le-length, prefix_len_passes, prefix_len_stops}
+use Rattle.std.proofs.lemmas.List.Sorted.{IsPartitionedBy-ltb, IsNonDecreasingBy-take, IsNonDecreasingBy-drop, IsNonDecreasingBy-from_default}
 
 -- ---- ascending lists
 
@@ -33,15 +39,6 @@ pub rank-fits : (row : ℕ) (ids : List ℕ) → rank_in row ids ≤ length ids
 unfolding rank_in
 rank-fits row ids = rank-le row ids
 
-leb-is : (b : Bool) (k r : ℕ) → (b ≡ true → k ≤ r) → (b ≡ false → r < k) → b ≡ leb k r
-leb-is b k r f g = go b (leb k r) refl refl
-  where
-    go : (c d : Bool) → b ≡ c → leb k r ≡ d → c ≡ d
-    go true true e q = refl
-    go false false e q = refl
-    go true false e q = absurd (let x = f e in let y = leb-false k r q in omega arith)
-    go false true e q = absurd (let x = g e in let y = leb-true k r q in omega arith)
-
 module _ (row : ℕ) (ids : List ℕ) (h : T (ascending ids)) where
   pub below-rank : (k : ℕ) → k < rank_in row ids → get_or ids k 0 < row
   unfolding rank_in
@@ -50,40 +47,6 @@ module _ (row : ℕ) (ids : List ℕ) (h : T (ascending ids)) where
   pub above-rank : (k : ℕ) → rank_in row ids ≤ k → k < length ids → row ≤ get_or ids k 0
   unfolding rank_in
   above-rank = after-rank row ids h
-
-  -- at least k ids are below the row
-  pub reaches_none : (k : ℕ) → k ≡ 0 → true ≡ leb k (rank_in row ids)
-  reaches_none k e = leb-is true k (rank_in row ids) (λ q. omega arith) (λ q. absurd (false≢true (sym q)))
-
-  pub reaches_past : (k : ℕ) → length ids < k → false ≡ leb k (rank_in row ids)
-  reaches_past k l = leb-is false k (rank_in row ids) (λ q. absurd (false≢true q)) (λ q. let r = rank-fits row ids in omega arith)
-
-  reaches_suc : (j : ℕ) → (length ids < suc j → ⊥) → ltb (get_or ids j 0) row ≡ leb (suc j) (rank_in row ids)
-  reaches_suc j l = leb-is (ltb (get_or ids j 0) row) (suc j) (rank_in row ids) yes no
-    where
-      inside : (j < length ids) ⊎ (length ids ≤ j) → j < length ids
-      inside (inl e) = e
-      inside (inr e) = absurd (l (suc-le-suc e))
-
-      yes : ltb (get_or ids j 0) row ≡ true → suc j ≤ rank_in row ids
-      yes q = go (le-lt j (rank_in row ids))
-        where
-          go : (j < rank_in row ids) ⊎ (rank_in row ids ≤ j) → suc j ≤ rank_in row ids
-          go (inl e) = e
-          go (inr e) = let a = ltb-true (get_or ids j 0) row q in let z = above-rank j e (inside (le-lt j (length ids))) in absurd (omega arith)
-
-      no : ltb (get_or ids j 0) row ≡ false → rank_in row ids < suc j
-      no q = go (le-lt j (rank_in row ids))
-        where
-          go : (j < rank_in row ids) ⊎ (rank_in row ids ≤ j) → rank_in row ids < suc j
-          go (inl e) = let a = ltb-false (get_or ids j 0) row q in let z = below-rank j e in absurd (omega arith)
-          go (inr e) = suc-le-suc e
-
-  pub reaches_at : (k : ℕ) → (k ≡ 0 → ⊥) → (length ids < k → ⊥) → ltb (get_or ids (k - 1) 0) row ≡ leb k (rank_in row ids)
-  reaches_at zero n l = absurd (n refl)
-  reaches_at (suc j) n l =
-      let e : suc j - 1 ≡ j = omega arith in
-      ap (λ (m : ℕ). ltb (get_or ids m 0) row) e ∙ reaches_suc j l
 
   -- an id that is not below the row is not before the rank
   pub rank_most : (k : ℕ) → row ≤ get_or ids k 0 → rank_in row ids ≤ k
@@ -101,35 +64,65 @@ module _ (row : ℕ) (ids : List ℕ) (h : T (ascending ids)) where
       go (inl e) = e
       go (inr e) = let z = above-rank k e i in absurd (omega arith)
 
--- ---- the lesser of two numbers
+  -- k ids are below the row where the one before k is
+  pub reached : (k : ℕ) → k ≤ length ids → get_or ids (k - 1) 0 < row → k ≤ rank_in row ids
+  reached zero l b = zero-le
+  reached (suc j) l b = let e : suc j - 1 ≡ j = omega arith in rank-least j l (subst (λ (m : ℕ). get_or ids m 0 < row) e b)
 
-pub lesser-first : (a b k : ℕ) → k ≤ b → k ≡ a → k ≡ lesser a b
-lesser-first a b k l e = go (ltb a b) refl
-  where
-    go : (t : Bool) → ltb a b ≡ t → k ≡ cond t a b
-    go true q = e
-    go false q = let x = ltb-false a b q in omega arith
+  -- a whole list is cut in two by the row
+  pub list-cut : IsPartitionedBy (λ y. ltb y row) ids
+  list-cut = IsPartitionedBy-ltb (λ y. y) ids row (IsNonDecreasingBy-from_default (λ y. y) ids 0 (asc-sorted ids h))
 
-pub lesser-second : (a b k : ℕ) → k ≤ a → k ≡ b → k ≡ lesser a b
-lesser-second a b k l e = go (ltb a b) refl
-  where
-    go : (t : Bool) → ltb a b ≡ t → k ≡ cond t a b
-    go true q = let x = ltb-true a b q in omega arith
-    go false q = e
+  -- the ids from lo to e, of which i from the front are below the row, and no more
+  module _ (lo e i : ℕ) (at : lo ≤ rank_in row ids) (end : e ≤ length ids) (fit : i ≤ e - lo) where
+    at-part : (k : ℕ) → k < e - lo → get_or (take (e - lo) (drop lo ids)) k 0 ≡ get_or ids (lo + k) 0
+    at-part k l = get_or-take (e - lo) (drop lo ids) k 0 l ∙ get_or-drop lo ids k 0
 
-pub lesser-below : (a b k : ℕ) → k ≡ lesser a b → k < a → k ≡ b
-lesser-below a b k e l = go (ltb a b) refl e
-  where
-    go : (t : Bool) → ltb a b ≡ t → k ≡ cond t a b → k ≡ b
-    go true q e = absurd (omega arith)
-    go false q e = e
+    pub part-below : ((k : ℕ) → k < i → ltb (get_or (take (e - lo) (drop lo ids)) k 0) row ≡ true) → lo + i ≤ rank_in row ids
+    part-below b = go i fit b
+      where
+        go : (j : ℕ) → j ≤ e - lo → ((k : ℕ) → k < j → ltb (get_or (take (e - lo) (drop lo ids)) k 0) row ≡ true) → lo + j ≤ rank_in row ids
+        go zero l b = omega arith
+        go (suc j) l b = let q = ltb-true (get_or (take (e - lo) (drop lo ids)) j 0) row (b j (omega arith)) in let z = at-part j l in let y = rank-least (lo + j) (omega arith) (omega arith) in omega arith
 
-pub lesser-le : (a b k : ℕ) → k ≡ lesser a b → k ≤ b
-lesser-le a b k e = go (ltb a b) refl e
-  where
-    go : (t : Bool) → ltb a b ≡ t → k ≡ cond t a b → k ≤ b
-    go true q e = let x = ltb-true a b q in omega arith
-    go false q e = omega arith
+    pub part-above : (i < e - lo → ltb (get_or (take (e - lo) (drop lo ids)) i 0) row ≡ false) → i < e - lo → rank_in row ids ≤ lo + i
+    part-above a l = let q = ltb-false (get_or (take (e - lo) (drop lo ids)) i 0) row (a l) in let z = at-part i l in rank_most (lo + i) (omega arith)
+
+  -- a part of the ids is cut in two by the row
+  pub part-cut : (lo e : ℕ) → IsPartitionedBy (λ y. ltb y row) (take (e - lo) (drop lo ids))
+  part-cut lo e = IsPartitionedBy-ltb (λ y. y) (take (e - lo) (drop lo ids)) row (IsNonDecreasingBy-take (λ y. y) (e - lo) (drop lo ids) (IsNonDecreasingBy-drop (λ y. y) lo ids (IsNonDecreasingBy-from_default (λ y. y) ids 0 (asc-sorted ids h))))
+
+pub point-rank : (row : ℕ) (ids : List ℕ) (i : ℕ) → i ≤ length ids → IsPartitionPoint (λ y. ltb y row ≡ true) (λ y. ltb y row ≡ false) ids i → i ≡ rank_in row ids
+point-rank row ids i l p = counted row ids i l (λ k m. ltb-true (get_or ids k 0) row (p.0 k 0 zero-le m)) (λ k m n. ltb-false (get_or ids k 0) row (p.1 k 0 m n))
+
+pub part-rank : (row : ℕ) (ids : List ℕ) → T (ascending ids) → (lo i : ℕ) → lo ≤ rank_in row ids → i ≤ length (take (length ids - lo) (drop lo ids))
+    → IsPartitionPoint (λ y. ltb y row ≡ true) (λ y. ltb y row ≡ false) (take (length ids - lo) (drop lo ids)) i → lo + i ≡ rank_in row ids
+part-rank row ids h lo i l f p =
+    let r = rank-fits row ids in
+    let z : length (take (length ids - lo) (drop lo ids)) ≡ length ids - lo = length-take-le (length ids - lo) (drop lo ids) (omega (arith, length-drop lo ids)) in
+    let b = part-below row ids h lo (length ids) i l (omega arith) (omega arith) (λ k m. p.0 k 0 zero-le m) in
+    let a = part-above row ids h lo (length ids) i l (omega arith) (omega arith) (λ m. p.1 i 0 (omega arith) (omega arith)) in
+    grind arith
+
+-- ---- eight steps up
+
+-- short of eight steps, the end is the rank
+meets : (from e n len r : ℕ) → e ≡ min len (from + 8) → r ≤ len → from + n ≤ r → (n < e - from → r ≤ from + n) → n ≤ e - from → from + n < from + 8 → from + n ≡ r
+meets from e n len r q l b a f t = grind arith
+
+-- the ids below the row among the next eight
+pub climbed : (row : ℕ) (ids : List ℕ) → T (ascending ids) → (from e n : ℕ) → from ≤ rank_in row ids → e ≡ min (length ids) (from + 8)
+    → n ≡ length (take (prefix_len (λ y. ltb y row) (take (e - from) (drop from ids))) (take (e - from) (drop from ids)))
+    → (from + n ≤ rank_in row ids) × (from + n < from + 8 → from + n ≡ rank_in row ids)
+climbed row ids h from e n l q s =
+    let part = take (e - from) (drop from ids) in
+    let r = rank-fits row ids in
+    let z : length part ≡ e - from = length-take-le (e - from) (drop from ids) (omega (arith, length-drop from ids)) in
+    let k : n ≡ prefix_len (λ y. ltb y row) part = s ∙ length-prefix_len (λ y. ltb y row) part in
+    let f : n ≤ e - from = omega (arith, prefix_len-le-length (λ y. ltb y row) part) in
+    let b = part-below row ids h from e n l (omega arith) f (λ j m. prefix_len_passes (λ y. ltb y row) part j 0 (omega arith)) in
+    let a = part-above row ids h from e n l (omega arith) f (λ m. ap (λ (j : ℕ). ltb (get_or part j 0) row) k ∙ prefix_len_stops (λ y. ltb y row) part 0 (omega arith)) in
+    (b, meets from e n (length ids) (rank_in row ids) q r b a f)
 
 is-here : (row : ℕ) (ids : List ℕ) (k : ℕ) → k < length ids → get_or ids k 0 ≡ row → elem row ids ≡ true
 is-here row ids k h e = mem_elem row ids (Memᴰ.cast (sym e) (mem_at ids k 0 h))

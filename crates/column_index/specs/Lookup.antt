@@ -8,9 +8,6 @@ use Rattle.segment.specs.Kind.{by_index}
 unfoldable pub rank_in : ℕ → List ℕ → ℕ
 rank_in row ids = rank row ids
 
-abbrev pub lesser : ℕ → ℕ → ℕ
-lesser a b = cond (ltb a b) a b
-
 unfoldable pub is_in : ℕ → List ℕ → Bool
 is_in row ids = elem row ids
 

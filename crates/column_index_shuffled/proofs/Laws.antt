@@ -11,35 +11,17 @@ use lib.Seq.{drop-cons}
 use Rattle.definitions.specs.Lists.{sum}
 use Rattle.lists.proofs.Parts.{run_length}
 use Rattle.runs.specs.Put.{put, put_if, RoomIf}
-use Rattle.runs.proofs.Laws.{Filling, fill_start, fill_end, fill_room, fill_more, put_nil, put_one}
+use Rattle.runs.proofs.Laws.{Filling, fill_start, fill_end, fill_room, fill_more, put_one}
 use Rattle.stands.specs.Width.{id_part, ids_of, totals_of}
 use Rattle.stands.specs.declared.Span.{Span}
 use Rattle.stands.specs.declared.Stand.{Stand}
-use Rattle.stands.specs.Stand.{part, many, Lies, stand_at}
+use Rattle.stands.specs.Stand.{part, many, Lies}
 use Rattle.stands.specs.Look.{addressed, row_of, start_in, end_in, width_in, words_of, cell_in, widths, Inside}
 use Rattle.stands.proofs.Cells.{cell_in_lem, cell-run}
-use Rattle.stands.proofs.Laws.{first-set, fill_second, part_none, part-some, part_length, widths_step, ids_step, totals_step, width_now}
+use Rattle.stands.proofs.Laws.{first-set, fill_second, part_length, widths_step, ids_step, totals_step, width_now}
 use Rattle.column_values_merge.specs.Word.{new_words, Worded}
 use Rattle.column_values_merge.proofs.Laws.{words-length}
 use Rattle.column_index_shuffled.specs.Order.{ordered_words, Ordered}
-
--- ---- one row's part
-
-module _ (at x w : ℕ) (old : List ℕ) where
-  pub part_unwanted : (b : Bool) → b ≡ false → old ≡ put_if b at (id_part x w) old
-  unfolding put_if
-  part_unwanted b e = rw e
-
-  pub part-bare : (b : Bool) → b ≡ true → w ≡ 0 → old ≡ put_if b at (id_part x w) old
-  unfolding put_if
-  part-bare b e f = rw (e, part_none x w f) (sym (put_nil at old))
-
-  pub part_room : (b : Bool) → RoomIf b at (length (id_part x w)) (length old) → b ≡ true → (w ≡ 0 → ⊥) → at < length old
-  part_room b r e f = let k : length (id_part x w) ≡ 1 = ap length (part-some x w f) in omega (arith, r.room e)
-
-  pub part-set : (b : Bool) → RoomIf b at (length (id_part x w)) (length old) → b ≡ true → (w ≡ 0 → ⊥) → set old at x ≡ put_if b at (id_part x w) old
-  unfolding put_if
-  part-set b r e f = put_one at x old (part_room b r e f) ∙ ap (λ (l : List ℕ). put at l old) (sym (part-some x w f)) ∙ ap (λ (c : Bool). cond c (put at (id_part x w) old) old) (sym e)
 
 -- ---- a list that is written where it is wanted
 
@@ -76,9 +58,6 @@ module _ {b : Bool} {whole old rest out : List ℕ} {at : ℕ} (g : Partly b who
 
 -- the first element, written before the others
 module _ (b : Bool) (x : ℕ) (vs old : List ℕ) (r : RoomIf b 0 (length (x ∷ vs)) (length old)) where
-  pub first-room : RoomIf b 0 1 (length old)
-  first-room = record { room = λ e. let k = r.room e in omega arith }
-
   module _ (out : List ℕ) (o : out ≡ put_if b 0 (x ∷ []) old) where
     pub partly_second : Partly b (x ∷ vs) out vs out 1
     unfolding put_if
@@ -101,10 +80,9 @@ module _ (b : Bool) (x : ℕ) (vs old : List ℕ) (r : RoomIf b 0 (length (x ∷
             ap (put 0 (x ∷ vs)) (q ∙ sym (put_one 0 x old k)) ∙ first-set x vs old
         go false h q = q
 
--- ---- a turn at the address j: s is the segment that was read and p where it stands, x and y where the row's values were found
+-- ---- a turn at the address j: p is where its segment stands, x and y where the row's values were found
 
-module _ {addresses stands : List (List ℕ)} {ids offsets values table : List ℕ} (l : Ordered addresses stands ids offsets values table) {j s : ℕ} (h : j < length addresses)
-    (e : s ≡ get_or (get_or addresses j []) 0 0) where
+module _ {addresses stands : List (List ℕ)} {ids offsets values table : List ℕ} (l : Ordered addresses stands ids offsets values table) {j : ℕ} (h : j < length addresses) where
   abbrev row : ℕ
   row = row_of (get_or addresses j [])
 
@@ -115,18 +93,12 @@ module _ {addresses stands : List (List ℕ)} {ids offsets values table : List �
   abbrev widths_from : ℕ → List ℕ
   widths_from k = widths stands ids offsets (drop k addresses)
 
-  pub segment-in : s < length stands
-  segment-in = rw e (l.each j h).0
-
-  module _ {p : Stand} (d : p ≡ stand_at stands s) where
-    here : p ≡ addressed stands (get_or addresses j [])
-    here = d ∙ ap (λ (k : ℕ). stand_at stands k) e
-
-    pub row_inside : Inside p ids offsets values row
+  module _ {p : Stand} (here : p ≡ addressed stands (get_or addresses j [])) where
+    row_inside : Inside p ids offsets values row
     row_inside = subst (λ (q : Stand). Inside q ids offsets values row) (sym here) (l.each j h).1
 
     module _ {x y : ℕ} (xe : x ≡ start_in p ids offsets row) (ye : y ≡ end_in p ids offsets row) where
-      pub row-rises : x ≤ y
+      row-rises : x ≤ y
       row-rises = omega (arith, row_inside.within.rises)
 
       words-end : p.values.from + y * p.unit ≤ length values

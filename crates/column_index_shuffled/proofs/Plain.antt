@@ -1,76 +1,28 @@
 -- Rows of one word each, copied as they stand, are the join's words. Assumes nothing.
 use Prim.Native.Nat.{ℕ, suc, ◌+◌, ◌-◌, ◌*◌, ◌≤◌, ◌<◌, zero-le, suc-le-suc}
 use native.Mathlib.Nat.{mul-one}
-use native.Mathlib.Numerals.{add-one}
 use native.Mathlib.Omega.{arith}
-use mathlib.Core.Path.{◌≡◌, refl, sym, ap, ap₂, ◌∙◌, subst}
+use mathlib.Core.Path.{◌≡◌, refl, sym, ap, ap₂, ◌∙◌}
 use mathlib.Core.List.{List, [], ◌∷◌, ◌++◌}
-use mathlib.Core.Bool.{Bool, true, false, cond, not, ◌&&◌, ◌||◌}
+use mathlib.Core.Bool.{Bool, true, false, not, ◌||◌}
 use lib.Dec.{T, eqb, eqb→eq}
-use lib.ListN.{length, get_or, take, drop, set, drop_of_length-le, length-map}
+use lib.ListN.{length, get_or, take, drop, set, length-map}
 use lib.Seq.{drop-cons}
-use borrow.Author.Tests.{eq-eqb, ne_eqb, eqb-true, eqb-false, not-true, not-false}
+use borrow.Author.Tests.{eqb-true, eqb-false}
 use Rattle.definitions.specs.Types.{F64, has_terms}
 use Rattle.definitions.proofs.Lists.{all_mem, mem_at, and4, get_or_in}
 use Rattle.lists.proofs.Tests.{true-T}
 use Rattle.stands.specs.declared.Stand.{Stand}
-use Rattle.stands.specs.Stand.{run, stand_of, stand_at}
+use Rattle.stands.specs.Stand.{run, stand_of}
 use Rattle.stands.specs.Look.{addressed, row_of, start_in, end_in, cell_in, Inside}
 use Rattle.stands.proofs.Cells.{cell_in_lem, cell-run}
 use Rattle.column_index.specs.Lookup.{start_of, end_of}
-use Rattle.runs.specs.Put.{put, put_if}
+use Rattle.runs.specs.Put.{put}
 use Rattle.runs.proofs.Laws.{putting, putting-first, putting-all}
 use Rattle.column_values_merge.specs.Word.{new_words, coerced_all}
 use Rattle.column_values_merge.proofs.Laws.{coerced-other, coerced_double, words-coerced}
 use Rattle.column_index_shuffled.specs.Order.{ordered_words, Ordered}
 use Rattle.column_index_shuffled.specs.Plain.{is_plain, all_plain, place_of, plain_words, Placed}
-
--- ---- the test, case by case
-
-module _ (to : ℕ) (p : Stand) where
-  pub plain-kind : (p.kind ≡ 1 → ⊥) → false ≡ is_plain to p
-  unfolding is_plain
-  plain-kind h = rw (ne_eqb p.kind 1 h)
-
-  module _ (k : p.kind ≡ 1) where
-    pub plain-unit : (p.unit ≡ 1 → ⊥) → false ≡ is_plain to p
-    unfolding is_plain
-    plain-unit h = rw (eq-eqb p.kind 1 k, ne_eqb p.unit 1 h)
-
-    module _ (u : p.unit ≡ 1) where
-      pub plain-bytes : p.typ ≡ 3 → false ≡ is_plain to p
-      unfolding is_plain has_terms
-      plain-bytes h = rw (eq-eqb p.kind 1 k, eq-eqb p.unit 1 u, h)
-
-      pub plain-str : p.typ ≡ 4 → false ≡ is_plain to p
-      unfolding is_plain has_terms
-      plain-str h = rw (eq-eqb p.kind 1 k, eq-eqb p.unit 1 u, h)
-
-      module _ (b : p.typ ≡ 3 → ⊥) (s : p.typ ≡ 4 → ⊥) where
-        pub plain_other : (to ≡ 2 → ⊥) → true ≡ is_plain to p
-        unfolding is_plain has_terms
-        plain_other h = rw (eq-eqb p.kind 1 k, eq-eqb p.unit 1 u, ne_eqb p.typ 3 b, ne_eqb p.typ 4 s, ne_eqb to 2 h)
-
-        pub plain_double : to ≡ 2 → eqb p.typ 2 ≡ is_plain to p
-        unfolding is_plain has_terms
-        plain_double h = rw (eq-eqb p.kind 1 k, eq-eqb p.unit 1 u, ne_eqb p.typ 3 b, ne_eqb p.typ 4 s, eq-eqb to 2 h)
-
--- ---- the walk over the columns
-
-module _ (to : ℕ) (stands : List (List ℕ)) {s : ℕ} (h : s < length stands) {p : Stand} (e : p ≡ stand_at stands s) {b : Bool} (q : b ≡ is_plain to p) where
-  plain_step : all_plain to (drop s stands) ≡ b && all_plain to (drop (s + 1) stands)
-  unfolding all_plain
-  plain_step = rw (add-one s, drop-cons stands s [] h, q) (ap (λ (x : Stand). is_plain to x && all_plain to (drop (suc s) stands)) (sym e))
-
-  pub plain_stop : not b ≡ true → false ≡ all_plain to (drop s stands)
-  plain_stop k = sym (plain_step ∙ ap (λ (x : Bool). x && all_plain to (drop (s + 1) stands)) (not-true b k))
-
-  pub plain-next : not b ≡ false → all_plain to (drop (s + 1) stands) ≡ all_plain to (drop s stands)
-  plain-next k = sym (plain_step ∙ ap (λ (x : Bool). x && all_plain to (drop (s + 1) stands)) (not-false b k))
-
-pub plain_end : (to : ℕ) (stands : List (List ℕ)) (s : ℕ) → length stands ≤ s → true ≡ all_plain to (drop s stands)
-unfolding all_plain
-plain_end to stands s h = rw (drop_of_length-le stands h)
 
 -- ---- a row of such a column
 
@@ -163,34 +115,13 @@ module _ {addresses stands : List (List ℕ)} {ids offsets values table : List �
   pub plain-left : (old : List ℕ) {out : List ℕ} → out ≡ put 0 (plain_words stands values addresses) old → out ≡ put 0 (ordered_words to stands ids offsets values table addresses) old
   plain-left old e = e ∙ ap (λ (ws : List ℕ). put 0 ws old) (sym words-plain)
 
--- in class 0 there are no ids and no offsets
-pub no-ids : (class : ℕ) → class ≡ 0 → (vs old : List ℕ) → old ≡ put_if (not (eqb class 0)) 0 vs old
-unfolding put_if
-no-ids class e vs old = ap (λ (k : ℕ). cond (not (eqb k 0)) (put 0 vs old) old) (sym e)
-
-pub no-offsets : (class : ℕ) → class ≡ 0 → (vs old : List ℕ) → old ≡ put_if (eqb class 2) 0 vs old
-unfolding put_if
-no-offsets class e vs old = ap (λ (k : ℕ). cond (eqb k 2) (put 0 vs old) old) (sym e)
-
 -- ---- one row more
 
-module _ {addresses stands : List (List ℕ)} {values : List ℕ} (l : Placed addresses stands values) {j : ℕ} (h : j < length addresses) {s : ℕ} (e : s ≡ get_or (get_or addresses j []) 0 0) where
-  pub plain_in : s < length stands
-  plain_in = rw e (l.each j h).0
-
-  module _ {p : Stand} (d : p ≡ stand_at stands s) {r : ℕ} (f : r ≡ row_of (get_or addresses j [])) where
-    place_is : p.values.from + r ≡ place_of stands (get_or addresses j [])
-    place_is = λ i. ((d ∙ ap (λ (k : ℕ). stand_at stands k) e) i).values.from + f i
-
-    pub plain-place : p.values.from + r < length values
-    plain-place = subst (λ (n : ℕ). n < length values) (sym place_is) (l.each j h).1
-
-    pub plain_more : (old : List ℕ) {out : List ℕ} → length addresses ≤ length old → out ≡ putting 0 (plain_words stands values addresses) old j
-        → set out j (get_or values (p.values.from + r) 0) ≡ putting 0 (plain_words stands values addresses) old (j + 1)
-    plain_more old room q =
-        let n = plain-length stands values addresses in
-        (λ i. set (q i) j ((ap (λ (k : ℕ). get_or values k 0) place_is ∙ plain_at stands values addresses j h) i))
-        ∙ putting-first (plain_words stands values addresses) old j 0 (omega (arith, n)) (omega (arith, n))
+pub plain_more : (addresses stands : List (List ℕ)) (values : List ℕ) (j : ℕ) → j < length addresses → (p : Stand) → p ≡ addressed stands (get_or addresses j []) → (old out : List ℕ) → length addresses ≤ length old
+    → out ≡ putting 0 (plain_words stands values addresses) old j → set out j (get_or values (p.values.from + row_of (get_or addresses j [])) 0) ≡ putting 0 (plain_words stands values addresses) old (j + 1)
+plain_more addresses stands values j h p d old out room q =
+    let n = plain-length stands values addresses in
+    rw (q, d, plain_at stands values addresses j h) (putting-first (plain_words stands values addresses) old j 0 (omega (arith, n)) (omega (arith, n)))
 
 pub plain-all : (stands : List (List ℕ)) (values : List ℕ) (addresses : List (List ℕ)) (old : List ℕ) {out : List ℕ} (j : ℕ) → j ≤ length addresses → length addresses ≤ j
     → out ≡ putting 0 (plain_words stands values addresses) old j → out ≡ put 0 (plain_words stands values addresses) old

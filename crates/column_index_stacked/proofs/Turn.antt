@@ -20,7 +20,7 @@ module _ {stands : List (List ℕ)} {ids offsets : List ℕ} (l : AllSound stand
   abbrev rest : List ℕ
   rest = stacked_widths (drop (s + 1) stands) ids offsets
 
-  pub now_sound : SoundAt p ids offsets
+  now_sound : SoundAt p ids offsets
   now_sound = subst (λ (q : Stand). SoundAt q ids offsets) (sym e) (l.each s h)
 
   pub now_rows : all_rows (drop s stands) ≡ p.rows + all_rows (drop (s + 1) stands)

@@ -26,17 +26,18 @@ fn put_segment_ids(
     ensures value { result ≡ at + length (ids_of first (segment_widths p ids.now offsets.now)) }
     ensures out_after { out.new ≡ put at (ids_of first (segment_widths p ids.now offsets.now)) out.old }
 {
-    if p.kind == 0 {
-        return at;
+    match p.kind {
+        0 => at,
+        1 => {
+            runs::append_range(first, p.rows, out, at);
+            at + p.rows
+        }
+        _ => {
+            let listed = &ids[p.ids.from..p.ids.to];
+            runs::append_shifted(listed, first, out, at);
+            at + listed.len()
+        }
     }
-    if p.kind == 1 {
-        runs::append_range(first, p.rows, out, at);
-        return at + p.rows;
-    }
-    let a = p.ids.from;
-    let b = p.ids.to;
-    runs::append_shifted(&ids[a..b], first, out, at);
-    at + (b - a)
 }
 
 // One segment's running totals, from total on.
@@ -54,22 +55,23 @@ fn put_segment_totals(
     ensures value { result ≡ at + length (totals_of total (segment_widths p ids.now offsets.now)) }
     ensures out_after { out.new ≡ put at (totals_of total (segment_widths p ids.now offsets.now)) out.old }
 {
-    if p.kind == 0 {
-        return at;
+    match p.kind {
+        0 => at,
+        1 => {
+            runs::append_range(total + 1, p.rows, out, at);
+            at + p.rows
+        }
+        2 => {
+            let n = p.ids.to - p.ids.from;
+            runs::append_range(total + 1, n, out, at);
+            at + n
+        }
+        _ => {
+            let totals = &offsets[p.offsets.from + 1..p.offsets.to];
+            runs::append_shifted(totals, total, out, at);
+            at + totals.len()
+        }
     }
-    if p.kind == 1 {
-        runs::append_range(total + 1, p.rows, out, at);
-        return at + p.rows;
-    }
-    if p.kind == 2 {
-        let n = p.ids.to - p.ids.from;
-        runs::append_range(total + 1, n, out, at);
-        return at + n;
-    }
-    let b = p.offsets.from + 1;
-    let d = p.offsets.to;
-    runs::append_shifted(&offsets[b..d], total, out, at);
-    at + (d - b)
 }
 
 // The rows that have a value, segment after segment; returns their number.
@@ -80,14 +82,12 @@ pub fn stacked_ids(stands: &[StandNumbers], ids: &[u32], offsets: &[u32], out: &
     ensures value { result ≡ length (ids_of 0 (stacked_widths stands.now ids.now offsets.now)) }
     ensures out_after { out.new ≡ put 0 (ids_of 0 (stacked_widths stands.now ids.now offsets.now)) out.old }
 {
-    let mut s: usize = 0;
-    let mut at: usize = 0;
-    let mut first: u32 = 0;
-    while s < stands.len() {
-        let p = stands::stand_at(stands, s);
+    let mut at = 0;
+    let mut first = 0;
+    for &row in stands {
+        let p = Stand::from(row);
         at = put_segment_ids(p, ids, offsets, first, out, at);
         first += p.rows as u32;
-        s += 1;
     }
     at
 }
@@ -106,19 +106,18 @@ pub fn stacked_offsets(
     ensures out_after { out.new ≡ put 0 (0 ∷ totals_of 0 (stacked_widths stands.now ids.now offsets.now)) out.old }
 {
     out[0] = 0;
-    let mut s: usize = 0;
-    let mut at: usize = 1;
-    let mut total: u32 = 0;
-    while s < stands.len() {
-        let p = stands::stand_at(stands, s);
+    let mut at = 1;
+    let mut total = 0;
+    for &row in stands {
+        let p = Stand::from(row);
         at = put_segment_totals(p, ids, offsets, total, out, at);
         total += p.count as u32;
-        s += 1;
     }
     at
 }
 
 // The joined column's lists, segment after segment: ids and offsets only in the classes that have them.
+#[tactic(auto, unfolding(runs::specs::Put::put_if))]
 pub fn stacked_rows(
     class: u32,
     to: u32,
@@ -140,12 +139,10 @@ pub fn stacked_rows(
     ensures out_values_after { out_values.new ≡ put 0 (stacked_words to stands.now values.now map.now) out_values.old }
 {
     column_values_merge::stacked_values(to, stands, values, map, out_values);
-    if class == 0 {
-        return;
+    if class != 0 {
+        stacked_ids(stands, ids, offsets, out_ids);
     }
-    stacked_ids(stands, ids, offsets, out_ids);
-    if class != 2 {
-        return;
+    if class == 2 {
+        stacked_offsets(stands, ids, offsets, out_offsets);
     }
-    stacked_offsets(stands, ids, offsets, out_offsets);
 }

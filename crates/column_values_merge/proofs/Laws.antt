@@ -1,25 +1,23 @@
 -- What becomes of a run of words, and a turn of the loop over segments. Assumes nothing.
-use Prim.Native.Nat.{ℕ, suc, ◌+◌, ◌-◌, ◌*◌, ◌≤◌, ◌<◌, zero-le, suc-le-suc}
-use native.Mathlib.Nat.{zero-mul, one-mul}
+use Prim.Native.Nat.{ℕ, ◌+◌, ◌-◌, ◌≤◌, ◌<◌, zero-le, suc-le-suc}
 use native.Mathlib.Numerals.{add-one}
 use native.Mathlib.Omega.{arith}
-use mathlib.Core.Path.{◌≡◌, refl, sym, ap, ap₂, ◌∙◌, subst}
+use mathlib.Core.Path.{◌≡◌, refl, sym, ap, ap₂, ◌∙◌}
 use mathlib.Core.List.{List, [], ◌∷◌, ◌++◌, map, map-id, map-append}
 use mathlib.Core.Bool.{Bool, true, false, cond}
-use lib.ListN.{length, get_or, take, drop, length-map, drop_of_length-le}
+use lib.ListN.{length, get_or, set, drop, length-map, length-set, drop_of_length-le}
 use lib.Seq.{drop-cons}
 use Rattle.definitions.specs.Types.{has_terms, integer_of, double_of, coerced}
 use Rattle.lists.proofs.Parts.{run_length, part_at}
 use Rattle.numerical.proofs.Laws as one
 use Rattle.runs.specs.Put.{put, looked}
-use Rattle.runs.proofs.Laws.{Filling, fill_room, fill_more, looked-length, put_nil, put-put, below-part}
+use Rattle.runs.proofs.Laws.{Filling, fill_room, fill_more, looked-length, put_nil, put_one, put-put, below-part}
 use Rattle.stands.specs.declared.Span.{Span}
 use Rattle.stands.specs.declared.Stand.{Stand}
-use Rattle.stands.specs.Stand.{run, part, many, Lies, stand_at}
-use Rattle.stands.specs.Look.{values_at, words_of}
-use Rattle.stands.proofs.Cells.{words-many}
-use Rattle.column_values_merge.specs.Word.{doubles, coerced_all, words_by, Words, new_words, Worded}
-use Rattle.column_values_merge.specs.Stack.{stacked_words, AllWorded}
+use Rattle.stands.specs.Stand.{part, stand_at}
+use Rattle.stands.specs.Look.{values_at}
+use Rattle.column_values_merge.specs.Word.{doubles, coerced_all, words_by, Words, new_words}
+use Rattle.column_values_merge.specs.Stack.{stacked_words}
 use Rattle.definitions.proofs.Lists.{get_or_in, map_mem}
 
 pub doubles-length : (t : ℕ) (vs : List ℕ) → length (doubles t vs) ≡ length vs
@@ -107,49 +105,40 @@ one_of_two {type} {u} {table} x y g = (
   record { code = g.code; map_lies = g.map_lies; ordinals = λ e. below-part (length (part u table)) 1 1 (x ∷ y ∷ []) (g.ordinals e) },
 )
 
--- a row of no value, and of one
-module _ (p : Stand) (x y : ℕ) where
-  pub no_words : y - x ≡ 0 → many (words_of p x y) ≡ 0
-  no_words e = words-many p x y ∙ ap (λ (n : ℕ). n * p.unit) e ∙ zero-mul p.unit
-
-  pub value-words : {k : ℕ} → y - x ≡ 1 → p.unit ≡ k → many (words_of p x y) ≡ k
-  value-words {k} e f = words-many p x y ∙ ap₂ ◌*◌ e f ∙ one-mul k
-
 -- a row, by how many words it has
-module _ (to type : ℕ) (u : Span) (table l : List ℕ) (a b : ℕ) where
-  pub none-put : (out : List ℕ) (at : ℕ) → b - a ≡ 0 → out ≡ put at (words_by to type u table (run a b l)) out
-  none-put out at e =
-      sym (put_nil at out) ∙ ap (λ (vs : List ℕ). put at vs out) (sym (ap (λ (n : ℕ). words_by to type u table (take n (drop a l))) e ∙ words-none to type u table))
+module _ (type : ℕ) (u : Span) (table : List ℕ) where
+  pub one-worded : (vs : List ℕ) → length vs ≡ 1 → Words type u table vs → Words type u table (get_or vs 0 0 ∷ [])
+  one-worded [] h = absurd (omega arith)
+  one-worded (x ∷ []) h = λ g. g
+  one-worded (x ∷ y ∷ vs) h = absurd (omega arith)
 
-  module _ (e : b - a ≡ 1) (h : b ≤ length l) where
-    one-run : run a b l ≡ get_or l a 0 ∷ []
-    one-run = ap (λ (n : ℕ). take n (drop a l)) e ∙ ap (take 1) (drop-cons l a 0 (omega arith))
+  pub two-worded : (vs : List ℕ) → length vs ≡ 2 → Words type u table vs → Words type u table (get_or vs 0 0 ∷ []) × Words type u table (get_or vs 1 0 ∷ [])
+  two-worded [] h = absurd (omega arith)
+  two-worded (x ∷ []) h = absurd (omega arith)
+  two-worded (x ∷ y ∷ []) h = one_of_two x y
+  two-worded (x ∷ y ∷ z ∷ vs) h = absurd (omega arith)
 
-    pub one-worded : Words type u table (run a b l) → Words type u table (get_or l a 0 ∷ [])
-    one-worded g = subst (λ (vs : List ℕ). Words type u table vs) one-run g
+  module _ (to : ℕ) where
+    pub none-put : (vs out : List ℕ) (at : ℕ) → length vs ≡ 0 → out ≡ put at (words_by to type u table vs) out
+    none-put [] out at h = rw words-none (sym (put_nil at out))
+    none-put (x ∷ vs) out at h = absurd (omega arith)
 
-    pub one-put : (out : List ℕ) {out' : List ℕ} (at : ℕ) → out' ≡ put at (words_by to type u table (get_or l a 0 ∷ [])) out → out' ≡ put at (words_by to type u table (run a b l)) out
-    one-put out at q = q ∙ ap (λ (vs : List ℕ). put at (words_by to type u table vs) out) (sym one-run)
-
-  module _ (e : b - a ≡ 2) (h : b ≤ length l) where
-    two_run : run a b l ≡ get_or l a 0 ∷ get_or l (a + 1) 0 ∷ []
-    two_run =
-        ap (λ (n : ℕ). take n (drop a l)) e
-        ∙ ap (take 2) (drop-cons l a 0 (omega arith) ∙ ap (λ (vs : List ℕ). get_or l a 0 ∷ vs) (drop-cons l (suc a) 0 (omega arith)))
-        ∙ ap (λ (n : ℕ). get_or l a 0 ∷ get_or l n 0 ∷ []) (sym (add-one a))
-
-    pub two-worded : Words type u table (run a b l) → Words type u table (get_or l a 0 ∷ []) × Words type u table (get_or l (a + 1) 0 ∷ [])
-    two-worded g = one_of_two (get_or l a 0) (get_or l (a + 1) 0) (subst (λ (vs : List ℕ). Words type u table vs) two_run g)
+    pub one-put : (vs out : List ℕ) (at w : ℕ) → length vs ≡ 1 → at + length vs ≤ length out → w ∷ [] ≡ words_by to type u table (get_or vs 0 0 ∷ []) → set out at w ≡ put at (words_by to type u table vs) out
+    one-put [] out at w h r e = absurd (omega arith)
+    one-put (x ∷ []) out at w h r e = rw (← e) (put_one at w out (omega arith))
+    one-put (x ∷ y ∷ vs) out at w h r e = absurd (omega arith)
 
     -- one word after the other
-    pub two-put : (out : List ℕ) {mid out' : List ℕ} (at : ℕ) → at + (b - a) ≤ length out → mid ≡ put at (words_by to type u table (get_or l a 0 ∷ [])) out
-        → out' ≡ put (at + 1) (words_by to type u table (get_or l (a + 1) 0 ∷ [])) mid → out' ≡ put at (words_by to type u table (run a b l)) out
-    two-put out at room p q =
-        q
-        ∙ ap (put (at + 1) (words_by to type u table (get_or l (a + 1) 0 ∷ []))) p
-        ∙ ap (λ (n : ℕ). put (at + n) (words_by to type u table (get_or l (a + 1) 0 ∷ [])) (put at (words_by to type u table (get_or l a 0 ∷ [])) out)) (sym (words-length to type u table (get_or l a 0 ∷ [])))
-        ∙ put-put at (words_by to type u table (get_or l a 0 ∷ [])) out (rw (words-length to type u table (get_or l a 0 ∷ [])) (omega arith)) (words_by to type u table (get_or l (a + 1) 0 ∷ []))
-        ∙ ap (λ (vs : List ℕ). put at vs out) (sym (words_append to type u table (get_or l a 0 ∷ []) (get_or l (a + 1) 0 ∷ [])) ∙ ap (words_by to type u table) (sym two_run))
+    pub two-put : (vs out : List ℕ) (at v w : ℕ) → length vs ≡ 2 → at + length vs ≤ length out → v ∷ [] ≡ words_by to type u table (get_or vs 0 0 ∷ []) → w ∷ [] ≡ words_by to type u table (get_or vs 1 0 ∷ [])
+        → set (set out at v) (at + 1) w ≡ put at (words_by to type u table vs) out
+    two-put [] out at v w h r e f = absurd (omega arith)
+    two-put (x ∷ []) out at v w h r e f = absurd (omega arith)
+    two-put (x ∷ y ∷ []) out at v w h r e f =
+        put_one (at + 1) w (set out at v) (simp length-set (omega arith))
+        ∙ ap (put (at + 1) (w ∷ [])) (put_one at v out (omega arith))
+        ∙ put-put at (v ∷ []) out (omega arith) (w ∷ [])
+        ∙ ap (λ (ws : List ℕ). put at ws out) (ap₂ ◌++◌ e f ∙ sym (words_append to type u table (x ∷ []) (y ∷ [])))
+    two-put (x ∷ y ∷ z ∷ vs) out at v w h r e f = absurd (omega arith)
 
 -- ---- a turn at the segment s
 
@@ -162,25 +151,16 @@ pub words_done : (to : ℕ) (stands : List (List ℕ)) (values table : List ℕ)
 unfolding stacked_words
 words_done to stands values table s h = rw (drop_of_length-le stands h)
 
-module _ {stands : List (List ℕ)} {values table : List ℕ} (l : AllWorded stands values table) {s : ℕ} (h : s < length stands) {p : Stand} (e : p ≡ stand_at stands s) where
-  pub now_lies : Lies p.values values
-  now_lies = subst (λ (q : Stand). Lies q.values values) (sym e) (l.lie s h)
+module _ (to : ℕ) (stands : List (List ℕ)) (values table : List ℕ) {s : ℕ} (h : s < length stands) {p : Stand} (e : p ≡ stand_at stands s)
+    {start : ℕ} {whole old out : List ℕ} {at : ℕ} (g : Filling start whole old (stacked_words to (drop s stands) values table) out at) where
+  left : stacked_words to (drop s stands) values table ≡ new_words to p table (values_at p values) ++ stacked_words to (drop (s + 1) stands) values table
+  left = words_step to stands values table s h ∙ ap (λ (q : Stand). new_words to q table (values_at q values) ++ stacked_words to (drop (s + 1) stands) values table) (sym e)
 
-  pub now_worded : Worded p table (values_at p values)
-  now_worded = subst (λ (q : Stand). Worded q table (values_at q values)) (sym e) (l.worded s h)
+  pub words-room : at + length (values_at p values) ≤ length out
+  words-room = rw (← words-length to p.typ p.map table (values_at p values)) (fill_room g (new_words to p table (values_at p values)) (stacked_words to (drop (s + 1) stands) values table) left)
 
-  pub now_length : length (values_at p values) ≡ many p.values
-  now_length = run_length p.values.from p.values.to values now_lies.ends
-
-  module _ (to : ℕ) {start : ℕ} {whole old out : List ℕ} {at : ℕ} (g : Filling start whole old (stacked_words to (drop s stands) values table) out at) where
-    left : stacked_words to (drop s stands) values table ≡ new_words to p table (values_at p values) ++ stacked_words to (drop (s + 1) stands) values table
-    left = words_step to stands values table s h ∙ ap (λ (q : Stand). new_words to q table (values_at q values) ++ stacked_words to (drop (s + 1) stands) values table) (sym e)
-
-    pub words-room : at + length (values_at p values) ≤ length out
-    words-room = rw (← words-length to p.typ p.map table (values_at p values)) (fill_room g (new_words to p table (values_at p values)) (stacked_words to (drop (s + 1) stands) values table) left)
-
-    pub words_more : {out' : List ℕ} → out' ≡ put at (new_words to p table (values_at p values)) out
-        → Filling start whole old (stacked_words to (drop (s + 1) stands) values table) out' (at + many p.values)
-    words_more {out'} o =
-        fill_more g (new_words to p table (values_at p values)) (stacked_words to (drop (s + 1) stands) values table) left out' (at + many p.values)
-        (ap (λ (n : ℕ). at + n) (sym (words-length to p.typ p.map table (values_at p values) ∙ now_length))) o
+  pub words_more : {out' : List ℕ} → out' ≡ put at (new_words to p table (values_at p values)) out
+      → Filling start whole old (stacked_words to (drop (s + 1) stands) values table) out' (at + length (values_at p values))
+  words_more {out'} o =
+      fill_more g (new_words to p table (values_at p values)) (stacked_words to (drop (s + 1) stands) values table) left out' (at + length (values_at p values))
+      (ap (λ (n : ℕ). at + n) (sym (words-length to p.typ p.map table (values_at p values)))) o

@@ -8,6 +8,8 @@ ghost use Rattle.stands.specs.Look.{words_of};
 ghost use Rattle.column_values_merge.specs.Word.{doubles, coerced_all, words_by, Words, new_words, Worded};
 ghost use Rattle.column_values_merge.specs.Stack.{stacked_words, AllWorded};
 
+use std::ops::Range;
+
 use stands::{Span, Stand, StandNumbers};
 
 // Writes the double nearest to each integer of type t.
@@ -15,10 +17,8 @@ fn append_doubles(t: u32, vs: &[u64], out: &mut [u64], at: usize)
     requires { at + length vs.now ≤ length out.old }
     ensures { out.new ≡ put at (doubles t vs.now) out.old }
 {
-    let mut j: usize = 0;
-    while j < vs.len() {
-        out[at + j] = numerical::integer_to_double(t, vs[j]);
-        j += 1;
+    for (j, &w) in vs.iter().enumerate() {
+        out[at + j] = numerical::integer_to_double(t, w);
     }
 }
 
@@ -27,15 +27,11 @@ fn append_coerced(t: u32, u: u32, vs: &[u64], out: &mut [u64], at: usize)
     requires { at + length vs.now ≤ length out.old }
     ensures { out.new ≡ put at (coerced_all t u vs.now) out.old }
 {
-    if u != 2 {
+    if u == 2 && t != 2 {
+        append_doubles(t, vs, out, at);
+    } else {
         runs::append(vs, out, at);
-        return;
     }
-    if t == 2 {
-        runs::append(vs, out, at);
-        return;
-    }
-    append_doubles(t, vs, out, at);
 }
 
 // Writes a run of a segment's words as the joined column of type `to` has them.
@@ -54,12 +50,10 @@ pub fn append_words(
 {
     let t = typ as u32;
     if column_type::has_terms(t) {
-        let a = part.from;
-        let b = part.to;
-        runs::append_mapped(vs, &map[a..b], out, at);
-        return;
+        runs::append_mapped(vs, &map[part.from..part.to], out, at);
+    } else {
+        append_coerced(t, to, vs, out, at);
     }
-    append_coerced(t, to, vs, out, at);
 }
 
 // The same as append_words for a run of one word.
@@ -69,27 +63,17 @@ fn new_word(to: u32, typ: usize, part: Span, word: u64, map: &[u32]) -> u64
 {
     let t = typ as u32;
     if column_type::has_terms(t) {
-        let k = part.from + (word as usize);
-        return segment::wide(map[k]) as u64;
+        map[part.from + word as usize] as u64
+    } else {
+        numerical::coerce(t, to, word)
     }
-    numerical::coerce(t, to, word)
 }
 
-// Writes one word as the joined column has it.
-fn put_word(to: u32, typ: usize, part: Span, word: u64, map: &[u32], out: &mut [u64], at: usize)
-    requires words { Words typ part map.now (word ∷ []) }
-    requires at_in_bounds { at < length out.old }
-    ensures { out.new ≡ put at (words_by to typ part map.now (word ∷ [])) out.old }
-{
-    out[at] = new_word(to, typ, part, word, map);
-}
-
-// Writes the words of a row whose values are those of the segment from g.start to g.end; returns the index after them. A value of one word or two is not
-// copied as a run.
+// Writes the words of a row whose values are those of the segment from g.start to g.end; returns the index after them. One word or two are not copied as a run.
 pub fn append_row(
     to: u32,
     p: Stand,
-    g: column_index::Range,
+    g: Range<usize>,
     values: &[u64],
     map: &[u32],
     out: &mut [u64],
@@ -102,28 +86,19 @@ pub fn append_row(
     ensures value { result ≡ at + many (words_of p g.start g.end) }
     ensures out_after { out.new ≡ put at (new_words to p map.now (part (words_of p g.start g.end) values.now)) out.old }
 {
-    let n = g.end - g.start;
-    if n == 0 {
-        return at;
-    }
-    let a = p.values.from + g.start * p.unit;
-    if n == 1 {
-        if p.unit == 1 {
-            put_word(to, p.typ, p.map, values[a], map, out, at);
-            return at + 1;
+    let start = p.values.from + g.start * p.unit;
+    let end = p.values.from + g.end * p.unit;
+    let words = &values[start..end];
+    match words {
+        [] => {}
+        [word] => out[at] = new_word(to, p.typ, p.map, *word, map),
+        [first, second] => {
+            out[at] = new_word(to, p.typ, p.map, *first, map);
+            out[at + 1] = new_word(to, p.typ, p.map, *second, map);
         }
-        if p.unit == 2 {
-            let first = values[a];
-            let second = values[a + 1];
-            let next = at + 1;
-            put_word(to, p.typ, p.map, first, map, out, at);
-            put_word(to, p.typ, p.map, second, map, out, next);
-            return at + 2;
-        }
+        _ => append_words(to, p.typ, p.map, words, map, out, at),
     }
-    let b = p.values.from + g.end * p.unit;
-    append_words(to, p.typ, p.map, &values[a..b], map, out, at);
-    at + (b - a)
+    at + words.len()
 }
 
 // The segments' values, one segment after another; returns the number of their words.
@@ -139,15 +114,12 @@ pub fn stacked_values(
     ensures value { result ≡ length (stacked_words to stands.now values.now map.now) }
     ensures out_after { out.new ≡ put 0 (stacked_words to stands.now values.now map.now) out.old }
 {
-    let mut s: usize = 0;
-    let mut at: usize = 0;
-    while s < stands.len() {
-        let p = stands::stand_at(stands, s);
-        let a = p.values.from;
-        let b = p.values.to;
-        append_words(to, p.typ, p.map, &values[a..b], map, out, at);
-        at += b - a;
-        s += 1;
+    let mut at = 0;
+    for &row in stands {
+        let p = Stand::from(row);
+        let words = &values[p.values.from..p.values.to];
+        append_words(to, p.typ, p.map, words, map, out, at);
+        at += words.len();
     }
     at
 }

@@ -6,26 +6,26 @@ use native.Mathlib.Omega.{arith}
 use mathlib.Core.Path.{◌≡◌, refl, sym, ap, ap₂, ◌∙◌}
 use mathlib.Core.List.{List, [], ◌∷◌}
 use mathlib.Core.Bool.{Bool, true, false, not, ◌&&◌, and-false}
-use lib.ListN.{length, take, get_or}
+use lib.ListN.{length, take, drop, get_or}
 use lib.Seq.{take_all}
 use lib.Dec.{eqb, ltb, leb}
-use borrow.Author.Tests.{eq-eqb, ne_eqb, eqb-true, lt-ltb, not-false}
+use borrow.Author.Tests.{ne_eqb, eqb-true, lt-ltb}
 use Rattle.definitions.specs.Lists.{sum, is_empty, last, not_falling, not_falling_from}
 use Rattle.definitions.specs.Words.{values_in}
 use Rattle.definitions.specs.Segment.{SegmentRecord, Sections, by_kind, alive_words, record_words, first_segment}
 use Rattle.definitions.specs.Row.{no_type}
 use Rattle.definitions.specs.Types.{is_known_type}
-use Rattle.definitions.specs.Checks.{first_of}
+use Rattle.definitions.specs.Checks.{Check, check, first_of}
 use Rattle.definitions.specs.Answer.{lengths_wrong, codes_known, offsets_fit, empty_fits, full_fits, optional_fits, old_fits, new_fits, lists_fit, values_fit, alive_set_wrong}
 use Rattle.definitions.specs.Convert.{is_convertible}
 use Rattle.definitions.proofs.Sections.{values-many}
 use Rattle.lists.proofs.Numbers.{not-ltb}
 use Rattle.lists.proofs.Lists.{empty-length}
-use Rattle.lists.proofs.Tests.{both_true, taken, other}
+use Rattle.lists.proofs.Tests.{both_true}
 use Rattle.segment_fit.specs.Fits.{fits_offsets, fits_values, fits_set, fits_alive}
 use Rattle.segment_fit.proofs.Own.{assoc5, offsets-is, values-first, set_first}
-use Rattle.convert.specs.Risen.{one_if, risen_ids, steps_by, falls}
-use Rattle.convert.specs.Fits.{fits_lengths, fits_kind, fits_old, old_checks, verdict_of}
+use Rattle.convert.specs.Risen.{one_if, steps_by, falls}
+use Rattle.convert.specs.Fits.{fits_lengths, fits_kind, fits_old, old_checks}
 
 -- ---- 2
 
@@ -145,58 +145,27 @@ module _ (r : SegmentRecord) (s : Sections) (x : Exact r s) where
 
 -- ---- the first that fails
 
+-- the checks as the code asks them
+abbrev pub asked : SegmentRecord → Sections → List Check
+asked r s =
+    check 2 (not (fits_lengths r s))
+    ∷ check 3 (not (fits_kind r))
+    ∷ check 4 (not (fits_old r.rows r.values s.ids s.offsets))
+    ∷ check 5 (not (fits_values r s.values s.term_lengths s.term_bytes))
+    ∷ check 6 (not (fits_alive 1 r s.alive))
+    ∷ []
+
 module _ (r : SegmentRecord) (s : Sections) where
-  refused : {k : ℕ} → k ≡ first_of (old_checks r s) → (k ≡ 0 → ⊥) → record { answer = k; ids = 0 } ≡ verdict_of r s
-  unfolding verdict_of
-  refused {k} e d = rw (ne_eqb (first_of (old_checks r s)) 0 (λ q. d (e ∙ q))) (λ i. record { answer = e i; ids = 0 })
+  -- 4 to 6 are asked of runs that are as long as the record says, and of kind 3
+  pub checks_are : first_of (old_checks r s) ≡ first_of (asked r s)
+  unfolding old_checks
+  checks_are = rw (lengths_are r s, kind-is r s) (lengths (fits_lengths r s) refl)
+    where
+      kind : (b : Bool) → fits_kind r ≡ b → Exact r s → first_of (check 3 (not b) ∷ drop 2 (old_checks r s)) ≡ first_of (check 3 (not b) ∷ drop 2 (asked r s))
+      kind false e x = refl
+      kind true e x = rw (lists_is r s x (kind_three r e), values-is r s x, alive-is r s x)
 
-  module _ {a : Bool} (p : a ≡ fits_lengths r s) where
-    wrong2 : lengths_wrong (r ∷ []) s ≡ not a
-    wrong2 = lengths_are r s ∙ ap not (sym p)
-
-    pub two : not a ≡ true → record { answer = 2; ids = 0 } ≡ verdict_of r s
-    unfolding old_checks
-    two h = refused (taken 2 _ (wrong2 ∙ h)) (λ q. omega arith)
-
-    module _ (h2 : not a ≡ false) {b : Bool} (p3 : b ≡ fits_kind r) where
-      x : Exact r s
-      x = exact r s (sym p ∙ not-false a h2)
-
-      wrong3 : not (is_convertible (first_segment r s)) ≡ not b
-      wrong3 = ap not (kind-is r s ∙ sym p3)
-
-      pub three : not b ≡ true → record { answer = 3; ids = 0 } ≡ verdict_of r s
-      unfolding old_checks
-      three h = refused (other 2 (wrong2 ∙ h2) (taken 3 _ (wrong3 ∙ h))) (λ q. omega arith)
-
-      module _ (h3 : not b ≡ false) {c : Bool} (p4 : c ≡ fits_old r.rows r.values s.ids s.offsets) where
-        wrong4 : not (lists_fit (first_segment r s)) ≡ not c
-        wrong4 = ap not (lists_is r s x (kind_three r (sym p3 ∙ not-false b h3)) ∙ sym p4)
-
-        pub four : not c ≡ true → record { answer = 4; ids = 0 } ≡ verdict_of r s
-        unfolding old_checks
-        four h = refused (other 2 (wrong2 ∙ h2) (other 3 (wrong3 ∙ h3) (taken 4 _ (wrong4 ∙ h)))) (λ q. omega arith)
-
-        module _ (h4 : not c ≡ false) {d : Bool} (p5 : d ≡ fits_values r s.values s.term_lengths s.term_bytes) where
-          wrong5 : not (values_fit (first_segment r s)) ≡ not d
-          wrong5 = ap not (values-is r s x ∙ sym p5)
-
-          pub five : not d ≡ true → record { answer = 5; ids = 0 } ≡ verdict_of r s
-          unfolding old_checks
-          five h = refused (other 2 (wrong2 ∙ h2) (other 3 (wrong3 ∙ h3) (other 4 (wrong4 ∙ h4) (taken 5 _ (wrong5 ∙ h))))) (λ q. omega arith)
-
-          module _ (h5 : not d ≡ false) {e : Bool} (p6 : e ≡ fits_alive 1 r s.alive) where
-            wrong6 : alive_set_wrong (first_segment r s) ≡ not e
-            wrong6 = alive-is r s x ∙ ap not (sym p6)
-
-            pub six : not e ≡ true → record { answer = 6; ids = 0 } ≡ verdict_of r s
-            unfolding old_checks
-            six h = refused (other 2 (wrong2 ∙ h2) (other 3 (wrong3 ∙ h3) (other 4 (wrong4 ∙ h4) (other 5 (wrong5 ∙ h5) (taken 6 _ (wrong6 ∙ h)))))) (λ q. omega arith)
-
-            zero_is : not e ≡ false → 0 ≡ first_of (old_checks r s)
-            unfolding old_checks
-            zero_is h = other 2 (wrong2 ∙ h2) (other 3 (wrong3 ∙ h3) (other 4 (wrong4 ∙ h4) (other 5 (wrong5 ∙ h5) (other 6 (wrong6 ∙ h) refl))))
-
-            pub none : not e ≡ false → {n : ℕ} → n ≡ length (risen_ids 0 s.offsets) → record { answer = 0; ids = n } ≡ verdict_of r s
-            unfolding verdict_of
-            none h {n} q = rw (eq-eqb (first_of (old_checks r s)) 0 (sym (zero_is h))) (λ i. record { answer = zero_is h i; ids = q i })
+      lengths : (b : Bool) → fits_lengths r s ≡ b
+          → first_of (check 2 (not b) ∷ check 3 (not (fits_kind r)) ∷ drop 2 (old_checks r s)) ≡ first_of (check 2 (not b) ∷ check 3 (not (fits_kind r)) ∷ drop 2 (asked r s))
+      lengths false e = refl
+      lengths true e = kind (fits_kind r) refl (exact r s e)

@@ -1,15 +1,14 @@
 -- The converter's checks, over just the numbers and lists that each reads. proofs/Own.antt says that they are the definitions' own. Assumes nothing.
-use Rattle.std.specs.Prelude.{ℕ, ◌+◌, List, [], ◌∷◌, Bool, ◌&&◌, cond, not, length, eqb, ltb}
+use Rattle.std.specs.Prelude.{ℕ, ◌+◌, List, [], ◌∷◌, Bool, ◌&&◌, not, length, eqb, ltb}
 use Rattle.definitions.specs.Lists.{sum}
 use Rattle.definitions.specs.Segment.{SegmentRecord, Sections, alive_words, record_words, first_segment}
 use Rattle.definitions.specs.Row.{no_type}
 use Rattle.definitions.specs.Types.{is_known_type}
-use Rattle.definitions.specs.Checks.{Check, check, first_of}
+use Rattle.definitions.specs.Checks.{Check, check}
 use Rattle.definitions.specs.Answer.{lengths_wrong, lists_fit, values_fit, alive_set_wrong}
 use Rattle.definitions.specs.Convert.{is_convertible}
 use Rattle.segment_fit.specs.Fits.{fits_offsets}
-use Rattle.convert.specs.Risen.{risen_ids, falls}
-use Rattle.convert.specs.declared.Verdict.{Verdict}
+use Rattle.convert.specs.Risen.{falls}
 
 -- 2: the runs are as long as the record says
 unfoldable pub fits_lengths : SegmentRecord → Sections → Bool
@@ -37,11 +36,3 @@ old_checks r s =
     ∷ check 5 (not (values_fit (first_segment r s)))
     ∷ check 6 (alive_set_wrong (first_segment r s))
     ∷ []
-
--- the first of them that fails, or 0, and with 0 how many rows have a value
-unfoldable pub verdict_of : SegmentRecord → Sections → Verdict
-verdict_of r s =
-    record {
-      answer = first_of (old_checks r s);
-      ids = cond (eqb (first_of (old_checks r s)) 0) (length (risen_ids 0 s.offsets)) 0;
-    }

@@ -2,52 +2,34 @@
 // the offsets without those that rows without values repeat.
 #![tactic(auto)]
 
-ghost use Rattle.std.specs.Prelude.{◌≡◌, true, ◌∷◌, ◌<◌, ◌≤◌, ◌+◌, length, ltb};
+ghost use Rattle.std.specs.Prelude.{◌≡◌, true, ◌∷◌, ◌<◌, ◌≤◌, ◌+◌, length, ltb, IfOk, OnOk};
+ghost use Rattle.definitions.specs.Checks.{first_of};
 ghost use Rattle.definitions.specs.Convert.{convert_outcome};
-ghost use Rattle.segment.specs.Records.{record_in, sections_in};
+ghost use Rattle.refusal.specs.Number.{answer_number};
+ghost use Rattle.segment.specs.Records.{record_in};
+ghost use Rattle.segment.specs.Lent.{sections_of};
 ghost use Rattle.runs.specs.Put.{put};
 ghost use Rattle.convert.specs.Risen.{one_if, risen_ids, risen_ends, rises, falls, SideBySide};
-ghost use Rattle.convert.specs.Fits.{fits_lengths, fits_kind, fits_old, verdict_of};
-ghost use Rattle.convert.specs.Outcome.{lent_convert, outcome_of, renewed_record};
+ghost use Rattle.convert.specs.Fits.{fits_lengths, fits_kind, fits_old, old_checks};
+ghost use Rattle.convert.specs.Outcome.{convert_in, outcome_of, renewed_record};
 
-#[derive(Clone, Copy)]
-pub enum ConvertAnswer {
-    Converted(segment::Record),
-    Refused(u32),
-}
+use refusal::Refusal;
 
 // ---- 2 and 3
 
 // The runs are as long as the record says; so they are short enough for the counts below.
-fn lengths_fit(
-    r: segment::Record,
-    ids: &[u32],
-    offsets: &[u32],
-    values: &[u64],
-    lengths: &[u32],
-    bytes: &[u8],
-    alive: &[u64],
-) -> bool
-    ensures value { result ≡ fits_lengths (record_in r) (sections_in ids.now offsets.now values.now lengths.now bytes.now alive.now) }
-    ensures offsets_len_bound { result ≡ true → length offsets.now < 4294967296 }
-    ensures alive_len_bound { result ≡ true → length alive.now ≤ 67108864 }
+#[tactic(auto, unfolding(crate::specs::Fits::fits_lengths))]
+fn lengths_fit(r: segment::Record, sections: &segment::Sections) -> bool
+    ensures value { result ≡ fits_lengths (record_in r) (sections_of sections.now) }
+    ensures offsets_len_bound { result ≡ true → length sections.now.offsets.now < 4294967296 }
+    ensures alive_len_bound { result ≡ true → length sections.now.alive.now ≤ 67108864 }
 {
-    if segment::wide(r.ids) != ids.len() {
-        return false;
-    }
-    if segment::wide(r.offsets) != offsets.len() {
-        return false;
-    }
-    if segment::value_words(r) != values.len() {
-        return false;
-    }
-    if segment::wide(r.terms) != lengths.len() {
-        return false;
-    }
-    if !runs::adds_up(lengths, bytes.len()) {
-        return false;
-    }
-    segment::alive_words(r) == alive.len()
+    r.ids as usize == sections.ids.len()
+        && r.offsets as usize == sections.offsets.len()
+        && segment::value_words(r) == sections.values.len()
+        && r.terms as usize == sections.lengths.len()
+        && runs::adds_up(sections.lengths, sections.bytes.len())
+        && segment::alive_words(r) == sections.alive.len()
 }
 
 // Type and flag are known, and there is a column of kind 3.
@@ -182,45 +164,30 @@ fn old_fits(rows: u32, values: u32, fallen: u32, ids: &[u32], offsets: &[u32]) -
 
 // ---- 2 to 6
 
-// The first of the checks 2 to 6 that fails, or 0, and with 0 how many rows have a value.
-#[derive(Clone, Copy)]
-struct Verdict {
-    answer: u32,
-    ids: u32,
-}
-
-fn first_to_six(
-    r: segment::Record,
-    ids: &[u32],
-    offsets: &[u32],
-    values: &[u64],
-    lengths: &[u32],
-    bytes: &[u8],
-    alive: &[u64],
-) -> Verdict
-    ensures value { result ≡ verdict_of (record_in r) (sections_in ids.now offsets.now values.now lengths.now bytes.now alive.now) }
-    ensures offsets_len_bound { result.answer ≡ 0 → length offsets.now < 4294967296 }
+// The first of the checks 2 to 6 that fails, or how many rows have a value.
+#[tactic(auto, using(crate::proofs::Own::checks_are))]
+fn first_to_six(r: segment::Record, sections: &segment::Sections) -> Result<u32, Refusal>
+    ensures value { answer_number result ≡ first_of (old_checks (record_in r) (sections_of sections.now)) }
+    ensures ids_value { IfOk result (λ n. n ≡ length (risen_ids 0 sections.now.offsets.now)) }
+    ensures offsets_len_bound { OnOk result (length sections.now.offsets.now < 4294967296) }
 {
-    if !lengths_fit(r, ids, offsets, values, lengths, bytes, alive) {
-        return Verdict { answer: 2, ids: 0 };
+    if !lengths_fit(r, sections) {
+        return Err(Refusal::Lengths);
     }
     if !kind_fits(r) {
-        return Verdict { answer: 3, ids: 0 };
+        return Err(Refusal::UnknownCode);
     }
-    let s = count_steps(offsets);
-    if !old_fits(r.rows, r.values, s.fallen, ids, offsets) {
-        return Verdict { answer: 4, ids: 0 };
+    let s = count_steps(sections.offsets);
+    if !old_fits(r.rows, r.values, s.fallen, sections.ids, sections.offsets) {
+        return Err(Refusal::RowLists);
     }
-    if !segment_fit::values_fit(r, values, lengths, bytes) {
-        return Verdict { answer: 5, ids: 0 };
+    if !segment_fit::values_fit(r, sections.values, sections.lengths, sections.bytes) {
+        return Err(Refusal::Contents);
     }
-    if !segment_fit::alive_fits(1, r, alive) {
-        return Verdict { answer: 6, ids: 0 };
+    if !segment_fit::alive_fits(1, r, sections.alive) {
+        return Err(Refusal::AliveSet);
     }
-    Verdict {
-        answer: 0,
-        ids: s.risen,
-    }
+    Ok(s.risen)
 }
 
 // ---- the new lists
@@ -269,28 +236,16 @@ fn renewed_record(r: segment::Record, n: usize) -> segment::Record
 // stands beyond the lists stays.
 pub fn convert(
     r: segment::Record,
-    ids: &[u32],
-    offsets: &[u32],
-    values: &[u64],
-    lengths: &[u32],
-    bytes: &[u8],
-    alive: &[u64],
+    sections: &segment::Sections,
     out_ids: &mut [u32],
     out_offsets: &mut [u32],
-) -> ConvertAnswer
-    ensures { outcome_of result out_ids.new out_offsets.new ≡ convert_outcome (lent_convert (record_in r) ids.now offsets.now values.now lengths.now bytes.now alive.now (length out_ids.old) (length out_offsets.old)) out_ids.old out_offsets.old }
+) -> Result<segment::Record, Refusal>
+    ensures { outcome_of result out_ids.new out_offsets.new ≡ convert_outcome (convert_in (record_in r) sections.now (length out_ids.old) (length out_offsets.old)) out_ids.old out_offsets.old }
 {
-    let v = first_to_six(r, ids, offsets, values, lengths, bytes, alive);
-    if v.answer != 0 {
-        return ConvertAnswer::Refused(v.answer);
+    let n = first_to_six(r, sections)? as usize;
+    if out_ids.len() < n || out_offsets.len() <= n {
+        return Err(Refusal::OutputSpace);
     }
-    let n = segment::wide(v.ids);
-    if out_ids.len() < n {
-        return ConvertAnswer::Refused(11);
-    }
-    if out_offsets.len() <= n {
-        return ConvertAnswer::Refused(11);
-    }
-    fill(offsets, n, out_ids, out_offsets);
-    ConvertAnswer::Converted(renewed_record(r, n))
+    fill(sections.offsets, n, out_ids, out_offsets);
+    Ok(renewed_record(r, n))
 }

@@ -17,6 +17,8 @@ ghost use Rattle.convert.specs.Outcome.{lent_convert};
 ghost use Rattle.withdraw.specs.Lent.{lent_set, answer_of, record_left};
 ghost use Rattle.jadmirus.specs.Told.{pair_listed, list_of, numbers_after, count_after, record_after, changes_after};
 
+use refusal::Refusal;
+
 // The twelve numbers of an acceptance in their order.
 fn numbers_of(n: merge::Numbers) -> [u64; 12]
     ensures { result ≡ list_of n }
@@ -63,16 +65,19 @@ pub extern "C" fn jadmirus_join(
     ensures work_after { buffers_of out_ids.new out_offsets.new out_values.new out_lengths.new out_bytes.new out_map.new work.new ≡ (join_outcome (lent_of mode required (records_of records.now) ids.now offsets.now values.now lengths.now bytes.now alive.now addresses.now (buffers_of out_ids.old out_offsets.old out_values.old out_lengths.old out_bytes.old out_map.old work.old))).buffers }
     ensures out_numbers_after { out_numbers.new ≡ numbers_after (join_outcome (lent_of mode required (records_of records.now) ids.now offsets.now values.now lengths.now bytes.now alive.now addresses.now (buffers_of out_ids.old out_offsets.old out_values.old out_lengths.old out_bytes.old out_map.old work.old))).answer out_numbers.old }
 {
-    let a = merge::join(
-        mode,
-        required,
-        records,
+    let sections = segment::Sections {
         ids,
         offsets,
         values,
         lengths,
         bytes,
         alive,
+    };
+    match merge::join(
+        mode,
+        required,
+        records,
+        &sections,
         addresses,
         work,
         out_ids,
@@ -81,10 +86,9 @@ pub extern "C" fn jadmirus_join(
         out_lengths,
         out_bytes,
         out_map,
-    );
-    match a {
-        merge::Answer::Refused(k) => k,
-        merge::Answer::Accepted(n) => {
+    ) {
+        Err(refused) => u32::from(refused),
+        Ok(n) => {
             *out_numbers = numbers_of(n);
             0
         }
@@ -109,19 +113,17 @@ pub extern "C" fn jadmirus_time_order(
     ensures out_addresses_after_2 { addresses_of out_addresses.new ≡ (time_outcome (lent_times records.now ids.now offsets.now values.now lengths.now bytes.now alive.now (length out_addresses.old)) (addresses_of out_addresses.old)).addresses }
     ensures out_count_after { out_count.new ≡ count_after (time_outcome (lent_times records.now ids.now offsets.now values.now lengths.now bytes.now alive.now (length out_addresses.old)) (addresses_of out_addresses.old)).answer out_count.old }
 {
-    let a = time_order::time_order(
-        records,
+    let sections = segment::Sections {
         ids,
         offsets,
         values,
         lengths,
         bytes,
         alive,
-        out_addresses,
-    );
-    match a {
-        time_order::TimeAnswer::Refused(k) => k,
-        time_order::TimeAnswer::Sorted(n) => {
+    };
+    match time_order::time_order(records, &sections, out_addresses) {
+        Err(refusal) => u32::from(refusal),
+        Ok(n) => {
             *out_count = [n as u64];
             0
         }
@@ -147,35 +149,32 @@ pub extern "C" fn jadmirus_convert(
     ensures out_offsets_after { out_offsets.new ≡ (convert_outcome (lent_convert (row_record «record».now) ids.now offsets.now values.now lengths.now bytes.now alive.now (length out_ids.old) (length out_offsets.old)) out_ids.old out_offsets.old).offsets }
     ensures out_record_after { out_record.new ≡ record_after (convert_outcome (lent_convert (row_record «record».now) ids.now offsets.now values.now lengths.now bytes.now alive.now (length out_ids.old) (length out_offsets.old)) out_ids.old out_offsets.old).answer out_record.old }
 {
-    let r = segment::record_of(*record);
-    let a = convert::convert(
-        r,
+    let sections = segment::Sections {
         ids,
         offsets,
         values,
         lengths,
         bytes,
         alive,
-        out_ids,
-        out_offsets,
-    );
-    match a {
-        convert::ConvertAnswer::Refused(k) => k,
-        convert::ConvertAnswer::Converted(n) => {
-            *out_record = segment::numbers_of(n);
+    };
+    let r = segment::Record::from(*record);
+    match convert::convert(r, &sections, out_ids, out_offsets) {
+        Err(refusal) => u32::from(refusal),
+        Ok(n) => {
+            *out_record = n.into();
             0
         }
     }
 }
 
 // The answer's number; how many rows changed is written to `out_changed`, which a refusal leaves as it was.
-fn tell(a: withdraw::MarkAnswer, out_changed: &mut [u64; 1]) -> u32
+fn tell(a: Result<u32, Refusal>, out_changed: &mut [u64; 1]) -> u32
     ensures value { result ≡ mark_number_of (answer_of a) }
     ensures out_changed_after { out_changed.new ≡ changes_after (answer_of a) out_changed.old }
 {
     match a {
-        withdraw::MarkAnswer::Refused(k) => k,
-        withdraw::MarkAnswer::Changed(n) => {
+        Err(refusal) => u32::from(refusal),
+        Ok(n) => {
             *out_changed = [n as u64];
             0
         }
@@ -195,8 +194,7 @@ pub extern "C" fn jadmirus_withdraw(
     ensures record_after { «record».new ≡ record_left (mark_outcome (withdrawing (row ∷ [])) (lent_set «record».old alive.old)) «record».old }
     ensures out_changed_after { out_changed.new ≡ changes_after (mark_outcome (withdrawing (row ∷ [])) (lent_set «record».old alive.old)).answer out_changed.old }
 {
-    let a = withdraw::withdraw(record, alive, row);
-    tell(a, out_changed)
+    tell(withdraw::withdraw(record, alive, row), out_changed)
 }
 
 // As `jadmirus_withdraw`, the other way.
@@ -212,8 +210,7 @@ pub extern "C" fn jadmirus_reinstate(
     ensures record_after { «record».new ≡ record_left (mark_outcome (reinstating (row ∷ [])) (lent_set «record».old alive.old)) «record».old }
     ensures out_changed_after { out_changed.new ≡ changes_after (mark_outcome (reinstating (row ∷ [])) (lent_set «record».old alive.old)).answer out_changed.old }
 {
-    let a = withdraw::reinstate(record, alive, row);
-    tell(a, out_changed)
+    tell(withdraw::reinstate(record, alive, row), out_changed)
 }
 
 // As `jadmirus_withdraw`, of a run of rows: all of them or none.
@@ -229,8 +226,7 @@ pub extern "C" fn jadmirus_withdraw_rows(
     ensures record_after { «record».new ≡ record_left (mark_outcome (withdrawing rows.now) (lent_set «record».old alive.old)) «record».old }
     ensures out_changed_after { out_changed.new ≡ changes_after (mark_outcome (withdrawing rows.now) (lent_set «record».old alive.old)).answer out_changed.old }
 {
-    let a = withdraw::withdraw_rows(record, alive, rows);
-    tell(a, out_changed)
+    tell(withdraw::withdraw_rows(record, alive, rows), out_changed)
 }
 
 // As `jadmirus_reinstate`, of a run of rows: all of them or none.
@@ -246,8 +242,7 @@ pub extern "C" fn jadmirus_reinstate_rows(
     ensures record_after { «record».new ≡ record_left (mark_outcome (reinstating rows.now) (lent_set «record».old alive.old)) «record».old }
     ensures out_changed_after { out_changed.new ≡ changes_after (mark_outcome (reinstating rows.now) (lent_set «record».old alive.old)).answer out_changed.old }
 {
-    let a = withdraw::reinstate_rows(record, alive, rows);
-    tell(a, out_changed)
+    tell(withdraw::reinstate_rows(record, alive, rows), out_changed)
 }
 
 // The least and the greatest of a column's values, as its record holds them: for callers that make a record.

@@ -1,215 +1,188 @@
 // What the joining program writes: an answer and a column as the lines of document 01's C1. (Added: no file of the crate has it.)
 #![tactic(auto)]
 
-ghost use Rattle.std.specs.Prelude.{◌≡◌, ◌∷◌, [], ◌<◌, ◌≤◌, ◌+◌, length};
+ghost use Rattle.std.specs.Prelude.{◌≡◌, ℕ, ◌∷◌, [], ◌<◌, ◌≤◌, length, map};
 ghost use Rattle.definitions.specs.Lists.{sum};
 ghost use Rattle.definitions.specs.Segment.{cut};
-ghost use Rattle.definitions.specs.Listing.{decimal as Listing·decimal, numbers_text, term_text, terms_text, hexadecimal, value_line, counted_line, list_line, terms_line, numbers_part, lists_part, terms_part, answer_name, accepted_text, digit as Listing·digit};
+ghost use Rattle.definitions.specs.Listing.{decimal as Listing·decimal, numbers_text, term_text, terms_text, hexadecimal as Listing·hexadecimal, value_line, counted_line, terms_line, numbers_part as Listing·numbers_part, lists_part as Listing·lists_part, terms_part as Listing·terms_part, answer_name, accepted_text, digit as Listing·digit};
 ghost use Rattle.runs.specs.Put.{put};
+ghost use Rattle.listing.specs.Page.{Room, Wrote};
 
-// Copies vs to out from index at on, and answers the index after it.
-fn put_bytes(vs: &[u8], out: &mut [u8], at: usize) -> usize
-    requires { at + length vs.now ≤ length out.old }
-    ensures value { result ≡ at + length vs.now }
-    ensures out_after { out.new ≡ put at vs.now out.old }
-{
-    runs::append_bytes(vs, out, at);
-    at + vs.len()
+// What a list that is printed has.
+trait Number: Copy {
+    ghost number: { Self → ℕ };
+
+    fn number(self) -> u64
+        ensures { result ≡ number self };
 }
 
-fn put_byte(b: u8, out: &mut [u8], at: usize) -> usize
-    requires { at < length out.old }
-    ensures value { result ≡ at + 1 }
-    ensures out_after { out.new ≡ put at (b ∷ []) out.old }
-{
-    out[at] = b;
-    at + 1
-}
+impl Number for u32 {
+    ghost number = { λ n. n };
 
-// A number in decimal.
-fn put_number(n: u64, out: &mut [u8], at: usize) -> usize
-    requires { at + length (Listing·decimal n) ≤ length out.old }
-    ensures value { result ≡ at + length (Listing·decimal n) }
-    ensures out_after { out.new ≡ put at (Listing·decimal n) out.old }
-{
-    let mut text = [0u8; 20];
-    let k = io::decimal(n, &mut text);
-    put_bytes(&text[..k], out, at)
-}
-
-// The line of a name and a value.
-fn put_value(name: &[u8], n: u64, out: &mut [u8], at: usize) -> usize
-    requires { at + length (value_line name.now n) ≤ length out.old }
-    ensures value { result ≡ at + length (value_line name.now n) }
-    ensures out_after { out.new ≡ put at (value_line name.now n) out.old }
-{
-    let a = put_bytes(name, out, at);
-    let b = put_number(n, out, a);
-    put_byte(10, out, b)
-}
-
-// Each number after a space.
-fn put_numbers(ns: &[u32], out: &mut [u8], at: usize) -> usize
-    requires { at + length (numbers_text ns.now) ≤ length out.old }
-    ensures value { result ≡ at + length (numbers_text ns.now) }
-    ensures out_after { out.new ≡ put at (numbers_text ns.now) out.old }
-{
-    let mut e = at;
-    let mut i: usize = 0;
-    while i < ns.len() {
-        e = put_byte(32, out, e);
-        e = put_number(segment::wide(ns[i]) as u64, out, e);
-        i += 1;
+    fn number(self) -> u64 {
+        u64::from(self)
     }
-    e
 }
 
-fn put_words(ns: &[u64], out: &mut [u8], at: usize) -> usize
-    requires { at + length (numbers_text ns.now) ≤ length out.old }
-    ensures value { result ≡ at + length (numbers_text ns.now) }
-    ensures out_after { out.new ≡ put at (numbers_text ns.now) out.old }
-{
-    let mut e = at;
-    let mut i: usize = 0;
-    while i < ns.len() {
-        e = put_byte(32, out, e);
-        e = put_number(ns[i], out, e);
-        i += 1;
+impl Number for u64 {
+    ghost number = { λ n. n };
+
+    fn number(self) -> u64 {
+        self
     }
-    e
-}
-
-// The line of a name, a count and the numbers.
-fn put_list(name: &[u8], ns: &[u32], out: &mut [u8], at: usize) -> usize
-    requires { at + length (list_line name.now ns.now) ≤ length out.old }
-    ensures value { result ≡ at + length (list_line name.now ns.now) }
-    ensures out_after { out.new ≡ put at (list_line name.now ns.now) out.old }
-{
-    let a = put_bytes(name, out, at);
-    let b = put_number(ns.len() as u64, out, a);
-    let e = put_numbers(ns, out, b);
-    put_byte(10, out, e)
-}
-
-// The line of a name, a count of values and their words.
-fn put_word_list(name: &[u8], n: u64, ns: &[u64], out: &mut [u8], at: usize) -> usize
-    requires { at + length (counted_line name.now n ns.now) ≤ length out.old }
-    ensures value { result ≡ at + length (counted_line name.now n ns.now) }
-    ensures out_after { out.new ≡ put at (counted_line name.now n ns.now) out.old }
-{
-    let a = put_bytes(name, out, at);
-    let b = put_number(n, out, a);
-    let e = put_words(ns, out, b);
-    put_byte(10, out, e)
 }
 
 fn digit(d: u8) -> u8
     requires { d < 16 }
     ensures { result ≡ Listing·digit d }
 {
-    if d < 10 { 48 + d } else { 87 + d }
+    if d < 10 { b'0' + d } else { b'a' - 10 + d }
 }
 
-// Bytes in hexadecimal.
-fn put_hexadecimal(bytes: &[u8], out: &mut [u8], at: usize) -> usize
-    requires { at + length (hexadecimal bytes.now) ≤ length out.old }
-    ensures value { result ≡ at + length (hexadecimal bytes.now) }
-    ensures out_after { out.new ≡ put at (hexadecimal bytes.now) out.old }
-{
-    let mut e = at;
-    let mut i: usize = 0;
-    while i < bytes.len() {
-        let b = bytes[i];
-        e = put_byte(digit(b / 16), out, e);
-        e = put_byte(digit(b % 16), out, e);
-        i += 1;
-    }
-    e
-}
-
-// A term, an empty one as `-`.
-fn put_term(term: &[u8], out: &mut [u8], at: usize) -> usize
-    requires { at + length (term_text term.now) ≤ length out.old }
-    ensures value { result ≡ at + length (term_text term.now) }
-    ensures out_after { out.new ≡ put at (term_text term.now) out.old }
-{
-    if term.len() == 0 {
-        return put_byte(45, out, at);
-    }
-    put_hexadecimal(term, out, at)
-}
-
-// Each term after a space: the bytes are cut as the lengths say.
-fn put_terms(lengths: &[u32], bytes: &[u8], out: &mut [u8], at: usize) -> usize
-    requires lengths_in_bounds { sum lengths.now ≤ length bytes.now }
-    requires bytes_in_bounds { at + length (terms_text (cut lengths.now bytes.now)) ≤ length out.old }
-    ensures value { result ≡ at + length (terms_text (cut lengths.now bytes.now)) }
-    ensures out_after { out.new ≡ put at (terms_text (cut lengths.now bytes.now)) out.old }
-{
-    let mut e = at;
-    let mut from: usize = 0;
-    let mut i: usize = 0;
-    while i < lengths.len() {
-        let to = from + segment::wide(lengths[i]);
-        e = put_byte(32, out, e);
-        e = put_term(&bytes[from..to], out, e);
-        from = to;
-        i += 1;
-    }
-    e
-}
-
-// The line of a name, a count and the terms.
-fn put_term_list(name: &[u8], lengths: &[u32], bytes: &[u8], out: &mut [u8], at: usize) -> usize
-    requires lengths_in_bounds { sum lengths.now ≤ length bytes.now }
-    requires bytes_in_bounds { at + length (terms_line name.now (cut lengths.now bytes.now)) ≤ length out.old }
-    ensures value { result ≡ at + length (terms_line name.now (cut lengths.now bytes.now)) }
-    ensures out_after { out.new ≡ put at (terms_line name.now (cut lengths.now bytes.now)) out.old }
-{
-    let a = put_bytes(name, out, at);
-    let b = put_number(lengths.len() as u64, out, a);
-    let e = put_terms(lengths, bytes, out, b);
-    put_byte(10, out, e)
-}
-
-// Type, class and rows.
-fn put_numbers_part(kind: u64, class: u64, rows: u64, out: &mut [u8], at: usize) -> usize
-    requires { at + length (numbers_part kind class rows) ≤ length out.old }
-    ensures value { result ≡ at + length (numbers_part kind class rows) }
-    ensures out_after { out.new ≡ put at (numbers_part kind class rows) out.old }
-{
-    let a = put_value(b"type ", kind, out, at);
-    let b = put_value(b"class ", class, out, a);
-    put_value(b"rows ", rows, out, b)
-}
-
-// Row ids, offsets and so many values, each as its words.
-fn put_lists_part(
-    ids: &[u32],
-    offsets: &[u32],
-    values: u64,
-    words: &[u64],
-    out: &mut [u8],
+// Lent bytes, written up to a place.
+#[derive(Drop)]
+struct Page<'a> {
+    out: &'a mut [u8],
     at: usize,
-) -> usize
-    requires { at + length (lists_part ids.now offsets.now values words.now) ≤ length out.old }
-    ensures value { result ≡ at + length (lists_part ids.now offsets.now values words.now) }
-    ensures out_after { out.new ≡ put at (lists_part ids.now offsets.now values words.now) out.old }
-{
-    let a = put_list(b"ids ", ids, out, at);
-    let b = put_list(b"offsets ", offsets, out, a);
-    put_word_list(b"values ", values, words, out, b)
 }
 
-// Terms and map.
-fn put_terms_part(lengths: &[u32], bytes: &[u8], map: &[u32], out: &mut [u8], at: usize) -> usize
-    requires lengths_in_bounds { sum lengths.now ≤ length bytes.now }
-    requires map_in_bounds { at + length (terms_part (cut lengths.now bytes.now) map.now) ≤ length out.old }
-    ensures value { result ≡ at + length (terms_part (cut lengths.now bytes.now) map.now) }
-    ensures out_after { out.new ≡ put at (terms_part (cut lengths.now bytes.now) map.now) out.old }
-{
-    let a = put_term_list(b"terms ", lengths, bytes, out, at);
-    put_list(b"maps ", map, out, a)
+impl Page<'_> {
+    fn bytes(&mut self, vs: &[u8])
+        requires { Room vs.now self.old }
+        ensures { Wrote vs.now self.old self.new }
+    {
+        self.at += runs::append(vs, self.out, self.at);
+    }
+
+    fn byte(&mut self, b: u8)
+        requires { Room (b ∷ []) self.old }
+        ensures { Wrote (b ∷ []) self.old self.new }
+    {
+        self.out[self.at] = b;
+        self.at += 1;
+    }
+
+    // A number in decimal.
+    fn decimal(&mut self, n: u64)
+        requires { Room (Listing·decimal n) self.old }
+        ensures { Wrote (Listing·decimal n) self.old self.new }
+    {
+        let mut text = [0u8; 20];
+        let k = io::decimal(n, &mut text);
+        self.bytes(&text[..k]);
+    }
+
+    // The line of a name and a value.
+    fn value(&mut self, name: &[u8], n: u64)
+        requires { Room (value_line name.now n) self.old }
+        ensures { Wrote (value_line name.now n) self.old self.new }
+    {
+        self.bytes(name);
+        self.decimal(n);
+        self.byte(b'\n');
+    }
+
+    // Each number after a space.
+    fn numbers<T: Number>(&mut self, ns: &[T])
+        requires { Room (numbers_text (map T.number ns.now)) self.old }
+        ensures { Wrote (numbers_text (map T.number ns.now)) self.old self.new }
+    {
+        for &n in ns {
+            self.byte(b' ');
+            self.decimal(n.number());
+        }
+    }
+
+    // The line of a name, a count of values and their numbers.
+    fn list<T: Number>(&mut self, name: &[u8], n: u64, ns: &[T])
+        requires { Room (counted_line name.now n (map T.number ns.now)) self.old }
+        ensures { Wrote (counted_line name.now n (map T.number ns.now)) self.old self.new }
+    {
+        self.bytes(name);
+        self.decimal(n);
+        self.numbers(ns);
+        self.byte(b'\n');
+    }
+
+    // Bytes in hexadecimal.
+    fn hexadecimal(&mut self, bytes: &[u8])
+        requires { Room (Listing·hexadecimal bytes.now) self.old }
+        ensures { Wrote (Listing·hexadecimal bytes.now) self.old self.new }
+    {
+        for &b in bytes {
+            self.byte(digit(b / 16));
+            self.byte(digit(b % 16));
+        }
+    }
+
+    // A term, an empty one as `-`.
+    fn term(&mut self, term: &[u8])
+        requires { Room (term_text term.now) self.old }
+        ensures { Wrote (term_text term.now) self.old self.new }
+    {
+        if term.is_empty() {
+            self.byte(b'-');
+        } else {
+            self.hexadecimal(term);
+        }
+    }
+
+    // Each term after a space: the bytes are cut as the lengths say.
+    fn terms(&mut self, lengths: &[u32], bytes: &[u8])
+        requires lengths_in_bounds { sum lengths.now ≤ length bytes.now }
+        requires bytes_in_bounds { Room (terms_text (cut lengths.now bytes.now)) self.old }
+        ensures { Wrote (terms_text (cut lengths.now bytes.now)) self.old self.new }
+    {
+        let mut rest = bytes;
+        for &n in lengths {
+            let (term, after) = rest.split_at(n as usize);
+            self.byte(b' ');
+            self.term(term);
+            rest = after;
+        }
+    }
+
+    // The line of a name, a count and the terms.
+    fn term_list(&mut self, name: &[u8], lengths: &[u32], bytes: &[u8])
+        requires lengths_in_bounds { sum lengths.now ≤ length bytes.now }
+        requires bytes_in_bounds { Room (terms_line name.now (cut lengths.now bytes.now)) self.old }
+        ensures { Wrote (terms_line name.now (cut lengths.now bytes.now)) self.old self.new }
+    {
+        self.bytes(name);
+        self.decimal(lengths.len() as u64);
+        self.terms(lengths, bytes);
+        self.byte(b'\n');
+    }
+
+    // Type, class and rows.
+    fn numbers_part(&mut self, kind: u64, class: u64, rows: u64)
+        requires { Room (Listing·numbers_part kind class rows) self.old }
+        ensures { Wrote (Listing·numbers_part kind class rows) self.old self.new }
+    {
+        self.value(b"type ", kind);
+        self.value(b"class ", class);
+        self.value(b"rows ", rows);
+    }
+
+    // Row ids, offsets and so many values, each as its words.
+    fn lists_part(&mut self, ids: &[u32], offsets: &[u32], values: u64, words: &[u64])
+        requires { Room (Listing·lists_part ids.now offsets.now values words.now) self.old }
+        ensures { Wrote (Listing·lists_part ids.now offsets.now values words.now) self.old self.new }
+    {
+        self.list(b"ids ", ids.len() as u64, ids);
+        self.list(b"offsets ", offsets.len() as u64, offsets);
+        self.list(b"values ", values, words);
+    }
+
+    // Terms and map.
+    fn terms_part(&mut self, lengths: &[u32], bytes: &[u8], map: &[u32])
+        requires lengths_in_bounds { sum lengths.now ≤ length bytes.now }
+        requires map_in_bounds { Room (Listing·terms_part (cut lengths.now bytes.now) map.now) self.old }
+        ensures { Wrote (Listing·terms_part (cut lengths.now bytes.now) map.now) self.old self.new }
+    {
+        self.term_list(b"terms ", lengths, bytes);
+        self.list(b"maps ", map.len() as u64, map);
+    }
 }
 
 // A refusal: the first line alone. Answers the number of bytes.
@@ -218,7 +191,9 @@ pub fn put_refusal(answer: u64, out: &mut [u8]) -> usize
     ensures value { result ≡ length (value_line answer_name answer) }
     ensures out_after { out.new ≡ put 0 (value_line answer_name answer) out.old }
 {
-    put_value(b"answer ", answer, out, 0)
+    let mut page = Page { out, at: 0 };
+    page.value(b"answer ", answer);
+    page.at
 }
 
 // An accepted join: all nine lines. Answers the number of bytes.
@@ -240,8 +215,10 @@ pub fn put_accepted(
     ensures value { result ≡ length (accepted_text kind class rows ids.now offsets.now values words.now (cut lengths.now bytes.now) map.now) }
     ensures out_after { out.new ≡ put 0 (accepted_text kind class rows ids.now offsets.now values words.now (cut lengths.now bytes.now) map.now) out.old }
 {
-    let a = put_value(b"answer ", 0, out, 0);
-    let b = put_numbers_part(kind, class, rows, out, a);
-    let e = put_lists_part(ids, offsets, values, words, out, b);
-    put_terms_part(lengths, bytes, map, out, e)
+    let mut page = Page { out, at: 0 };
+    page.value(b"answer ", 0);
+    page.numbers_part(kind, class, rows);
+    page.lists_part(ids, offsets, values, words);
+    page.terms_part(lengths, bytes, map);
+    page.at
 }

@@ -8,7 +8,10 @@ use Rattle.segment.specs.Records.{records_of}
 use Rattle.segment.specs.Lent.{lent_input}
 use Rattle.verdict.specs.Nine.{answer_to_nine}
 use Rattle.runs.proofs.Zeros.{zero_again}
-use Rattle.merge_checked.specs.declared.Answer.TheVariants as A
+use Rattle.std.specs.Prelude.{Result, Err}
+use Rattle.refusal.specs.declared.Refusal.{Refusal}
+use Rattle.refusal.specs.Number.{number_of}
+use Rattle.refusal.proofs.Number.{number_not-zero}
 use Rattle.merge_checked.specs.Call.{AfterNine, outcome_of, buffers_of}
 use Rattle.merge_checked.proofs.Leaves.{left-refused, early}
 
@@ -19,18 +22,18 @@ module _ (mode required : ℕ) (records : List (List ℕ)) (ids offsets values l
   abbrev nine : ℕ → ℕ
   nine n = answer_to_nine (lent_input mode required records ids offsets values lengths bytes words addresses n)
 
-  module _ {k : ℕ} {work' : List ℕ} (e : k ≡ nine (length work)) (z : work' ≡ replicate (length work) 0) where
-    pub first-end : (k ≡ 0 → ⊥) → outcome_of (A.Refused k) (buffers_of outIds outOffsets outValues lens outs ords work') ≡ join_outcome (lent work)
+  module _ {work' : List ℕ} (z : work' ≡ replicate (length work) 0) where
+    pub first-end : (k : Refusal) → number_of k ≡ nine (length work) → outcome_of (Err k) (buffers_of outIds outOffsets outValues lens outs ords work') ≡ join_outcome (lent work)
     unfolding refused_buffers
-    first-end n =
-        (λ j. record { answer = refused k; buffers = buffers_of outIds outOffsets outValues lens outs ords (z j) })
-        ∙ left-refused (lent work) k (early mode required records ids offsets values lengths bytes words addresses (buffers_of outIds outOffsets outValues lens outs ords work) k e n) n
+    first-end k e =
+        (λ j. record { answer = refused (number_of k); buffers = buffers_of outIds outOffsets outValues lens outs ords (z j) })
+        ∙ left-refused (lent work) (number_of k) (early mode required records ids offsets values lengths bytes words addresses (buffers_of outIds outOffsets outValues lens outs ords work) (number_of k) e (number_not-zero k)) (number_not-zero k)
 
     long : length work' ≡ length work
     long = ap length z ∙ length-replicate (length work) 0
 
-    pub passed : k ≡ 0 → AfterNine mode required records ids offsets values lengths bytes words addresses work'
-    passed q = record { nine = ap nine long ∙ sym e ∙ q; clean = zero_again work' (length work) z }
+    pub passed : 0 ≡ nine (length work) → AfterNine mode required records ids offsets values lengths bytes words addresses work'
+    passed e = record { nine = ap nine long ∙ sym e; clean = zero_again work' (length work) z }
 
     -- an outcome has of the working bytes their number alone
     pub same_outcome : join_outcome (lent work') ≡ join_outcome (lent work)

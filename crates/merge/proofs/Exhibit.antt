@@ -17,7 +17,9 @@ use Rattle.definitions.specs.Answer.{too_many_segments, lengths_wrong, codes_kno
 use Rattle.definitions.specs.Outcome.{Buffers, space_of, numbers_of, refused_buffers, accepted_buffers, input_of, join_outcome, read_back}
 use Rattle.definitions.specs.Book.{Call, first, Entry, lent_to, call_lent, call_outcome, call_answer, after_call, first_entry, one_join, joined_entry, standing_of, book_answer, book_after_call, is_segment, required_types, is_uniform, IsSequenceOf, ResultStands, CallsOneJoin}
 use Rattle.merge_checked.specs.declared.Numbers.{Numbers}
-use Rattle.merge_checked.specs.declared.Answer.TheVariants as A
+use Rattle.std.specs.Prelude.{Result, Ok, Err}
+use Rattle.refusal.specs.declared.Refusal.{Refusal}
+use Rattle.refusal.specs.declared.Refusal.TheVariants.{AliveSet}
 use Rattle.merge.specs.Whole.{numbers_in}
 use Rattle.merge.specs.InTurn.{Run, Ran, RanFrom, calls_of, RunsAgree, RunsInTurnAgree}
 use Rattle.merge.proofs.InTurn.{runs_in_turn-agree}
@@ -77,7 +79,7 @@ refused_run =
       bytes = 97 ∷ 98 ∷ 98 ∷ [];
       alive = 2 ∷ [];
       addresses = [];
-      gave = A.Refused 6;
+      gave = Err AliveSet;
       left = leaves (nines 12) (nines 12) (nines 12) (nines 12) (nines 12);
     }
 
@@ -94,7 +96,7 @@ alive_run =
       bytes = 97 ∷ 98 ∷ [];
       alive = 2 ∷ [];
       addresses = (0 ∷ 1 ∷ []) ∷ [];
-      gave = A.Accepted (record { typ = 4; class = 0; rows = 1; ids = 0; offsets = 0; values = 1; terms = 1; bytes = 1; map = 2; copied = 1; least = 0; greatest = 0 });
+      gave = Ok (record { typ = 4; class = 0; rows = 1; ids = 0; offsets = 0; values = 1; terms = 1; bytes = 1; map = 2; copied = 1; least = 0; greatest = 0 });
       left = leaves (nines 12) (0 ∷ nines 11) (1 ∷ nines 11) (98 ∷ nines 11) (0 ∷ 0 ∷ nines 10);
     }
 
@@ -111,7 +113,7 @@ stacked_run =
       bytes = 97 ∷ 98 ∷ 98 ∷ [];
       alive = [];
       addresses = [];
-      gave = A.Accepted (record { typ = 4; class = 1; rows = 4; ids = 3; offsets = 0; values = 3; terms = 2; bytes = 2; map = 3; copied = 2; least = 0; greatest = 0 });
+      gave = Ok (record { typ = 4; class = 1; rows = 4; ids = 3; offsets = 0; values = 3; terms = 2; bytes = 2; map = 3; copied = 2; least = 0; greatest = 0 });
       left = leaves (0 ∷ 1 ∷ 3 ∷ nines 9) (1 ∷ 0 ∷ 1 ∷ nines 9) (1 ∷ 1 ∷ nines 10) (97 ∷ 98 ∷ nines 10) (0 ∷ 1 ∷ 1 ∷ nines 9);
     }
 
@@ -128,7 +130,7 @@ ordered_run =
       bytes = 97 ∷ 98 ∷ 98 ∷ [];
       alive = [];
       addresses = (0 ∷ 3 ∷ []) ∷ (1 ∷ 0 ∷ []) ∷ (0 ∷ 0 ∷ []) ∷ (0 ∷ 1 ∷ []) ∷ (0 ∷ 2 ∷ []) ∷ [];
-      gave = A.Accepted (record { typ = 4; class = 1; rows = 5; ids = 4; offsets = 0; values = 4; terms = 2; bytes = 2; map = 3; copied = 2; least = 0; greatest = 0 });
+      gave = Ok (record { typ = 4; class = 1; rows = 5; ids = 4; offsets = 0; values = 4; terms = 2; bytes = 2; map = 3; copied = 2; least = 0; greatest = 0 });
       left = leaves (0 ∷ 1 ∷ 2 ∷ 3 ∷ nines 8) (1 ∷ 1 ∷ 1 ∷ 0 ∷ nines 8) (1 ∷ 1 ∷ nines 10) (97 ∷ 98 ∷ nines 10) (0 ∷ 1 ∷ 1 ∷ nines 9);
     }
 
@@ -151,7 +153,7 @@ one_run =
       bytes = 98 ∷ 97 ∷ 98 ∷ 97 ∷ 98 ∷ [];
       alive = 2 ∷ [];
       addresses = (0 ∷ 1 ∷ []) ∷ (2 ∷ 1 ∷ []) ∷ (1 ∷ 0 ∷ []) ∷ (1 ∷ 1 ∷ []) ∷ (0 ∷ 0 ∷ []) ∷ [];
-      gave = A.Accepted one_numbers;
+      gave = Ok one_numbers;
       left = leaves (0 ∷ 1 ∷ 2 ∷ 3 ∷ nines 8) (1 ∷ 1 ∷ 1 ∷ 0 ∷ nines 8) (1 ∷ 1 ∷ nines 10) (97 ∷ 98 ∷ nines 10) (1 ∷ 0 ∷ 1 ∷ 0 ∷ 1 ∷ nines 7);
     }
 

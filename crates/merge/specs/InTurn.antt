@@ -1,13 +1,12 @@
 -- Runs of `join` one after another: what each was lent, what it gave and left. The law that demand 3 speaks of them is proofs/InTurn.antt. Assumes nothing.
-use Rattle.std.specs.Prelude.{ℕ, ◌≡◌, List, [], ◌∷◌, map, get_or, T}
+use Rattle.std.specs.Prelude.{ℕ, ◌≡◌, List, [], ◌∷◌, map, get_or, T, Result, Ok}
 use Rattle.definitions.specs.Segment.{Segment}
 use Rattle.definitions.specs.Join.{absent}
 use Rattle.definitions.specs.Outcome.{Buffers, Lent, number_of, lent_of, read_back}
 use Rattle.definitions.specs.Book.{Call, Standing, first, result, call_lent, after_answer, Entry, one_join, book_answers, book_after, standing_of, hands_only_standing, accepts_only_segments, is_uniform, IsSequenceOf, ResultStands, CallsOneJoin}
 use Rattle.segment.specs.Records.{records_of}
 use Rattle.merge_checked.specs.declared.Numbers.{Numbers}
-use Rattle.merge_checked.specs.declared.Answer.{Answer}
-use Rattle.merge_checked.specs.declared.Answer.TheVariants as A
+use Rattle.refusal.specs.declared.Refusal.{Refusal}
 use Rattle.merge.specs.Whole.{numbers_in, answer_of, JoinKept}
 
 -- the call of the book that a run answers, the lists that `join` was lent, what it gave, and the memory as it left it
@@ -21,7 +20,7 @@ pub record Run : Type 0 where
   pub bytes : List ℕ
   pub alive : List ℕ
   pub addresses : List (List ℕ)
-  pub gave : Answer
+  pub gave : Result Numbers Refusal
   pub left : Buffers
 
 abbrev pub lent_in : Run → Lent
@@ -67,7 +66,7 @@ pub record RunsAgree (firsts : List Segment) (runs : List Run) : Type 0 where
       → ResultStands firsts (calls_of runs) k e
       → CallsOneJoin firsts e x.call
       → Ran x (map first firsts)
-      → x.gave ≡ A.Accepted n
+      → x.gave ≡ Ok n
       → read_back (numbers_in n) x.left ≡ one_join firsts e.required e.sources e.origins
 
 -- demand 3, of `join`

@@ -22,8 +22,10 @@ use Rattle.merge_column.proofs.Map.{alike}
 use Rattle.merge_column.proofs.Pair.{pair-joined}
 use Rattle.merge_column.proofs.Joined.{mapped, filling, ids_are, offsets_are, values_are}
 use Rattle.merge_column.specs.declared.Shape.{Shape}
-use Rattle.merge_column.specs.declared.Plan.{Plan}
-use Rattle.merge_column.specs.declared.Plan.TheVariants.{Refused, Column as Planned}
+use Rattle.std.specs.Prelude.{Result, Ok, Err}
+use Rattle.refusal.specs.declared.Refusal.{Refusal}
+use Rattle.refusal.specs.declared.Refusal.TheVariants.{Types, OutputSpace}
+use Rattle.refusal.specs.Number.{number_of, answer_number}
 use Rattle.census.specs.declared.Tally.{Tally}
 use Rattle.merge_column.specs.Plan.{widths_for, joined_words, plan_for, pair_for, Filling}
 use Rattle.merge_column.specs.Mapped.{Mapped}
@@ -33,7 +35,6 @@ use Rattle.merge_dict_column.specs.Fill.{marks_of, DictionaryGiven}
 use Rattle.merge_dict_column.proofs.Given.{joins}
 use Rattle.segment.specs.Records.{segments_in, records_of}
 use Rattle.segment.specs.Lent.{addresses_of}
-use Rattle.merge_checked.specs.declared.Answer.TheVariants as A
 use Rattle.merge_checked.specs.Call.{AfterNine, outcome_of, buffers_of}
 use Rattle.merge_checked.proofs.Given.{checked, alone, marks-room}
 use Rattle.merge_checked.proofs.Planned.{Prepared, table, rows, shape, plan-is, map-count}
@@ -43,17 +44,13 @@ use Rattle.lists.proofs.Tests.{neither}
 
 -- ---- plans apart
 
-abbrev is_column : Plan → Bool
-is_column (Refused k) = false
-is_column (Planned x) = true
+abbrev is_column : Result Shape Refusal → Bool
+is_column (Err e) = false
+is_column (Ok x) = true
 
-abbrev shape_in : Plan → Shape → Shape
-shape_in (Refused k) d = d
-shape_in (Planned x) d = x
-
-abbrev number_in : Plan → ℕ
-number_in (Refused k) = k
-number_in (Planned x) = 0
+abbrev shape_in : Result Shape Refusal → Shape → Shape
+shape_in (Err e) d = d
+shape_in (Ok x) d = x
 
 -- a plan by two tests is the shape when neither holds
 record Chosen (t o : Bool) (x s : Shape) : Type 0 where
@@ -61,14 +58,14 @@ record Chosen (t o : Bool) (x s : Shape) : Type 0 where
   short : o ≡ false
   is : x ≡ s
 
-chosen : (t o : Bool) (x s : Shape) → Planned x ≡ cond t (Refused 10) (cond o (Refused 11) (Planned s)) → Chosen t o x s
+chosen : (t o : Bool) (x s : Shape) → Ok x ≡ cond t (Err Types) (cond o (Err OutputSpace) (Ok s)) → Chosen t o x s
 chosen true o x s e = absurd (false≢true (sym (ap is_column e)))
 chosen false true x s e = absurd (false≢true (sym (ap is_column e)))
-chosen false false x s e = record { types = refl; short = refl; is = ap (λ (q : Plan). shape_in q x) e }
+chosen false false x s e = record { types = refl; short = refl; is = ap (λ (q : Result Shape Refusal). shape_in q x) e }
 
-turned : (t o : Bool) (k : ℕ) (s : Shape) → Refused k ≡ cond t (Refused 10) (cond o (Refused 11) (Planned s)) → cond t 10 (cond o 11 0) ≡ k × (k ≡ 0 → ⊥)
-turned true o k s e = let q : k ≡ 10 = ap number_in e in (sym q, λ z. omega (arith, q, z))
-turned false true k s e = let q : k ≡ 11 = ap number_in e in (sym q, λ z. omega (arith, q, z))
+turned : (t o : Bool) (k : Refusal) (s : Shape) → Err k ≡ cond t (Err Types) (cond o (Err OutputSpace) (Ok s)) → cond t 10 (cond o 11 0) ≡ number_of k × (number_of k ≡ 0 → ⊥)
+turned true o k s e = let q : number_of k ≡ 10 = ap answer_number e in (sym q, λ z. omega (arith, q, z))
+turned false true k s e = let q : number_of k ≡ 11 = ap answer_number e in (sym q, λ z. omega (arith, q, z))
 turned false false k s e = absurd (false≢true (ap is_column e))
 
 -- none of six
@@ -125,22 +122,22 @@ module _ {mode required : ℕ} {records : List (List ℕ)} {ids offsets values l
   abbrev l : Lent
   l = lent_of mode required (records_of records) ids offsets values lengths bytes words addresses b
 
-  abbrev plan : Plan
+  abbrev plan : Result Shape Refusal
   plan =
       plan_for mode required stands (length addresses) tally
       (record { ids = length outIds; offsets = length outOffsets; values = length outValues; lengths = length lens; bytes = length outs; map = length ords })
 
   -- ---- a refusal
 
-  pub refused_end : {y : Plan} (k : ℕ) → y ≡ Refused k → y ≡ plan → outcome_of (A.Refused k) b ≡ join_outcome l
+  pub refused_end : {y : Result Shape Refusal} (k : Refusal) → y ≡ Err k → y ≡ plan → outcome_of (Err k) b ≡ join_outcome l
   unfolding refused_buffers
   refused_end k q e =
       let t = turned (types_wrong required ss) (output_too_short (input_of l)) k (shape p r) (sym q ∙ e ∙ plan-is p r b) in
-      (λ j. record { answer = refused k; buffers = buffers_of outIds outOffsets outValues lens outs ords (p.clean j) })
-      ∙ left-refused l k (late mode required records ids offsets values lengths bytes words addresses b p.nine ∙ t.0) t.1
+      (λ j. record { answer = refused (number_of k); buffers = buffers_of outIds outOffsets outValues lens outs ords (p.clean j) })
+      ∙ left-refused l (number_of k) (late mode required records ids offsets values lengths bytes words addresses b p.nine ∙ t.0) t.1
 
   -- ---- a plan
-  module _ {x : Shape} {y : Plan} (q : y ≡ Planned x) (e : y ≡ plan) where
+  module _ {x : Shape} {y : Result Shape Refusal} (q : y ≡ Ok x) (e : y ≡ plan) where
     c : Chosen (types_wrong required ss) (output_too_short (input_of l)) x (shape p r)
     c = chosen (types_wrong required ss) (output_too_short (input_of l)) x (shape p r) (sym q ∙ e ∙ plan-is p r b)
 
@@ -192,7 +189,7 @@ module _ {mode required : ℕ} {records : List (List ℕ)} {ids offsets values l
           → work' ≡ work
           → (least greatest : ℕ) → pair least greatest ≡ pair_for x.typ stands (take x.words values')
           → outcome_of
-          (A.Accepted
+          (Ok
           (record { typ = x.typ; class = x.class; rows = x.rows; ids = x.ids; offsets = x.offsets; values = x.values; terms = n; bytes = m; map = x.map; copied = k; least = least; greatest = greatest }))
           (buffers_of ids' offsets' values' lens' outs' ords' work')
           ≡ join_outcome l

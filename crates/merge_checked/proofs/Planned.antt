@@ -35,8 +35,9 @@ use Rattle.merge_column.proofs.Pair.{typed}
 use Rattle.merge_column.proofs.Joined.{Rows, few-values, ids-number, offsets-number, values-count}
 use Rattle.merge_column.specs.declared.Shape.{Shape}
 use Rattle.merge_column.specs.declared.Space as Place
-use Rattle.merge_column.specs.declared.Plan.{Plan}
-use Rattle.merge_column.specs.declared.Plan.TheVariants.{Refused, Column as Planned}
+use Rattle.std.specs.Prelude.{Result, Ok, Err}
+use Rattle.refusal.specs.declared.Refusal.{Refusal}
+use Rattle.refusal.specs.declared.Refusal.TheVariants.{Types, OutputSpace}
 use Rattle.merge_column.specs.Plan.{class_for, ids_for, offsets_for, enough_for, settled_of, shape_of, plan_of, plan_by, plan_for}
 use Rattle.merge_checked.specs.Call.{AfterNine}
 use Rattle.merge_checked.proofs.Given.{checked, alone, order}
@@ -63,7 +64,7 @@ six-or false false false true e f = refl
 six-or false false false false true f = refl
 six-or false false false false false f = refl
 
-not-cond : (b : Bool) (x y : Plan) → cond (not b) x y ≡ cond b y x
+not-cond : (b : Bool) (x y : Result Shape Refusal) → cond (not b) x y ≡ cond b y x
 not-cond true x y = refl
 not-cond false x y = refl
 
@@ -72,20 +73,9 @@ pub record Prepared (records : List (List ℕ)) (ids offsets lengths words : Lis
   pub stands_are : stands ≡ settled_of records ids offsets lengths words
   pub tally_is : tally ≡ tally_from no_tally stands ids offsets words
 
--- in the first n elements of a longer table
-front : (n : ℕ) (m z : List (List ℕ)) → n ≤ length z → length m ≡ length (take n z) → take n (m ++ drop n z) ≡ m
-front n m z h l = take_at m (drop n z) n (l ∙ length-take-le n z h)
-
-pub front_in : (n : ℕ) (m z : List (List ℕ)) → n ≤ length z → length m ≡ length (take n z) → n ≤ length (m ++ drop n z)
-front_in n m z h l = let a = length-append m (drop n z) in let b = length-take-le n z h in omega arith
-
-pub front_long : (n : ℕ) (m z : List (List ℕ)) → n ≤ length z → length m ≡ length (take n z) → n ≡ length (take n (m ++ drop n z))
-front_long n m z h l = sym (ap length (front n m z h l) ∙ l ∙ length-take-le n z h)
-
-pub prepared_of : (records : List (List ℕ)) (ids offsets lengths words : List ℕ) (n : ℕ) (m z : List (List ℕ)) {tally : Tally} → n ≤ length z → length m ≡ length (take n z)
-    → tally ≡ tally_from no_tally m ids offsets words → m ≡ settled_of records ids offsets lengths words → Prepared records ids offsets lengths words (take n (m ++ drop n z)) tally
-prepared_of records ids offsets lengths words n m z h l e f =
-    record { stands_are = front n m z h l ∙ f; tally_is = e ∙ ap (λ (y : List (List ℕ)). tally_from no_tally y ids offsets words) (sym (front n m z h l)) }
+pub prepared : {records : List (List ℕ)} {ids offsets lengths words : List ℕ} {stands : List (List ℕ)} {tally : Tally} → stands ≡ settled_of records ids offsets lengths words
+    → tally ≡ tally_from no_tally stands ids offsets words → Prepared records ids offsets lengths words stands tally
+prepared s t = record { stands_are = s; tally_is = t }
 
 module _ {mode required : ℕ} {records : List (List ℕ)} {ids offsets values lengths bytes words : List ℕ} {addresses : List (List ℕ)} {work : List ℕ}
     (p : AfterNine mode required records ids offsets values lengths bytes words addresses work) {stands : List (List ℕ)} {tally : Tally} (q : Prepared records ids offsets lengths words stands tally) where
@@ -207,19 +197,19 @@ module _ {mode required : ℕ} {records : List (List ℕ)} {ids offsets values l
         (ltb (length b.term_lengths) (sum_over terms_in (held_of ss))) (ltb (length b.term_bytes) (sum_over bytes_in (held_of ss))) (ltb (length b.map) (sum_over terms_in (held_of ss)))
 
     pub plan-is : plan_for mode required stands (length addresses) tally space
-        ≡ cond (types_wrong required ss) (Refused 10) (cond (output_too_short i) (Refused 11) (Planned shape))
+        ≡ cond (types_wrong required ss) (Err Types) (cond (output_too_short i) (Err OutputSpace) (Ok shape))
     unfolding plan_for plan_of
     plan-is =
         ap (λ (y : Option ℕ). plan_by y (cond (eqb mode 0) tally.rows (length addresses)) tally space) type-is
         ∙ go (types_wrong required ss)
       where
-        column : plan_by (Some (joined_type required ss)) (cond (eqb mode 0) tally.rows (length addresses)) tally space ≡ cond (output_too_short i) (Refused 11) (Planned shape)
+        column : plan_by (Some (joined_type required ss)) (cond (eqb mode 0) tally.rows (length addresses)) tally space ≡ cond (output_too_short i) (Err OutputSpace) (Ok shape)
         column =
-            (λ j. cond (enough_for (shape_is j) (sums.bytes j) space) (Planned (shape_is j)) (Refused 11))
-            ∙ ap (λ (x : Bool). cond x (Planned shape) (Refused 11)) enough-is
-            ∙ not-cond (output_too_short i) (Planned shape) (Refused 11)
+            (λ j. cond (enough_for (shape_is j) (sums.bytes j) space) (Ok (shape_is j)) (Err OutputSpace))
+            ∙ ap (λ (x : Bool). cond x (Ok shape) (Err OutputSpace)) enough-is
+            ∙ not-cond (output_too_short i) (Ok shape) (Err OutputSpace)
 
         go : (t : Bool) → plan_by (cond t None (Some (joined_type required ss))) (cond (eqb mode 0) tally.rows (length addresses)) tally space
-            ≡ cond t (Refused 10) (cond (output_too_short i) (Refused 11) (Planned shape))
+            ≡ cond t (Err Types) (cond (output_too_short i) (Err OutputSpace) (Ok shape))
         go true = refl
         go false = column

@@ -23,8 +23,9 @@ use Rattle.std.proofs.Common.{Option, None, Some}
 use Rattle.merge_type.specs.Parts.{type_answer, held_pair, any_thinned}
 use Rattle.merge_column.specs.declared.Shape.{Shape}
 use Rattle.merge_column.specs.declared.Space.{Space}
-use Rattle.merge_column.specs.declared.Plan.{Plan}
-use Rattle.merge_column.specs.declared.Plan.TheVariants.{Refused, Column}
+use Rattle.std.specs.Prelude.{Result, Ok, Err}
+use Rattle.refusal.specs.declared.Refusal.{Refusal}
+use Rattle.refusal.specs.declared.Refusal.TheVariants.{Types, OutputSpace}
 use Rattle.merge_column.specs.Plan.{class_for, ids_for, offsets_for, shape_of, enough_for, plan_of, plan_by, plan_for, pair_for, widths_for, joined_words, left_for, Filling}
 use Rattle.lists.proofs.Tests.{at_code, past_code}
 
@@ -103,23 +104,23 @@ module _ (typ rows : ℕ) (t : Tally) (space : Space) {class ids offsets : ℕ} 
         map = t.terms;
       }
 
-  pub plan-refused : {b : Bool} → b ≡ enough_for made t.bytes space → not b ≡ true → Refused 11 ≡ plan_of typ rows t space
+  pub plan-refused : {b : Bool} → b ≡ enough_for made t.bytes space → not b ≡ true → Err OutputSpace ≡ plan_of typ rows t space
   unfolding plan_of
-  plan-refused {b} q n = sym (ap (λ (x : Bool). cond x (Column (shape_of typ rows t)) (Refused 11)) (ap (λ (z : Shape). enough_for z t.bytes space) (sym shape_is) ∙ sym q ∙ not-true b n))
+  plan-refused {b} q n = sym (ap (λ (x : Bool). cond x (Ok (shape_of typ rows t)) (Err OutputSpace)) (ap (λ (z : Shape). enough_for z t.bytes space) (sym shape_is) ∙ sym q ∙ not-true b n))
 
-  pub plan-column : {b : Bool} → b ≡ enough_for made t.bytes space → not b ≡ false → Column made ≡ plan_of typ rows t space
+  pub plan-column : {b : Bool} → b ≡ enough_for made t.bytes space → not b ≡ false → Ok made ≡ plan_of typ rows t space
   unfolding plan_of
   plan-column {b} q n =
-      ap Column shape_is ∙ sym (ap (λ (x : Bool). cond x (Column (shape_of typ rows t)) (Refused 11)) (ap (λ (z : Shape). enough_for z t.bytes space) (sym shape_is) ∙ sym q ∙ not-false b n))
+      ap Ok shape_is ∙ sym (ap (λ (x : Bool). cond x (Ok (shape_of typ rows t)) (Err OutputSpace)) (ap (λ (z : Shape). enough_for z t.bytes space) (sym shape_is) ∙ sym q ∙ not-false b n))
 
 -- ---- the plan
 
 module _ (mode required : ℕ) (stands : List (List ℕ)) (addresses : ℕ) (t : Tally) (space : Space) {x : Option ℕ} (e : x ≡ type_answer required stands) where
-  pub planned_wrong : x ≡ None → Refused 10 ≡ plan_for mode required stands addresses t space
+  pub planned_wrong : x ≡ None → Err Types ≡ plan_for mode required stands addresses t space
   unfolding plan_for
   planned_wrong q = sym (ap (λ (y : Option ℕ). plan_by y (cond (eqb mode 0) t.rows addresses) t space) (sym e ∙ q))
 
-  pub planned_column : {typ : ℕ} → x ≡ Some typ → {r : Plan} {rows : ℕ} → rows ≡ cond (eqb mode 0) t.rows addresses → r ≡ plan_of typ rows t space → r ≡ plan_for mode required stands addresses t space
+  pub planned_column : {typ : ℕ} → x ≡ Some typ → {r : Result Shape Refusal} {rows : ℕ} → rows ≡ cond (eqb mode 0) t.rows addresses → r ≡ plan_of typ rows t space → r ≡ plan_for mode required stands addresses t space
   unfolding plan_for
   planned_column {typ} q we re =
       re ∙ ap (λ (n : ℕ). plan_of typ n t space) we ∙ sym (ap (λ (y : Option ℕ). plan_by y (cond (eqb mode 0) t.rows addresses) t space) (sym e ∙ q))

@@ -1,5 +1,5 @@
 -- The parts of one column's join, over where the segments stand. Assumes nothing.
-use Rattle.std.specs.Prelude.{ℕ, suc, ◌*◌, ◌≤◌, ◌≡◌, List, ◌∷◌, Bool, false, cond, not, eqb, ltb, leb, length, replicate, Option, None, Some}
+use Rattle.std.specs.Prelude.{ℕ, suc, ◌*◌, ◌≤◌, ◌≡◌, List, ◌∷◌, Bool, false, cond, not, eqb, ltb, leb, length, replicate, Option, None, Some, Result, Ok, Err}
 use Rattle.definitions.specs.Words.{words_per_value}
 use Rattle.definitions.specs.Segment.{Pair}
 use Rattle.definitions.specs.Row.{no_type}
@@ -17,8 +17,8 @@ use Rattle.column_index_stacked.specs.Stacked.{Stacked}
 use Rattle.column_index_shuffled.specs.Order.{ordered_words, Ordered}
 use Rattle.merge_column.specs.declared.Shape.{Shape}
 use Rattle.merge_column.specs.declared.Space.{Space}
-use Rattle.merge_column.specs.declared.Plan.{Plan}
-use Rattle.merge_column.specs.declared.Plan.TheVariants.{Refused, Column}
+use Rattle.refusal.specs.declared.Refusal.{Refusal}
+use Rattle.refusal.specs.declared.Refusal.TheVariants.{Types, OutputSpace}
 
 -- ---- where the segments stand
 
@@ -66,15 +66,15 @@ shape_of typ rows t =
       map = t.terms;
     }
 
-unfoldable pub plan_of : ℕ → ℕ → Tally → Space → Plan
-plan_of typ rows t space = cond (enough_for (shape_of typ rows t) t.bytes space) (Column (shape_of typ rows t)) (Refused 11)
+unfoldable pub plan_of : ℕ → ℕ → Tally → Space → Result Shape Refusal
+plan_of typ rows t space = cond (enough_for (shape_of typ rows t) t.bytes space) (Ok (shape_of typ rows t)) (Err OutputSpace)
 
-abbrev pub plan_by : Option ℕ → ℕ → Tally → Space → Plan
-plan_by None rows t space = Refused 10
+abbrev pub plan_by : Option ℕ → ℕ → Tally → Space → Result Shape Refusal
+plan_by None rows t space = Err Types
 plan_by (Some typ) rows t space = plan_of typ rows t space
 
 -- 10 where the types are wrong, else by the sums; a stacked join has all rows, an ordered one those that are addressed
-unfoldable pub plan_for : ℕ → ℕ → List (List ℕ) → ℕ → Tally → Space → Plan
+unfoldable pub plan_for : ℕ → ℕ → List (List ℕ) → ℕ → Tally → Space → Result Shape Refusal
 plan_for mode required stands addresses t space = plan_by (type_answer required stands) (cond (eqb mode 0) t.rows addresses) t space
 
 -- ---- the fills

@@ -11,6 +11,7 @@ ghost use Rattle.merge_type.specs.Parts.{Coded};
 ghost use Rattle.merge_column.specs.Plan.{Preparing, settled_of, class_for, offsets_for, enough_for, plan_of, plan_for, widths_for, joined_words, left_for, Filling, pair_for};
 
 use census::Tally;
+use refusal::Refusal;
 use stands::StandNumbers;
 
 // Where the segments stand as they count in the join, and the sums over them.
@@ -65,12 +66,6 @@ pub struct Shape {
     pub map: usize,
 }
 
-#[derive(Clone, Copy)]
-pub enum Plan {
-    Refused(u32),
-    Column(Shape),
-}
-
 fn rows_of(mode: u32, rows: usize, addresses: usize) -> usize
     ensures { result ≡ cond (eqb mode 0) rows addresses }
 {
@@ -113,7 +108,7 @@ fn has_room(x: Shape, bytes: usize, space: Space) -> bool
 }
 
 // The shape of a column of type typ, and 11 where it has no room.
-fn shape_of(typ: u32, rows: usize, t: Tally, space: Space) -> Plan
+fn shape_of(typ: u32, rows: usize, t: Tally, space: Space) -> Result<Shape, Refusal>
     requires listed_bound { t.listed < 18446744073709551615 }
     requires values_bound { t.values ≤ 4294967294 }
     ensures { result ≡ plan_of typ rows t space }
@@ -130,9 +125,9 @@ fn shape_of(typ: u32, rows: usize, t: Tally, space: Space) -> Plan
         map: t.terms,
     };
     if !has_room(x, t.bytes, space) {
-        return Plan::Refused(11);
+        return Err(Refusal::OutputSpace);
     }
-    Plan::Column(x)
+    Ok(x)
 }
 
 // Check 10, then check 11: the first of the two that fails, or the shape of the joined column, from the sums over its segments.
@@ -143,14 +138,14 @@ pub fn measure(
     addresses: usize,
     t: Tally,
     space: Space,
-) -> Plan
+) -> Result<Shape, Refusal>
     requires coded { Coded stands.now }
     requires listed_bound { t.listed < 18446744073709551615 }
     requires values_bound { t.values ≤ 4294967294 }
     ensures { result ≡ plan_for mode required stands.now addresses t space }
 {
     let Some(typ) = merge_type::check_types(required, stands) else {
-        return Plan::Refused(10);
+        return Err(Refusal::Types);
     };
     let rows = rows_of(mode, t.rows, addresses);
     shape_of(typ, rows, t, space)

@@ -1,12 +1,13 @@
 // The merged dictionary and the map from old ordinals to new ones (columnar/merge/merge_dict_column.rs, `serialize_merged_dict`).
 #![tactic(auto)]
 
-ghost use Rattle.std.specs.Prelude.{◌≡◌};
+ghost use Rattle.std.specs.Prelude.{◌≡◌, ℕ, ◌<◌, ◌^◌, get_or};
 ghost use Rattle.term_cursors.specs.Runs.{Runs};
 ghost use Rattle.merge_dict_column.specs.Dict.{Texts, Dictionary};
 ghost use Rattle.merge_dict_column.specs.Fill.{marks_for, MarksFor, DictionaryGiven, DictionaryLeft};
 
 use stands::StandNumbers;
+use term_merger::{Cursor, Heap};
 use term_walk::Kept;
 
 // The held segments' dictionaries as one, and each old ordinal's new one. A term's mark is 0 where it is not kept, and all means that every term is.
@@ -24,7 +25,7 @@ pub fn merge_dict(
     requires texts { Texts stands.now lengths.now bytes.now out_lengths.old out_bytes.old map.old }
     ensures { Dictionary stands.now lengths.now bytes.now marks.now all out_lengths.old out_bytes.old map.old result.terms result.bytes result.copied out_lengths.new out_bytes.new map.new }
 {
-    let mut cursors = [[0usize; 8]; term_merger::Heap::CAP];
+    let mut cursors = [Cursor::NONE; Heap::CAP];
     term_cursors::fill_cursors(stands, lengths, bytes, marks, all, &mut cursors);
     let heap = term_merger::start_heap(bytes, &cursors);
     term_walk::merge_terms(
@@ -59,7 +60,7 @@ fn mark(
     term_marks::mark_terms(stands, ids, offsets, values, alive, marks);
 }
 
-// The joined terms and the map. The working bytes are zero before and after.
+// The joined terms and the map. The working bytes are zero before and after. That each value is a word is said here, where the values are a parameter: of a slice in a struct the check knows the length alone.
 pub fn fill_dictionary(
     mode: u32,
     stands: &[StandNumbers],
@@ -75,7 +76,8 @@ pub fn fill_dictionary(
     out_map: &mut [u32],
 ) -> Kept
     requires { DictionaryGiven mode stands.now ids.now offsets.now values.now lengths.now bytes.now alive.now work.old out_lengths.old out_bytes.old out_map.old }
-    ensures { DictionaryLeft mode stands.now ids.now offsets.now values.now lengths.now bytes.now alive.now work.old out_lengths.old out_bytes.old out_map.old result.terms result.bytes result.copied work.new out_lengths.new out_bytes.new out_map.new }
+    ensures words { (i : ℕ) → get_or values.now i 0 < 2 ^ 64 }
+    ensures left { DictionaryLeft mode stands.now ids.now offsets.now values.now lengths.now bytes.now alive.now work.old out_lengths.old out_bytes.old out_map.old result.terms result.bytes result.copied work.new out_lengths.new out_bytes.new out_map.new }
 {
     // one mark for each term when ordered
     let n = runs::unless(mode == 0, lengths.len());

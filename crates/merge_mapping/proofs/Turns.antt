@@ -1,13 +1,15 @@
 -- What each function's turn or return says. Assumes nothing.
-use Prim.Native.Nat.{ℕ, suc, ◌+◌, ◌-◌, ◌*◌, ◌/◌, ◌%◌, ◌^◌, ◌≤◌, ◌<◌}
+use Prim.Native.Nat.{ℕ, zero, suc, ◌+◌, ◌-◌, ◌*◌, ◌/◌, ◌%◌, ◌^◌, ◌≤◌, ◌<◌}
 use native.Mathlib.Numerals.{add-one}
 use native.Mathlib.Omega.{arith}
-use mathlib.Core.Path.{◌≡◌, refl, sym, ap, ap₂, ◌∙◌, subst}
+use mathlib.Core.Path.{◌≡◌, refl, sym, ap, ap₂, ◌∙◌}
 use mathlib.Core.Bool.{Bool, true, false, ◌&&◌, cond}
 use mathlib.Core.List.{List, [], ◌∷◌, ◌++◌}
 use lib.Dec.{eqb, ltb}
-use lib.ListN.{length, take, drop, get_or, set, replicate, take-append-drop, drop_of_length-le, length-map, length-set, get_or-map}
+use lib.ListN.{length, take, drop, get_or, set, replicate, take-append-drop, drop_of_length-le, length-map, get_or-map}
 use lib.Seq.{drop-cons}
+use lib.Pow.{shl_exact}
+use native.Mathlib.Nat.{one-mul}
 use borrow.Author.Tests.{eq-eqb, ne_eqb, lt-ltb, le-ltb}
 use Rattle.definitions.specs.Lists.{all_below}
 use Rattle.definitions.specs.Segment.{Address, address_from, address}
@@ -20,13 +22,9 @@ use Rattle.runs.specs.Put.{put}
 use Rattle.runs.proofs.Laws.{length-put}
 use Rattle.runs.proofs.Zeros.{part-zero}
 use Rattle.lists.proofs.Parts.{run_length}
-use Rattle.merge_mapping.specs.Mapping.{bytes_for, alive_byte, alive_bytes, laid_out, Worded, AllWorded, Room, is_left, without, takes, left_by}
+use Rattle.merge_mapping.specs.Mapping.{bytes_for, alive_byte, alive_bytes, laid_out, Worded, is_left, without, takes, left_by}
 
 -- ---- a segment's bits laid out
-
--- a byte whose rows are all there
-pub whole-byte : (end rows : ℕ) → end ≤ rows → 255 ≡ 255 / 2 ^ (end - rows)
-whole-byte end rows h = sym (ap (λ (n : ℕ). 255 / 2 ^ n) (let z : end - rows ≡ 0 = omega arith in z))
 
 module _ (flag : ℕ) (words : List ℕ) (rows : ℕ) where
   pub bytes-length : length (alive_bytes flag words rows) ≡ bytes_for rows
@@ -37,15 +35,9 @@ module _ (flag : ℕ) (words : List ℕ) (rows : ℕ) where
   unfolding alive_bytes
   bytes-at i h = sym (table_at (alive_byte flag words rows) 0 (bytes_for rows) i h)
 
--- where the code finds a segment's words and bytes
-pub worded-here : (stands : List (List ℕ)) (k : ℕ) {alive : List ℕ} → AllWorded stands alive → k < length stands → {p : Stand} → p ≡ stand_at stands k → Worded p alive
-worded-here stands k {alive} w h e = subst (λ (q : Stand). Worded q alive) (sym e) (w k h)
-
+-- where the code finds a segment's words
 pub words_reach : {p : Stand} {alive : List ℕ} → Worded p alive → p.flag ≡ 1 → p.rows ≤ 64 * length (alive_set_at p alive)
 words_reach {p} {alive} w e = rw (run_length p.alive.from p.alive.to alive w.lie.ends) (w.enough e)
-
-pub room-here : (stands : List (List ℕ)) (k : ℕ) (bits : List ℕ) → Room stands bits → k < length stands → {p : Stand} → p ≡ stand_at stands k → p.work + p.rows ≤ length bits
-room-here stands k bits r h e = subst (λ (q : Stand). q.work + q.rows ≤ length bits) (sym e) (r k h)
 
 pub laid_start : (stands : List (List ℕ)) (alive bits : List ℕ) → bits ≡ laid_out stands alive bits 0
 unfolding laid_out
@@ -62,6 +54,10 @@ put-long at flag words rows w h = length-put at (alive_bytes flag words rows) w 
 
 -- ---- one address
 
+-- what a bit adds to a byte
+weight : (b : ℕ) → b < 8 → 1 * 2 ^ b % 256 ≡ 2 ^ b
+weight b h = shl_exact 1 b 8 (omega arith) (omega arith) ∙ one-mul (2 ^ b)
+
 module _ (stands : List (List ℕ)) (bits : List ℕ) (seg row : ℕ) where
   pub left-absent : length stands ≤ seg → false ≡ is_left stands bits (address seg row)
   unfolding is_left
@@ -75,50 +71,41 @@ module _ (stands : List (List ℕ)) (bits : List ℕ) (seg row : ℕ) where
     pub left_past : p.rows ≤ row → false ≡ is_left stands bits (address seg row)
     left_past l = ap (λ (b : Bool). b && eqb (get_or bits (p.work + row / 8) 0 / 2 ^ (row % 8) % 2) 1) (sym (le-ltb row p.rows l)) ∙ left_here
 
-    module _ (l : row < p.rows) {x : ℕ} (q : x ≡ get_or bits (p.work + row / 8) 0) where
-      left-found : eqb (x / 2 ^ (row % 8) % 2) 1 ≡ is_left stands bits (address seg row)
-      left-found =
-          ap (λ (n : ℕ). eqb (n / 2 ^ (row % 8) % 2) 1) q
-          ∙ ap (λ (b : Bool). b && eqb (get_or bits (p.work + row / 8) 0 / 2 ^ (row % 8) % 2) 1) (sym (lt-ltb row p.rows l))
-          ∙ left_here
+    module _ (l : row < p.rows) where
+      left-found : eqb (get_or bits (p.work + row / 8) 0 / 2 ^ (row % 8) % 2) 1 ≡ is_left stands bits (address seg row)
+      left-found = ap (λ (b : Bool). b && eqb (get_or bits (p.work + row / 8) 0 / 2 ^ (row % 8) % 2) 1) (sym (lt-ltb row p.rows l)) ∙ left_here
 
-      pub left_no : (x / 2 ^ (row % 8) % 2 ≡ 1 → ⊥) → false ≡ is_left stands bits (address seg row)
+      pub left_no : (get_or bits (p.work + row / 8) 0 / 2 ^ (row % 8) % 2 ≡ 1 → ⊥) → false ≡ is_left stands bits (address seg row)
       left_no n = sym (ne_eqb _ 1 n) ∙ left-found
 
-      pub left_yes : x / 2 ^ (row % 8) % 2 ≡ 1 → true ≡ is_left stands bits (address seg row)
+      pub left_yes : get_or bits (p.work + row / 8) 0 / 2 ^ (row % 8) % 2 ≡ 1 → true ≡ is_left stands bits (address seg row)
       left_yes n = sym (eq-eqb _ 1 n) ∙ left-found
 
-      pub left_out : {v : ℕ} → v ≡ 2 ^ (row % 8) → set bits (p.work + row / 8) (x - v) ≡ without stands bits (address seg row)
-      unfolding without
-      left_out r = rw (q, r) (ap (λ (s : Stand). set bits (s.work + row / 8) (get_or bits (s.work + row / 8) 0 - 2 ^ (row % 8))) e)
+    pub left_out : set bits (p.work + row / 8) (get_or bits (p.work + row / 8) 0 - 1 * 2 ^ (row % 8) % 256) ≡ without stands bits (address seg row)
+    unfolding without
+    left_out = rw (weight (row % 8) (omega arith), e)
 
 -- ---- a turn of the loop over the addresses
 
-module _ (stands : List (List ℕ)) (addresses : List (List ℕ)) (bits : List ℕ) (j seg row : ℕ) (h : j < length addresses)
-    (p : seg ≡ get_or (get_or addresses j []) 0 0) (q : row ≡ get_or (get_or addresses j []) 1 0)
-    {b : Bool} {w : List ℕ} (e : b ≡ is_left stands bits (address seg row)) (o : w ≡ cond b (without stands bits (address seg row)) bits) where
-  next-is : drop j (addresses_of addresses) ≡ address seg row ∷ drop (j + 1) (addresses_of addresses)
+module _ (stands : List (List ℕ)) (addresses : List (List ℕ)) (bits : List ℕ) (j : ℕ) (h : j < length addresses) where
+  abbrev now : Address
+  now = address_from (get_or addresses j [])
+
+  next-is : drop j (addresses_of addresses) ≡ now ∷ drop (j + 1) (addresses_of addresses)
   next-is =
       rw (add-one j)
       (drop-cons (addresses_of addresses) j (address_from []) (rw (length-map addresses address_from) h)
-      ∙ ap (λ (a : Address). a ∷ drop (suc j) (addresses_of addresses)) (get_or-map address_from addresses j [] ∙ ap₂ (λ (a b : ℕ). address a b) (sym p) (sym q)))
+      ∙ ap (λ (a : Address). a ∷ drop (suc j) (addresses_of addresses)) (get_or-map address_from addresses j []))
 
-  pub turn-long : length w ≡ length bits
-  unfolding without
-  turn-long = ap length o ∙ go b
-    where
-      go : (t : Bool) → length (cond t (without stands bits (address seg row)) bits) ≡ length bits
-      go true = length-set bits _ _
-      go false = refl
+  module _ {b : Bool} {w : List ℕ} (e : b ≡ is_left stands bits now) (o : w ≡ cond b (without stands bits now) bits) where
+    pub turn-none : b ≡ false → (false ≡ takes stands bits (drop j (addresses_of addresses))) × (w ≡ left_by stands bits (drop j (addresses_of addresses)))
+    unfolding takes left_by
+    turn-none f = rw (o, next-is, ← e, f) (refl, refl)
 
-  pub turn-none : b ≡ false → (false ≡ takes stands bits (drop j (addresses_of addresses))) × (w ≡ left_by stands bits (drop j (addresses_of addresses)))
-  unfolding takes left_by
-  turn-none f = rw (o, next-is, ← e, f) (refl, refl)
-
-  pub turn-some : b ≡ true → (takes stands w (drop (j + 1) (addresses_of addresses)) ≡ takes stands bits (drop j (addresses_of addresses)))
-      × (left_by stands w (drop (j + 1) (addresses_of addresses)) ≡ left_by stands bits (drop j (addresses_of addresses)))
-  unfolding takes left_by
-  turn-some t = rw (o, next-is, ← e, t) (refl, refl)
+    pub turn-some : b ≡ true → (takes stands w (drop (j + 1) (addresses_of addresses)) ≡ takes stands bits (drop j (addresses_of addresses)))
+        × (left_by stands w (drop (j + 1) (addresses_of addresses)) ≡ left_by stands bits (drop j (addresses_of addresses)))
+    unfolding takes left_by
+    turn-some t = rw (o, next-is, ← e, t) (refl, refl)
 
 pub turn_end : (stands : List (List ℕ)) (bits : List ℕ) (addresses : List (List ℕ)) (j : ℕ) → length addresses ≤ j
     → (true ≡ takes stands bits (drop j (addresses_of addresses))) × (bits ≡ left_by stands bits (drop j (addresses_of addresses)))
@@ -127,13 +114,19 @@ turn_end stands bits addresses j h = rw (drop_of_length-le (addresses_of address
 
 -- ---- a turn of the last scan
 
-pub none-next : (bits : List ℕ) (i : ℕ) (none b : Bool) → i < length bits → b ≡ ltb (get_or bits i 0) 1 && none → all_below 1 (drop (i + 1) bits) && b ≡ all_below 1 (drop i bits) && none
+pub none-next : (bits : List ℕ) (i : ℕ) (none : Bool) → i < length bits → all_below 1 (drop (i + 1) bits) && (none && eqb (get_or bits i 0) 0) ≡ all_below 1 (drop i bits) && none
 unfolding all_below
-none-next bits i none b h e = rw (add-one i, drop-cons bits i 0 h, e) (swap (all_below 1 (drop (suc i) bits)) (ltb (get_or bits i 0) 1) none)
+none-next bits i none h = rw (add-one i, drop-cons bits i 0 h, below-one (get_or bits i 0)) (swap (all_below 1 (drop (suc i) bits)) (eqb (get_or bits i 0) 0) none)
   where
-    swap : (a b c : Bool) → a && (b && c) ≡ (b && a) && c
-    swap true true c = refl
-    swap true false c = refl
+    below-one : (n : ℕ) → ltb n 1 ≡ eqb n 0
+    below-one zero = refl
+    below-one (suc n) = le-ltb (suc n) 1 (omega arith) ∙ sym (ne_eqb (suc n) 0 (λ e. omega arith))
+
+    swap : (a b c : Bool) → a && (c && b) ≡ (b && a) && c
+    swap true true true = refl
+    swap true true false = refl
+    swap true false true = refl
+    swap true false false = refl
     swap false true c = refl
     swap false false c = refl
 

@@ -1,5 +1,5 @@
 -- Keys keep the order of the type, so the least and the greatest key are those of the least and the greatest value. Assumes nothing.
-use Rattle.std.proofs.Common.{◌≡◌, ℕ, zero, suc, ◌+◌, ◌-◌, ◌<◌, ◌≤◌, min, max, Bool, true, false, cond, not, ◌&&◌, ◌||◌, eqb, ltb, List, [], ◌∷◌, length, get_or, refl, ap, ◌∙◌, ap₂, arith, ltb-false, ltb-true, le-ltb, lt-ltb, ne_eqb, leb-false, leb-true}
+use Rattle.std.proofs.Common.{◌≡◌, ℕ, zero, suc, ◌+◌, ◌-◌, ◌<◌, ◌≤◌, min, max, Bool, true, false, cond, not, ◌&&◌, ◌||◌, eqb, ltb, List, [], ◌∷◌, length, get_or, refl, ap, ◌∙◌, ap₂, arith, ltb-false, ltb-true, le-ltb, lt-ltb, leb-false, leb-true}
 use Rattle.definitions.specs.Segment.{pair, no_pair}
 use Rattle.definitions.specs.Types.{I64, is_negative, is_less, first_by, extremes, pair_of}
 use Rattle.min_max.specs.declared.Range.{Range}
@@ -111,10 +111,6 @@ module _ (t : ℕ) where
       ∙ (λ i. pair (word_back t (first_by (λ v u. is_less t v u) w ws) (first_word (λ v u. is_less t v u) w ws (l 0) tail) i) (word_back t (first_by (λ v u. is_less t u v) w ws) (first_word (λ v u. is_less t u v) w ws (l 0) tail) i))
 
 -- ---- the pair of a type
-
-pub pair-other : (t : ℕ) (ws : List ℕ) → 1 < t → no_pair ≡ pair_of t ws
-unfolding pair_of
-pair-other t ws h = rw (ne_eqb t 0 (λ e. omega arith), ne_eqb t 1 (λ e. omega arith))
 
 pub pair-none : (t : ℕ) (ws : List ℕ) → length ws ≡ 0 → no_pair ≡ pair_of t ws
 unfolding pair_of

@@ -1,6 +1,7 @@
 -- Ranges of keys, over a run of words. Assumes nothing.
-use Rattle.std.proofs.Common.{◌≡◌, ℕ, ◌+◌, ◌-◌, ◌<◌, ◌≤◌, List, length, get_or, take, drop, ap, ◌∙◌, ap₂, add-one, arith, drop_of_length-le, drop-cons}
-use Rattle.lists.proofs.Parts.{part-rest}
+use Rattle.std.proofs.Common.{◌≡◌, ℕ, zero, suc, ◌+◌, ◌*◌, ◌/◌, ◌<◌, ◌≤◌, List, [], length, get_or, drop, sym, ap, ◌∙◌, ap₂, add-one, arith, drop_of_length-le, drop-cons}
+use Rattle.std.proofs.lemmas.List.{get_or-take, get_or-drop}
+use Rattle.std.specs.Simd.{first_chunks}
 use Rattle.min_max.specs.declared.Range.{Range}
 use Rattle.min_max.specs.Keys.{key_of, range_of, both_of, with_key, range_from, all_keys}
 
@@ -30,9 +31,6 @@ module _ (p q : Range) (k : ℕ) where
 abbrev pub of_four : Range → Range → Range → Range → Range
 of_four a b c d = both_of (both_of a b) (both_of c d)
 
-pub four_same : (p : Range) → of_four p p p p ≡ p
-four_same p = range_is {l = p.least} {g = p.greatest} (omega arith) (omega arith)
-
 module _ (a b c d : Range) (k : ℕ) where
   to-first : with_key (of_four a b c d) k ≡ of_four (with_key a k) b c d
   to-first = left (both_of a b) (both_of c d) k ∙ ap (λ (x : Range). both_of x (both_of c d)) (left a b k)
@@ -46,26 +44,36 @@ module _ (a b c d : Range) (k : ℕ) where
   to-fourth : with_key (of_four a b c d) k ≡ of_four a b c (with_key d k)
   to-fourth = right (both_of a b) (both_of c d) k ∙ ap (both_of (both_of a b)) (right c d k)
 
--- four words more, each with a range of its own
-module _ (shift : ℕ) (ws : List ℕ) (i : ℕ) (h : i + 4 ≤ length ws) (a b c d : Range) where
+-- ---- words cut into fours
+
+chunk_at : (m i j : ℕ) (ws : List ℕ) → i < m → j < 4 → get_or (get_or (first_chunks 4 m ws) i []) j 0 ≡ get_or ws (i * 4 + j) 0
+chunk_at zero i j ws h k = absurd (omega arith)
+chunk_at (suc m) zero j ws h k = get_or-take 4 ws j 0 k ∙ ap (λ (n : ℕ). get_or ws n 0) (let e : j ≡ 0 * 4 + j = omega arith in e)
+chunk_at (suc m) (suc i) j ws h k =
+    chunk_at m i j (drop 4 ws) (omega arith) k
+    ∙ get_or-drop 4 ws (i * 4 + j) 0
+    ∙ ap (λ (n : ℕ). get_or ws n 0) (let e : 4 + (i * 4 + j) ≡ suc i * 4 + j = omega arith in e)
+
+module _ (shift : ℕ) (ws : List ℕ) (i : ℕ) (h : i < length ws / 4) where
   abbrev key : ℕ → ℕ
-  key j = key_of shift (get_or ws j 0)
+  key j = key_of shift (get_or (get_or (first_chunks 4 (length ws / 4) ws) i []) j 0)
 
-  pub four_more : range_from (of_four a b c d) (all_keys shift (drop i ws))
-      ≡ range_from (of_four (with_key a (key i)) (with_key b (key (i + 1))) (with_key c (key (i + 2))) (with_key d (key (i + 3)))) (all_keys shift (drop (i + 4) ws))
-  four_more =
-      from_step (of_four a b c d) shift ws i (omega arith)
-      ∙ ap (λ (x : Range). range_from x (all_keys shift (drop (i + 1) ws))) (to-first a b c d (key i))
-      ∙ from_step (of_four (with_key a (key i)) b c d) shift ws (i + 1) (omega arith)
-      ∙ ap₂ (λ (x : Range) (n : ℕ). range_from x (all_keys shift (drop n ws))) (to-second (with_key a (key i)) b c d (key (i + 1))) (let e : i + 1 + 1 ≡ i + 2 = omega arith in e)
-      ∙ from_step (of_four (with_key a (key i)) (with_key b (key (i + 1))) c d) shift ws (i + 2) (omega arith)
-      ∙ ap₂ (λ (x : Range) (n : ℕ). range_from x (all_keys shift (drop n ws))) (to-third (with_key a (key i)) (with_key b (key (i + 1))) c d (key (i + 2))) (let e : i + 2 + 1 ≡ i + 3 = omega arith in e)
-      ∙ from_step (of_four (with_key a (key i)) (with_key b (key (i + 1))) (with_key c (key (i + 2))) d) shift ws (i + 3) (omega arith)
-      ∙ ap₂ (λ (x : Range) (n : ℕ). range_from x (all_keys shift (drop n ws))) (to-fourth (with_key a (key i)) (with_key b (key (i + 1))) (with_key c (key (i + 2))) d (key (i + 3))) (let e : i + 3 + 1 ≡ i + 4 = omega arith in e)
+  -- word j of the i-th four
+  next : (p : Range) (j m n : ℕ) → j < 4 → m ≡ i * 4 + j → n ≡ m + 1 → range_from p (all_keys shift (drop m ws)) ≡ range_from (with_key p (key j)) (all_keys shift (drop n ws))
+  next p j m n k e f =
+      let inside : m < length ws = omega arith in
+      let word : get_or ws m 0 ≡ get_or (get_or (first_chunks 4 (length ws / 4) ws) i []) j 0 = ap (λ (x : ℕ). get_or ws x 0) e ∙ sym (chunk_at (length ws / 4) i j ws h k) in
+      from_step p shift ws m inside ∙ ap₂ (λ (w x : ℕ). range_from (with_key p (key_of shift w)) (all_keys shift (drop x ws))) word (sym f)
 
--- what is left of them after i words
-pub four_end : (shift : ℕ) (ws : List ℕ) (i : ℕ) (a b c d : Range) {x y z r : Range} → x ≡ both_of a b → y ≡ both_of c d → z ≡ both_of x y
-    → r ≡ range_from z (all_keys shift (take (length ws - i) (drop i ws))) → r ≡ range_from (of_four a b c d) (all_keys shift (drop i ws))
-four_end shift ws i a b c d p q s e =
-    e
-    ∙ ap₂ (λ (w : Range) (l : List ℕ). range_from w (all_keys shift l)) (s ∙ ap₂ both_of p q) (part-rest i ws)
+  -- four words more, each with a range of its own
+  pub four_more : (a b c d : Range) → range_from (of_four a b c d) (all_keys shift (drop (i * 4) ws))
+      ≡ range_from (of_four (with_key a (key 0)) (with_key b (key 1)) (with_key c (key 2)) (with_key d (key 3))) (all_keys shift (drop ((i + 1) * 4) ws))
+  four_more a b c d =
+      next (of_four a b c d) 0 (i * 4) (i * 4 + 1) (omega arith) (omega arith) (omega arith)
+      ∙ ap (λ (x : Range). range_from x (all_keys shift (drop (i * 4 + 1) ws))) (to-first a b c d (key 0))
+      ∙ next (of_four (with_key a (key 0)) b c d) 1 (i * 4 + 1) (i * 4 + 2) (omega arith) (omega arith) (omega arith)
+      ∙ ap (λ (x : Range). range_from x (all_keys shift (drop (i * 4 + 2) ws))) (to-second (with_key a (key 0)) b c d (key 1))
+      ∙ next (of_four (with_key a (key 0)) (with_key b (key 1)) c d) 2 (i * 4 + 2) (i * 4 + 3) (omega arith) (omega arith) (omega arith)
+      ∙ ap (λ (x : Range). range_from x (all_keys shift (drop (i * 4 + 3) ws))) (to-third (with_key a (key 0)) (with_key b (key 1)) c d (key 2))
+      ∙ next (of_four (with_key a (key 0)) (with_key b (key 1)) (with_key c (key 2)) d) 3 (i * 4 + 3) ((i + 1) * 4) (omega arith) (omega arith) (omega arith)
+      ∙ ap (λ (x : Range). range_from x (all_keys shift (drop ((i + 1) * 4) ws))) (to-fourth (with_key a (key 0)) (with_key b (key 1)) (with_key c (key 2)) d (key 3))

@@ -2,13 +2,15 @@
 // Words are compared by keys: a word with so much added, without a carry, that unsigned numbers keep the order of the type.
 #![tactic(auto)]
 
-ghost use Rattle.std.specs.Prelude.{◌≡◌, ◌<◌, min, max, length, if◌then◌else◌};
+ghost use Rattle.std.specs.Prelude.{◌≡◌, ◌<◌};
 ghost use Rattle.definitions.specs.Types.{is_less, pair_of};
 ghost use Rattle.min_max.specs.Pairs.{both_pairs};
 ghost use Rattle.min_max.specs.Keys.{shift_of, key_of, word_of, both_of, with_key, range_from, all_keys, pair_in};
 
+use column_type::{I64, U64};
+
 // The least and the greatest of some keys, or the words of these two.
-#[derive(Clone, Copy)]
+#[derive(Clone, Copy, Debug, Default, PartialEq, Eq, Hash)]
 pub struct Range {
     pub least: u64,
     pub greatest: u64,
@@ -20,35 +22,20 @@ pub struct Range {
 fn shift_of(t: u32) -> u64
     ensures { result ≡ shift_of t }
 {
-    if t == 0 {
-        return 9223372036854775808;
-    }
-    0
+    if t == I64 { 1 << 63 } else { 0 }
 }
 
 fn key_of(shift: u64, word: u64) -> u64
     ensures value { result ≡ key_of shift word }
     ensures upper_bound { result < 18446744073709551616 }
 {
-    std::num::wrapping_add_u64(word, shift)
+    word.wrapping_add(shift)
 }
 
 fn word_of(shift: u64, key: u64) -> u64
     ensures { result ≡ word_of shift key }
 {
-    std::num::wrapping_sub_u64(key, shift)
-}
-
-fn lower(a: u64, b: u64) -> u64
-    ensures { result ≡ min a b }
-{
-    if b < a { b } else { a }
-}
-
-fn upper(a: u64, b: u64) -> u64
-    ensures { result ≡ max a b }
-{
-    if a < b { b } else { a }
+    key.wrapping_sub(shift)
 }
 
 // ---- ranges of keys
@@ -58,8 +45,8 @@ fn with_key(p: Range, key: u64) -> Range
     ensures { result ≡ with_key p key }
 {
     Range {
-        least: lower(p.least, key),
-        greatest: upper(p.greatest, key),
+        least: p.least.min(key),
+        greatest: p.greatest.max(key),
     }
 }
 
@@ -68,8 +55,8 @@ fn both(p: Range, q: Range) -> Range
     ensures { result ≡ both_of p q }
 {
     Range {
-        least: lower(p.least, q.least),
-        greatest: upper(p.greatest, q.greatest),
+        least: p.least.min(q.least),
+        greatest: p.greatest.max(q.greatest),
     }
 }
 
@@ -78,10 +65,8 @@ fn with_words(p: Range, shift: u64, words: &[u64]) -> Range
     ensures { result ≡ range_from p (all_keys shift words.now) }
 {
     let mut q = p;
-    let mut i: usize = 0;
-    while i < words.len() {
-        q = with_key(q, key_of(shift, words[i]));
-        i += 1;
+    for &w in words {
+        q = with_key(q, key_of(shift, w));
     }
     q
 }
@@ -90,19 +75,15 @@ fn with_words(p: Range, shift: u64, words: &[u64]) -> Range
 fn range_of(p: Range, shift: u64, words: &[u64]) -> Range
     ensures { result ≡ range_from p (all_keys shift words.now) }
 {
-    let mut a = p;
-    let mut b = p;
-    let mut c = p;
-    let mut d = p;
-    let mut i: usize = 0;
-    while i + 4 <= words.len() {
-        a = with_key(a, key_of(shift, words[i]));
-        b = with_key(b, key_of(shift, words[i + 1]));
-        c = with_key(c, key_of(shift, words[i + 2]));
-        d = with_key(d, key_of(shift, words[i + 3]));
-        i += 4;
+    let (mut a, mut b, mut c, mut d) = (p, p, p, p);
+    let (fours, rest) = words.as_chunks::<4>();
+    for &[w, x, y, z] in fours {
+        a = with_key(a, key_of(shift, w));
+        b = with_key(b, key_of(shift, x));
+        c = with_key(c, key_of(shift, y));
+        d = with_key(d, key_of(shift, z));
     }
-    with_words(both(both(a, b), both(c, d)), shift, &words[i..])
+    with_words(both(both(a, b), both(c, d)), shift, rest)
 }
 
 // ---- pairs
@@ -111,20 +92,14 @@ fn range_of(p: Range, shift: u64, words: &[u64]) -> Range
 pub fn pair_of(t: u32, words: &[u64]) -> Range
     ensures { pair_in result ≡ pair_of t words.now }
 {
-    if 1 < t {
-        return Range {
-            least: 0,
-            greatest: 0,
-        };
+    if t != I64 && t != U64 {
+        return Range::default();
     }
-    if words.len() == 0 {
-        return Range {
-            least: 0,
-            greatest: 0,
-        };
-    }
+    let Some(&word) = words.first() else {
+        return Range::default();
+    };
     let shift = shift_of(t);
-    let first = key_of(shift, words[0]);
+    let first = key_of(shift, word);
     let start = Range {
         least: first,
         greatest: first,
@@ -144,18 +119,20 @@ pub fn is_less(t: u32, v: u64, w: u64) -> bool
     key_of(shift, v) < key_of(shift, w)
 }
 
-fn either(first: bool, v: u64, w: u64) -> u64
-    ensures { result ≡ (if first then v else w) }
-{
-    if first { v } else { w }
-}
-
 // Two pairs put together: the lower of the least values and the higher of the greatest.
 pub fn together(t: u32, p: Range, q: Range) -> Range
     ensures { pair_in result ≡ both_pairs t (pair_in p) (pair_in q) }
 {
     Range {
-        least: either(is_less(t, q.least, p.least), q.least, p.least),
-        greatest: either(is_less(t, p.greatest, q.greatest), q.greatest, p.greatest),
+        least: if is_less(t, q.least, p.least) {
+            q.least
+        } else {
+            p.least
+        },
+        greatest: if is_less(t, p.greatest, q.greatest) {
+            q.greatest
+        } else {
+            p.greatest
+        },
     }
 }

@@ -43,7 +43,7 @@ pub laid_more : (rs : List Record) (i : ℕ) → set (laid_to rs i) i (numbers_o
 unfolding laid_to
 laid_more rs i = let e : i + 1 ≡ suc i = omega arith in ap (laid_to rs) (sym e)
 
-laid-size : (rs : List Record) (i : ℕ) → length (laid_to rs i) ≡ 257
+pub laid-size : (rs : List Record) (i : ℕ) → length (laid_to rs i) ≡ 257
 unfolding laid_to
 laid-size rs zero = length-replicate 257 (replicate {A = ℕ} row_width 0)
 laid-size rs (suc i) = length-set (laid_to rs i) i (numbers_of (get_or rs i none)) ∙ laid-size rs i

@@ -28,7 +28,7 @@ pub fn row_of(records: &[segment::Record], i: usize) -> segment::RecordNumbers
     requires { i < length records.now }
     ensures { result ≡ numbers_of (get_or records.now i none) }
 {
-    segment::numbers_of(records[i])
+    records[i].into()
 }
 
 // How many records a table of 257 rows takes: one more than may be joined, so that too many are seen.

@@ -1,16 +1,26 @@
 -- The laws of the scans of a run: what each says at the next number, and at the end. Assumes nothing.
-use mathlib.Core.Path.{◌≡◌, refl, sym}
+use mathlib.Core.Path.{◌≡◌, refl, ap, ◌∙◌}
 use mathlib.Core.Bool.{Bool, true, false, ◌&&◌}
-use mathlib.Core.List.{List}
-use Prim.Native.Nat.{ℕ, ◌+◌, ◌-◌, ◌≤◌, ◌<◌}
+use mathlib.Core.List.{List, [], ◌∷◌}
+use Prim.Native.Nat.{ℕ, ◌+◌, ◌≤◌, ◌<◌}
 use native.Mathlib.Numerals.{add-one}
-use native.Mathlib.Omega.{arith}
 use lib.Dec.{eqb, ltb}
 use lib.ListN.{length, drop, get_or, drop_of_length-le}
 use lib.Seq.{drop-cons}
 use borrow.Author.Tests.{lt-ltb, le-ltb, eq-eqb, ne_eqb, eqb-true, eqb-false}
-use Rattle.definitions.specs.Lists.{sum, all_below}
-use Rattle.lists.proofs.Sums.{sum_step}
+use Rattle.std.specs.List.{list_all, sum_by}
+use Rattle.std.proofs.lemmas.List.Sums.{sum_by-cons}
+use Rattle.definitions.specs.Lists.{sum, all, all_below}
+
+-- ---- what std says of a run, in the definitions' words
+
+pub list_all-all : {A : Type 0} (p : A → Bool) (xs : List A) → list_all p xs ≡ all p xs
+list_all-all p [] = refl
+list_all-all p (x ∷ xs) = ap (λ (b : Bool). p x && b) (list_all-all p xs)
+
+pub sum_by-sum : (xs : List ℕ) → sum_by (λ x. x) xs ≡ sum xs
+sum_by-sum [] = refl
+sum_by-sum (x ∷ xs) = sum_by-cons (λ x. x) x xs ∙ ap (λ (n : ℕ). x + n) (sum_by-sum xs)
 
 -- ---- words below a limit
 
@@ -38,14 +48,3 @@ eqb_same a b c d f g = go (eqb c d) refl
     go : (t : Bool) → eqb c d ≡ t → eqb a b ≡ t
     go true e = eq-eqb a b (g (eqb-true c d e))
     go false e = ne_eqb a b (λ p. eqb-false c d e (f p))
-
-pub sum_low : (xs : List ℕ) (i x left : ℕ) → i < length xs → x ≡ get_or xs i 0 → left < x → false ≡ eqb (sum (drop i xs)) left
-sum_low xs i x left h e k = sym (ne_eqb (sum (drop i xs)) left (λ p. (let s = sum_step xs i h in omega arith)))
-
-pub sum-next : (xs : List ℕ) (i x left : ℕ) → i < length xs → x ≡ get_or xs i 0 → x ≤ left → eqb (sum (drop (i + 1) xs)) (left - x) ≡ eqb (sum (drop i xs)) left
-sum-next xs i x left h e k =
-    let s = sum_step xs i h in
-    eqb_same (sum (drop (i + 1) xs)) (left - x) (sum (drop i xs)) left (λ p. omega arith) (λ p. omega arith)
-
-pub sum-end : (xs : List ℕ) (i left : ℕ) → length xs ≤ i → eqb left 0 ≡ eqb (sum (drop i xs)) left
-sum-end xs i left h = rw (drop_of_length-le xs h) (eqb_same left 0 0 left (λ p. sym p) (λ p. sym p))

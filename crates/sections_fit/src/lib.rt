@@ -6,9 +6,12 @@ ghost use Rattle.std.specs.Prelude.{◌≡◌, [], ◌<◌, ◌≤◌, length};
 ghost use Rattle.definitions.specs.Segment.{alive_words};
 ghost use Rattle.definitions.specs.Checks.{first_of};
 ghost use Rattle.definitions.specs.Answer.{total, checks_to_seven};
-ghost use Rattle.segment.specs.Records.{record_in, records_of, sections_in};
-ghost use Rattle.segment.specs.Lent.{lent_input};
+ghost use Rattle.segment.specs.Records.{record_in, records_of};
+ghost use Rattle.segment.specs.Lent.{sections_of, input_in};
+ghost use Rattle.refusal.specs.Number.{answer_number};
 ghost use Rattle.sections_fit.specs.Walks.{totals_of, add_to, Below, Grown, lengths_right, codes_from, known_codes, none_old, HoldsLists, lists_from, HoldsValues, values_from, alive_fits_from, sums_right};
+
+use refusal::Refusal;
 
 // ---- sums
 
@@ -56,42 +59,25 @@ pub fn totals_of(records: &[segment::RecordNumbers]) -> Totals
         alive: 0,
     };
     for &r in records {
-        t = plus(t, segment::record_of(r));
+        t = plus(t, segment::Record::from(r));
     }
     t
 }
 
 // ---- 2
 
-fn lengths_fit(
-    records: &[segment::RecordNumbers],
-    ids: &[u32],
-    offsets: &[u32],
-    values: &[u64],
-    lengths: &[u32],
-    bytes: &[u8],
-    alive: &[u64],
-) -> bool
+#[tactic(auto, unfolding(crate::specs::Walks::lengths_right))]
+fn lengths_fit(records: &[segment::RecordNumbers], sections: &segment::Sections) -> bool
     requires { length records.now ≤ 256 }
-    ensures { result ≡ lengths_right (records_of records.now) (sections_in ids.now offsets.now values.now lengths.now bytes.now alive.now) }
+    ensures { result ≡ lengths_right (records_of records.now) (sections_of sections.now) }
 {
     let t = totals_of(records);
-    if t.ids != ids.len() {
-        return false;
-    }
-    if t.offsets != offsets.len() {
-        return false;
-    }
-    if t.words != values.len() {
-        return false;
-    }
-    if t.terms != lengths.len() {
-        return false;
-    }
-    if !runs::adds_up(lengths, bytes.len()) {
-        return false;
-    }
-    t.alive == alive.len()
+    t.ids == sections.ids.len()
+        && t.offsets == sections.offsets.len()
+        && t.words == sections.values.len()
+        && t.terms == sections.lengths.len()
+        && runs::adds_up(sections.lengths, sections.bytes.len())
+        && t.alive == sections.alive.len()
 }
 
 // ---- 3
@@ -101,7 +87,7 @@ fn all_codes_fit(records: &[segment::RecordNumbers]) -> bool
 {
     records
         .iter()
-        .all(|&r| segment_fit::codes_fit(segment::record_of(r)))
+        .all(|&r| segment_fit::codes_fit(segment::Record::from(r)))
 }
 
 #[tactic(auto, unfolding(crate::specs::Walks::known_codes))]
@@ -117,7 +103,7 @@ fn known_codes(mode: u32, required: u32, records: &[segment::RecordNumbers]) -> 
 fn none_old(records: &[segment::RecordNumbers]) -> bool
     ensures { result ≡ none_old (records_of records.now) }
 {
-    records.iter().all(|&r| segment::record_of(r).kind != 3)
+    records.iter().all(|&r| segment::Record::from(r).kind != 3)
 }
 
 // ---- 4
@@ -127,7 +113,7 @@ fn all_lists_fit(records: &[segment::RecordNumbers], mut ids: &[u32], mut offset
     ensures { result ≡ lists_from (records_of records.now) ids.now offsets.now }
 {
     for &r in records {
-        let r = segment::record_of(r);
+        let r = segment::Record::from(r);
         let (own_ids, other_ids) = ids.split_at(r.ids as usize);
         let (own_offsets, other_offsets) = offsets.split_at(r.offsets as usize);
         if !segment_fit::lists_fit(r, own_ids, own_offsets) {
@@ -151,7 +137,7 @@ fn all_values_fit(
     ensures { result ≡ values_from (records_of records.now) values.now lengths.now bytes.now }
 {
     for &r in records {
-        let r = segment::record_of(r);
+        let r = segment::Record::from(r);
         let (own_values, other_values) = values.split_at(segment::value_words(r));
         let (own_lengths, other_lengths) = lengths.split_at(r.terms as usize);
         if !segment_fit::values_fit(r, own_values, own_lengths, bytes) {
@@ -172,7 +158,7 @@ fn all_alive_fit(mode: u32, records: &[segment::RecordNumbers], mut alive: &[u64
     ensures { result ≡ alive_fits_from mode (records_of records.now) alive.now }
 {
     for &r in records {
-        let r = segment::record_of(r);
+        let r = segment::Record::from(r);
         let (own, others) = alive.split_at(segment::alive_words(r));
         if !segment_fit::alive_fits(mode, r, own) {
             return false;
@@ -193,44 +179,39 @@ fn sums_fit(rows: usize, values: usize, bytes: usize) -> bool
 
 // ---- 1 to 7, with 19 right after 3
 
-// The first of the checks up to 7 that fails, or 0.
+// The first of the checks up to 7 that fails.
 pub fn first_to_seven(
     mode: u32,
     required: u32,
     records: &[segment::RecordNumbers],
-    ids: &[u32],
-    offsets: &[u32],
-    values: &[u64],
-    lengths: &[u32],
-    bytes: &[u8],
-    alive: &[u64],
-) -> u32
-    ensures { result ≡ first_of (checks_to_seven (lent_input mode required records.now ids.now offsets.now values.now lengths.now bytes.now alive.now [] 0)) }
+    sections: &segment::Sections,
+) -> Result<(), Refusal>
+    ensures { answer_number result ≡ first_of (checks_to_seven (input_in mode required records.now sections.now [] 0)) }
 {
     if 256 < records.len() {
-        return 1;
+        return Err(Refusal::TooManySegments);
     }
-    if !lengths_fit(records, ids, offsets, values, lengths, bytes, alive) {
-        return 2;
+    if !lengths_fit(records, sections) {
+        return Err(Refusal::Lengths);
     }
     if !known_codes(mode, required, records) {
-        return 3;
+        return Err(Refusal::UnknownCode);
     }
     if !none_old(records) {
-        return 19;
+        return Err(Refusal::OldMultivalued);
     }
-    if !all_lists_fit(records, ids, offsets) {
-        return 4;
+    if !all_lists_fit(records, sections.ids, sections.offsets) {
+        return Err(Refusal::RowLists);
     }
-    if !all_values_fit(records, values, lengths, bytes) {
-        return 5;
+    if !all_values_fit(records, sections.values, sections.lengths, sections.bytes) {
+        return Err(Refusal::Contents);
     }
-    if !all_alive_fit(mode, records, alive) {
-        return 6;
+    if !all_alive_fit(mode, records, sections.alive) {
+        return Err(Refusal::AliveSet);
     }
     let t = totals_of(records);
-    if !sums_fit(t.rows, t.values, bytes.len()) {
-        return 7;
+    if !sums_fit(t.rows, t.values, sections.bytes.len()) {
+        return Err(Refusal::TooLarge);
     }
-    0
+    Ok(())
 }

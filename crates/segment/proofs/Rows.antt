@@ -4,14 +4,13 @@ use native.Mathlib.Nat.{div-add-mod'}
 use native.Mathlib.Omega.{arith}
 use mathlib.Core.Path.{◌≡◌, sym, subst}
 use mathlib.Core.Bool.{true}
-use mathlib.Core.List.{List, [], ◌∷◌}
+use mathlib.Core.List.{List}
 use lib.ListN.{length, get_or, take}
 use lib.Seq.{get_or-take, length-take-le}
 use lib.Dec.{T, ltb, ltb→lt}
 use Rattle.definitions.specs.Lists.{all_below}
 use Rattle.definitions.specs.Segment.{SegmentRecord, pair, record_from, record_width, narrow_numbers}
-use Rattle.segment.specs.declared.Record.{Record}
-use Rattle.segment.specs.Records.{whole, low_half, high_half, row_of, record_row, row_record, struct_of, record_in}
+use Rattle.segment.specs.Records.{whole, low_half, high_half, row_of, record_row, row_record}
 use Rattle.lists.proofs.Lists.{all-at}
 
 -- a number of 64 bits is that of its halves
@@ -58,39 +57,3 @@ narrow_at n k h l e =
     let m : length (take narrow_numbers n) ≡ narrow_numbers = length-take-le narrow_numbers n (omega arith) in
     let p = ltb→lt (get_or (take narrow_numbers n) k 0) 4294967296 (all-at (λ (x : ℕ). ltb x 4294967296) (take narrow_numbers n) k 0 (subst T (sym e) tt) (omega arith)) in
     subst (λ (x : ℕ). x < 4294967296) (get_or-take narrow_numbers n k 0 h) p
-
--- what the code makes of a row, and of a struct
-pub struct_made : (r : List ℕ) {l g : ℕ} → l ≡ whole (get_or r 9 0) (get_or r 10 0) → g ≡ whole (get_or r 11 0) (get_or r 12 0)
-    → record {
-      typ = get_or r 0 0;
-      kind = get_or r 1 0;
-      rows = get_or r 2 0;
-      ids = get_or r 3 0;
-      offsets = get_or r 4 0;
-      values = get_or r 5 0;
-      terms = get_or r 6 0;
-      flag = get_or r 7 0;
-      alive = get_or r 8 0;
-      least = l;
-      greatest = g;
-    }
-    ≡ struct_of r
-struct_made r p q =
-    λ i.
-    record {
-      typ = get_or r 0 0;
-      kind = get_or r 1 0;
-      rows = get_or r 2 0;
-      ids = get_or r 3 0;
-      offsets = get_or r 4 0;
-      values = get_or r 5 0;
-      terms = get_or r 6 0;
-      flag = get_or r 7 0;
-      alive = get_or r 8 0;
-      least = p i;
-      greatest = q i;
-    }
-
-pub row_made : (r : Record) {a b c d : ℕ} → a ≡ low_half r.least → b ≡ high_half r.least → c ≡ low_half r.greatest → d ≡ high_half r.greatest
-    → r.typ ∷ r.kind ∷ r.rows ∷ r.ids ∷ r.offsets ∷ r.values ∷ r.terms ∷ r.flag ∷ r.alive ∷ a ∷ b ∷ c ∷ d ∷ [] ≡ record_row (record_in r)
-row_made r p q s t = λ i. r.typ ∷ r.kind ∷ r.rows ∷ r.ids ∷ r.offsets ∷ r.values ∷ r.terms ∷ r.flag ∷ r.alive ∷ p i ∷ q i ∷ s i ∷ t i ∷ []

@@ -5,7 +5,7 @@ use Prim.Native.Nat.{ℕ, ◌+◌, ◌/◌, ◌≤◌, ◌<◌, ◌*◌}
 use native.Mathlib.Numerals.{add-one}
 use lib.ListN.{length, drop, get_or, drop_of_length-le, length-map, get_or-map}
 use lib.Seq.{drop-cons}
-use borrow.Author.Tests.{eq-eqb, ne_eqb}
+use borrow.Author.Tests.{eq-eqb}
 use Rattle.definitions.specs.Segment.{SegmentRecord, alive_words}
 use Rattle.definitions.specs.Answer.{total}
 use Rattle.segment.specs.declared.Record.{Record}
@@ -32,13 +32,9 @@ module _ (records : List (List ℕ)) (s : ℕ) (h : s < length records) {r : Rec
 
 -- ---- alive words
 
-pub words-some : (r : SegmentRecord) → r.flag ≡ 1 → alive_words r ≡ (r.rows + 63) / 64
+words-some : (r : SegmentRecord) → r.flag ≡ 1 → alive_words r ≡ (r.rows + 63) / 64
 unfolding alive_words
 words-some r e = rw (eq-eqb r.flag 1 e)
-
-pub words-none : (r : SegmentRecord) → (r.flag ≡ 1 → ⊥) → alive_words r ≡ 0
-unfolding alive_words
-words-none r n = rw (ne_eqb r.flag 1 n)
 
 pub words-enough : (r : SegmentRecord) → r.flag ≡ 1 → r.rows ≤ 64 * alive_words r
 words-enough r e = let k = words-some r e in omega arith

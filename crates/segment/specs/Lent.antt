@@ -1,12 +1,17 @@
 -- Everything that a call is lent, in the words of the definitions.
 use Rattle.std.specs.Prelude.{ℕ, List, map}
-use Rattle.definitions.specs.Segment.{Address, Space, Input, address_from}
+use Rattle.definitions.specs.Segment.{Sections, Address, Space, Input, address_from}
 use Rattle.definitions.specs.Checks.{Passed}
 use Rattle.definitions.specs.Answer.{plain_checks}
 use Rattle.segment.specs.Records.{records_of, sections_in}
+use Rattle.segment.specs.declared.sections.Sections.{Sections as LentSections}
 
 abbrev pub addresses_of : List (List ℕ) → List Address
 addresses_of l = map address_from l
+
+-- the six lent sections
+abbrev pub sections_of : LentSections → Sections
+sections_of s = sections_in s.ids.now s.offsets.now s.values.now s.lengths.now s.bytes.now s.alive.now
 
 -- the lent segments have passed the checks up to 7, as the time order asks them and a join too
 pub record Checked (records : List (List ℕ)) (ids offsets values lengths bytes alive : List ℕ) : Type 0 where
@@ -27,3 +32,7 @@ lent_input mode required records ids offsets values lengths bytes alive addresse
       addresses = addresses_of addresses;
       space = working_only working;
     }
+
+-- the same, the six sections as the code is lent them
+abbrev pub input_in : ℕ → ℕ → List (List ℕ) → LentSections → List (List ℕ) → ℕ → Input
+input_in mode required records s = lent_input mode required records s.ids.now s.offsets.now s.values.now s.lengths.now s.bytes.now s.alive.now

@@ -6,9 +6,13 @@ ghost use Rattle.definitions.specs.Lists.{all_below};
 ghost use Rattle.definitions.specs.Segment.{record_width, narrow_numbers, alive_words, record_words};
 ghost use Rattle.segment.specs.Records.{whole, low_half, high_half, row_of, record_row, struct_of, record_in};
 
+mod sections;
+
+pub use sections::Sections;
+
 // `alive` is the number of alive rows: the set bits, or the rows where the flag is 0. `least` and `greatest` are those of all stored values of I64, which is signed, and U64, else
 // 0 and 0.
-#[derive(Clone, Copy)]
+#[derive(Clone, Copy, Debug, PartialEq, Eq, Hash)]
 pub struct Record {
     pub typ: u32,
     pub kind: u32,
@@ -38,58 +42,62 @@ pub type RecordNumbers = [u32; WIDTH];
 fn whole(low: u32, high: u32) -> u64
     ensures { result ≡ whole low high }
 {
-    low as u64 + (high as u64) * 4294967296
+    low as u64 | (high as u64) << 32
 }
 
 pub fn low_half(w: u64) -> u32
     ensures { result ≡ low_half w }
 {
-    (w % 4294967296) as u32
+    (w & 0xffff_ffff) as u32
 }
 
 pub fn high_half(w: u64) -> u32
     ensures { result ≡ high_half w }
 {
-    (w / 4294967296) as u32
+    (w >> 32) as u32
 }
 
-// This function, `numbers_of` and `row_of` alone know the order of a record's numbers.
-pub fn record_of(r: RecordNumbers) -> Record
-    ensures { result ≡ struct_of r }
-{
-    Record {
-        typ: r[0],
-        kind: r[1],
-        rows: r[2],
-        ids: r[3],
-        offsets: r[4],
-        values: r[5],
-        terms: r[6],
-        flag: r[7],
-        alive: r[8],
-        least: whole(r[9], r[10]),
-        greatest: whole(r[11], r[12]),
+// Both ways between a record and its row, and `row_of`, alone know the order of a record's numbers.
+impl From<RecordNumbers> for Record {
+    ghost from_gives = { λ n r. r ≡ struct_of n };
+
+    fn from(n: RecordNumbers) -> Record {
+        Record {
+            typ: n[0],
+            kind: n[1],
+            rows: n[2],
+            ids: n[3],
+            offsets: n[4],
+            values: n[5],
+            terms: n[6],
+            flag: n[7],
+            alive: n[8],
+            least: whole(n[9], n[10]),
+            greatest: whole(n[11], n[12]),
+        }
     }
 }
 
-pub fn numbers_of(r: Record) -> RecordNumbers
-    ensures { result ≡ record_row (record_in r) }
-{
-    [
-        r.typ,
-        r.kind,
-        r.rows,
-        r.ids,
-        r.offsets,
-        r.values,
-        r.terms,
-        r.flag,
-        r.alive,
-        low_half(r.least),
-        high_half(r.least),
-        low_half(r.greatest),
-        high_half(r.greatest),
-    ]
+impl From<Record> for RecordNumbers {
+    ghost from_gives = { λ r n. n ≡ record_row (record_in r) };
+
+    fn from(r: Record) -> RecordNumbers {
+        [
+            r.typ,
+            r.kind,
+            r.rows,
+            r.ids,
+            r.offsets,
+            r.values,
+            r.terms,
+            r.flag,
+            r.alive,
+            low_half(r.least),
+            high_half(r.least),
+            low_half(r.greatest),
+            high_half(r.greatest),
+        ]
+    }
 }
 
 // A number that is narrow enough.
@@ -101,21 +109,22 @@ pub fn narrow(x: u64) -> u32
 }
 
 // The row of a record's numbers, the first of which are narrow enough.
+#[tactic(auto, using(crate::proofs::Rows::narrow_at))]
 pub fn row_of(n: &[u64]) -> RecordNumbers
     requires n_len { length n.now ≡ record_width }
     requires n_value { all_below 4294967296 (take narrow_numbers n.now) ≡ true }
     ensures { result ≡ row_of n.now }
 {
     [
-        narrow(n[0]),
-        narrow(n[1]),
-        narrow(n[2]),
-        narrow(n[3]),
-        narrow(n[4]),
-        narrow(n[5]),
-        narrow(n[6]),
-        narrow(n[7]),
-        narrow(n[8]),
+        n[0] as u32,
+        n[1] as u32,
+        n[2] as u32,
+        n[3] as u32,
+        n[4] as u32,
+        n[5] as u32,
+        n[6] as u32,
+        n[7] as u32,
+        n[8] as u32,
         low_half(n[9]),
         high_half(n[9]),
         low_half(n[10]),
@@ -128,8 +137,7 @@ pub fn record_at(records: &[RecordNumbers], i: usize) -> Record
     requires { i < length records.now }
     ensures { result ≡ struct_of (get_or records.now i []) }
 {
-    let r = records[i];
-    record_of(r)
+    Record::from(records[i])
 }
 
 // A 32-bit number as an index.
@@ -145,11 +153,11 @@ pub fn alive_words(r: Record) -> usize
     ensures value { result ≡ alive_words (record_in r) }
     ensures upper_bound { result ≤ 67108864 }
 {
-    let rows = r.rows;
     if r.flag == 1 {
-        return (wide(rows) + 63) / 64;
+        (r.rows as usize).div_ceil(64)
+    } else {
+        0
     }
-    0
 }
 
 // How many words the segment's values have.
@@ -157,5 +165,5 @@ pub fn value_words(r: Record) -> usize
     ensures value { result ≡ record_words (record_in r) }
     ensures upper_bound { result ≤ 8589934592 }
 {
-    wide(r.values) * column_type::words_per_value(r.typ)
+    r.values as usize * column_type::words_per_value(r.typ)
 }

@@ -6,41 +6,37 @@ use Prim.Native.Nat.{ℕ, zero, suc, ◌+◌, ◌-◌, ◌*◌, ◌≤◌, ◌<�
 use native.Mathlib.Numerals.{add-one}
 use native.Mathlib.Omega.{arith}
 use lib.Dec.{eqb, ltb, leb}
-use lib.ListN.{length, drop, get_or, drop_of_length-le}
-use lib.Seq.{drop-cons}
-use borrow.Author.Tests.{eq-eqb, ne_eqb, lt-ltb, le-ltb, ltb-true, ltb-false, le-leb, lt-leb}
-use Rattle.definitions.specs.Lists.{all, any, ascending_from, last, up_from, all_below}
+use lib.ListN.{length, get_or}
+use borrow.Author.Tests.{lt-ltb, ltb-true, ltb-false, le-leb, lt-leb}
+use Rattle.definitions.specs.Lists.{all, any, ascending, ascending_from, last, up_from, all_below}
 use Rattle.definitions.specs.Row.{bit_at}
-use Rattle.lists.proofs.Tests.{both_true}
+use Rattle.lists.proofs.Tests.{both_true, past, true-T}
+use Rattle.std.specs.Prelude.{Option, Some, None}
+use Rattle.std.specs.List.{IsAllAdjacentAnswer, slice_get, list_any, range_with_len}
+use Rattle.std.specs.Option.{MatchOption, option_copied, option_eq}
+use Rattle.std.proofs.lemmas.Option.{slice_get-get_or, get_or_from_slice_get}
+use denote.Ref.{Bor}
+use Rattle.definitions.proofs.Ranks.{asc_step}
+use Rattle.definitions.proofs.Slices.{last-at}
 use Rattle.lists.proofs.Lists.{up_step, up_end}
-use Rattle.segment_fit.specs.Fits.{rises_from, rises, last_of, past_rows, fits_offsets}
+use Rattle.segment_fit.specs.Fits.{rises, last_of, past_rows, fits_offsets}
 
 -- ---- rises
 
-pub rises-none : (xs : List ℕ) → length xs ≡ 0 → true ≡ rises xs
+risen : (m : ℕ) (ns : List ℕ) → ((k : ℕ) → suc k < length (m ∷ ns) → get_or (m ∷ ns) k 0 < get_or (m ∷ ns) (suc k) 0) → ascending_from m ns ≡ true
+risen m [] f = refl
+risen m (n ∷ ns) f = rw (lt-ltb m n (f 0 (omega arith))) (risen n ns (λ k l. f (suc k) (omega arith)))
+
+-- what the comparison of neighbours answers
+pub neighbours : (xs : List ℕ) (r : Bool) → IsAllAdjacentAnswer (λ x y b. b ≡ ltb x y) xs r → r ≡ rises xs
 unfolding rises
-rises-none [] h = refl
-rises-none (x ∷ xs) h = absurd (omega arith)
-
-pub rises_start : (p : ℕ) (xs : List ℕ) → (length xs ≡ 0 → ⊥) → p ≡ get_or xs 0 0 → rises_from p (drop 1 xs) ≡ rises xs
-unfolding rises rises_from
-rises_start p [] h e = absurd (h refl)
-rises_start p (x ∷ xs) h e = ap (λ (n : ℕ). ascending_from n xs) e
-
-module _ (m x : ℕ) (xs : List ℕ) (i : ℕ) (h : i < length xs) (e : x ≡ get_or xs i 0) where
-  rises_step : rises_from m (drop i xs) ≡ ltb m x && rises_from x (drop (i + 1) xs)
-  unfolding rises_from
-  rises_step = rw (e, add-one i, drop-cons xs i 0 h)
-
-  pub rises-low : x ≤ m → false ≡ rises_from m (drop i xs)
-  rises-low k = rw (rises_step, le-ltb m x k)
-
-  pub rises_next : m < x → rises_from x (drop (i + 1) xs) ≡ rises_from m (drop i xs)
-  rises_next k = rw (rises_step, lt-ltb m x k)
-
-pub rises-end : (m : ℕ) (xs : List ℕ) (i : ℕ) → length xs ≤ i → true ≡ rises_from m (drop i xs)
-unfolding rises_from
-rises-end m xs i h = rw (drop_of_length-le xs h)
+neighbours [] true h = refl
+neighbours (x ∷ xs) true h = sym (risen x xs (λ k l. ltb-true (get_or (x ∷ xs) k 0) (get_or (x ∷ xs) (suc k) 0) (rw add-one at (sym (h k 0 (omega arith))))))
+neighbours xs false h = go (ascending xs) refl
+  where
+    go : (b : Bool) → ascending xs ≡ b → false ≡ b
+    go false e = refl
+    go true e = let s = asc_step xs h.0 (true-T (ascending xs) e) (omega (arith, h.1)) in absurd (let q = ltb-false (get_or xs h.0 0) (get_or xs (suc h.0) 0) (rw add-one at (sym (h.2 0))) in omega arith)
 
 -- ---- the last
 
@@ -60,33 +56,29 @@ unfolding rises last_of all_below
 ids-below rows [] h n = absurd (n refl)
 ids-below rows (x ∷ xs) h n = rising-below rows x xs h
 
-pub below_none : (rows : ℕ) (xs : List ℕ) → length xs ≡ 0 → true ≡ all_below rows xs
-unfolding all_below
-below_none rows [] h = refl
-below_none rows (x ∷ xs) h = absurd (omega arith)
+-- what `last` and `is_none_or` answer
+pub last-below : (rows : ℕ) (xs : List ℕ) (o : Option (Bor ℕ)) (r : Bool) → option_copied o ≡ slice_get xs (length xs - 1) → MatchOption o (r ≡ true) (λ x. r ≡ ltb x.now rows) → rises xs ≡ true → r ≡ all_below rows xs
+unfolding all_below last_of
+last-below rows [] None r e h t = h
+last-below rows [] (Some b) r e h t = cc
+last-below rows (x ∷ xs) None r e h t = let s = slice_get-get_or (x ∷ xs) (length (x ∷ xs) - 1) 0 (omega arith) in cc
+last-below rows (x ∷ xs) (Some b) r e h t =
+    let g = get_or_from_slice_get (x ∷ xs) (length (x ∷ xs) - 1) b.now 0 (sym e) in
+    h ∙ ap (λ (n : ℕ). ltb n rows) (sym g ∙ last-at (x ∷ xs) (length (x ∷ xs) - 1) (omega arith)) ∙ ids-below rows (x ∷ xs) t (λ z. omega arith)
 
 -- ---- offsets
 
-pub offsets-none : (values : ℕ) (xs : List ℕ) → length xs ≡ 0 → false ≡ fits_offsets values xs
-unfolding fits_offsets
-offsets-none values [] h = refl
-offsets-none values (x ∷ xs) h = absurd (omega arith)
+-- a test on what a list lends is one on what it holds
+pub told : (o : Option (Bor ℕ)) (b : Bor ℕ) → option_eq (λ x y. eqb x.now y.now) o (Some b) ≡ option_eq eqb (option_copied o) (Some b.now)
+told None b = refl
+told (Some a) b = refl
 
-module _ (values : ℕ) (xs : List ℕ) (n : length xs ≡ 0 → ⊥) where
-  offsets_head : get_or xs 0 1 ≡ get_or xs 0 0
-  offsets_head = go xs n
-    where
-      go : (l : List ℕ) → (length l ≡ 0 → ⊥) → get_or l 0 1 ≡ get_or l 0 0
-      go [] k = absurd (k refl)
-      go (x ∷ l) k = refl
-
-  pub offsets-first : (get_or xs 0 0 ≡ 0 → ⊥) → false ≡ fits_offsets values xs
-  unfolding fits_offsets
-  offsets-first k = rw (offsets_head, ne_eqb (get_or xs 0 0) 0 k)
-
-  pub offsets-last : (a b : ℕ) → get_or xs 0 0 ≡ 0 → a ≡ last_of xs → b ≡ values → eqb a b ≡ fits_offsets values xs
-  unfolding fits_offsets
-  offsets-last a b k p q = rw (offsets_head, eq-eqb (get_or xs 0 0) 0 k, p, q)
+pub offsets-ends : (values : ℕ) (xs : List ℕ) (a b : Bool) → a ≡ option_eq eqb (slice_get xs 0) (Some 0) → b ≡ option_eq eqb (slice_get xs (length xs - 1)) (Some values) → a ≡ true → b ≡ fits_offsets values xs
+unfolding fits_offsets last_of
+offsets-ends values [] a b p q t = cc
+offsets-ends values (x ∷ xs) a b p q t =
+    let s = slice_get-get_or (x ∷ xs) (length (x ∷ xs) - 1) 0 (omega arith) in
+    past (sym p ∙ t) (q ∙ ap (λ (o : Option ℕ). option_eq eqb o (Some values)) s ∙ ap (λ (n : ℕ). eqb n values) (last-at (x ∷ xs) (length (x ∷ xs) - 1) (omega arith)))
 
 -- ---- bits past the rows
 
@@ -119,15 +111,12 @@ pub past_start : (rows : ℕ) (alive : List ℕ) (row : ℕ) → row ≡ rows �
 unfolding past_rows past_from
 past_start rows alive row e = rw e (past_skip rows alive rows (omega arith) ∙ rw (let z : 64 * length alive - 0 ≡ 64 * length alive = omega arith in z))
 
-module _ (rows : ℕ) (alive : List ℕ) (row : ℕ) (l : rows ≤ row) (h : row < 64 * length alive) {b : Bool} (e : b ≡ bit_at alive row) where
-  past_bit : past_from rows alive row ≡ b || past_from rows alive (row + 1)
-  past_bit = rw (past_step rows alive row h, le-leb rows row l, e)
+past_any : (rows : ℕ) (alive : List ℕ) (a n : ℕ) → rows ≤ a → list_any (bit_at alive) (range_with_len a n) ≡ any (λ r. leb rows r && bit_at alive r) (up_from a n)
+past_any rows alive a zero l = refl
+past_any rows alive a (suc n) l = rw (le-leb rows a l, add-one a) (ap (λ (b : Bool). bit_at alive a || b) (past_any rows alive (suc a) n (omega arith)))
 
-  pub past_found : b ≡ true → true ≡ past_from rows alive row
-  past_found t = rw (past_bit, t)
-
-  pub past_next : b ≡ false → past_from rows alive (row + 1) ≡ past_from rows alive row
-  past_next t = rw (past_bit, t)
-
-pub past_end : (rows : ℕ) (alive : List ℕ) (row : ℕ) → 64 * length alive ≤ row → false ≡ past_from rows alive row
-past_end rows alive row h = sym (past_over rows alive row h)
+-- any bit from the rows on
+pub past-bits : (rows : ℕ) (alive : List ℕ) (n : ℕ) → length alive * 64 - rows ≡ n → list_any (bit_at alive) (range_with_len rows n) ≡ past_rows rows alive
+unfolding past_from
+past-bits rows alive n e =
+    past_any rows alive rows n (omega arith) ∙ ap (λ (k : ℕ). any (λ r. leb rows r && bit_at alive r) (up_from rows k)) (let z : n ≡ 64 * length alive - rows = omega arith in z) ∙ past_start rows alive rows refl

@@ -1,3 +1,2 @@
 pub mod Laws
-pub mod Pairs
 pub mod Own

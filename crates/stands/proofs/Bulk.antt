@@ -13,7 +13,7 @@ use borrow.Author.Tests.{eqb-true, eqb-false}
 use Rattle.definitions.specs.Lists.{elem, all, up_from, up_to, sum}
 use Rattle.definitions.specs.Row.{rank}
 use Rattle.definitions.proofs.Fit.{rank_lt}
-use Rattle.runs.specs.Put.{put, shifted, Below}
+use Rattle.runs.specs.Put.{shifted, Below}
 use Rattle.runs.proofs.Laws.{shifted-length, shifted_at}
 use Rattle.column_index.specs.Lookup.{width_of, Sound}
 use Rattle.column_index.proofs.Laws.{three_le}
@@ -83,9 +83,6 @@ module _ {place : Stand} {ids offsets : List ℕ} (sa : SoundAt place ids offset
   pub ids-length : length (ids_at place ids) ≡ place.ids.to - place.ids.from
   ids-length = run_length place.ids.from place.ids.to ids sa.ids-lie.ends
 
-  pub offsets-length : length (offsets_at place offsets) ≡ place.offsets.to - place.offsets.from
-  offsets-length = run_length place.offsets.from place.offsets.to offsets sa.offsets-lie.ends
-
   pub seg-length : length (segment_widths place ids offsets) ≡ place.rows
   unfolding segment_widths
   seg-length = up_length (width_in place ids offsets) place.rows
@@ -120,9 +117,6 @@ module _ {place : Stand} {ids offsets : List ℕ} (sa : SoundAt place ids offset
   seg_totals_optional e t = bulk_totals_optional sa.sound e t ∙ ap₂ (λ (m k : ℕ). up_from m k) (sym (add-one t)) ids-length
 
   module _ (a : place.kind ≡ 0 → ⊥) (b : place.kind ≡ 1 → ⊥) (c : place.kind ≡ 2 → ⊥) where
-    pub seg-multi-long : place.offsets.from + 1 ≤ place.offsets.to
-    seg-multi-long = omega (arith, (sa.sound.multi (three_le place.kind a b c)).1, offsets-length)
-
     behind : run (place.offsets.from + 1) place.offsets.to offsets ≡ drop 1 (offsets_at place offsets)
     behind =
         ap₂ (λ (m : ℕ) (l : List ℕ). take m l)
@@ -133,9 +127,6 @@ module _ {place : Stand} {ids offsets : List ℕ} (sa : SoundAt place ids offset
     pub seg_totals_multi : (t : ℕ) → totals_of t (segment_widths place ids offsets) ≡ shifted t (run (place.offsets.from + 1) place.offsets.to offsets)
     unfolding segment_widths width_in start_in end_in width_of
     seg_totals_multi t = bulk_totals_multi sa.sound a b c t ∙ ap (shifted t) (sym behind)
-
-    pub seg-multi-length : length (run (place.offsets.from + 1) place.offsets.to offsets) ≡ place.offsets.to - (place.offsets.from + 1)
-    seg-multi-length = run_length (place.offsets.from + 1) place.offsets.to offsets sa.offsets-lie.ends
 
 -- ---- every number written fits
 
@@ -184,12 +175,3 @@ module _ {stands : List (List ℕ)} {ids offsets : List ℕ} (l : AllSound stand
       ap sum (stacked_step stands ids offsets s h)
       ∙ sum-append (segment_widths (stand_at stands s) ids offsets) (stacked_widths (drop (s + 1) stands) ids offsets)
       ∙ ap (λ (n : ℕ). n + sum (stacked_widths (drop (s + 1) stands) ids offsets)) (seg-sum (l.each s h))
-
--- ---- a whole that is written as one part of n elements
-
-module _ (whole part : List ℕ) (e : whole ≡ part) (n : ℕ) (l : length part ≡ n) (at : ℕ) where
-  pub part_room : {m : ℕ} → at + length whole ≤ m → at + n ≤ m
-  part_room h = let k : length whole ≡ n = ap length e ∙ l in omega arith
-
-  pub part_done : (old : List ℕ) {out : List ℕ} → out ≡ put at part old → (at + n ≡ at + length whole) × (out ≡ put at whole old)
-  part_done old {out} o = (ap (λ (m : ℕ). at + m) (sym (ap length e ∙ l)), o ∙ ap (λ (x : List ℕ). put at x old) (sym e))

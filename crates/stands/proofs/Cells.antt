@@ -11,7 +11,7 @@ use Rattle.column_index.proofs.Walk.{sound-readable, sound-rises}
 use Rattle.stands.specs.Width.{ids_of, totals_of}
 use Rattle.stands.specs.declared.Stand.{Stand}
 use Rattle.stands.specs.Stand.{run, many}
-use Rattle.stands.specs.Look.{values_at, start_in, end_in, width_in, words_of, cell_in, Within, Inside}
+use Rattle.stands.specs.Look.{values_at, start_in, end_in, width_in, cell_in, Within, Inside}
 use Rattle.stands.specs.Stack.{SoundAt}
 use Rattle.lists.proofs.Parts.{run_length, drop-take}
 use Rattle.lists.proofs.Numbers.{sub-times}
@@ -27,10 +27,6 @@ sound-within sa r h =
       readable = sound-readable sa.sound h;
       rises = sound-rises sa.sound h;
     }
-
--- how many words so many values have
-pub words-many : (p : Stand) (x y : ℕ) → many (words_of p x y) ≡ (y - x) * p.unit
-words-many p x y = (let k : p.values.from + y * p.unit - (p.values.from + x * p.unit) ≡ y * p.unit - x * p.unit = omega arith in k) ∙ sym (sub-times y x p.unit)
 
 module _ (place : Stand) (ids offsets values : List ℕ) (row : ℕ) (i : Inside place ids offsets values row) where
   -- where the words of the row's values begin and end among the segment's

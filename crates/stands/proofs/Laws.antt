@@ -23,9 +23,6 @@ fill_second x vs old h =
     let l : 0 < length (set old 0 x) = omega arith in
     fill_more (fill_start (x ∷ vs) (set old 0 x) k) (x ∷ []) vs refl (set old 0 x) 1 refl (sym (set-set old 0 x x) ∙ put_one 0 x (set old 0 x) l)
 
-pub part_none : (row w : ℕ) → w ≡ 0 → id_part row w ≡ []
-part_none row w e = rw e
-
 pub part-some : (row w : ℕ) → (w ≡ 0 → ⊥) → id_part row w ≡ row ∷ []
 part-some row zero n = absurd (n refl)
 part-some row (suc w) n = refl

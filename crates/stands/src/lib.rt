@@ -8,6 +8,8 @@ ghost use Rattle.stands.specs.Width.{id_part};
 ghost use Rattle.stands.specs.Stand.{table, stand_of, numbers_of, many, span, none_of, nowhere, next_stand, Low, Grown, stand_in};
 ghost use Rattle.stands.specs.Look.{start_in, end_in, Within};
 
+use std::ops::Range;
+
 // A run's first index, and the one after its last.
 #[derive(Clone, Copy)]
 pub struct Span {
@@ -219,7 +221,7 @@ pub fn fill_stands(records: &[segment::RecordNumbers], stands: &mut [StandNumber
 {
     let mut p = before_all();
     for (s, &r) in records.iter().enumerate() {
-        p = next(p, segment::record_of(r));
+        p = next(p, segment::Record::from(r));
         stands[s] = StandNumbers::from(p);
     }
 }
@@ -233,7 +235,7 @@ pub fn range_in(
     offsets: &[u32],
     row: u32,
     near: usize,
-) -> column_index::Range
+) -> Range<usize>
     requires { Within p ids.now offsets.now row }
     ensures start_value { result.start ≡ start_in p ids.now offsets.now row }
     ensures end_value { result.end ≡ end_in p ids.now offsets.now row }

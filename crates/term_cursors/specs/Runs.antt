@@ -1,9 +1,11 @@
 -- Where each segment's terms stand, and the first cursors of the walk. Assumes nothing.
-use Rattle.std.specs.Prelude.{ℕ, zero, suc, ◌+◌, ◌≤◌, ◌<◌, Bool, false, List, [], ◌++◌, ◌≡◌, length, get_or, replicate}
+use Rattle.std.specs.Prelude.{ℕ, zero, suc, ◌+◌, ◌≤◌, ◌<◌, Bool, false, List, [], ◌++◌, ◌≡◌, length}
 use Rattle.definitions.specs.Lists.{sum}
 use Rattle.lists.specs.Sums.{sum_below}
 use Rattle.stands.specs.declared.Stand.{Stand}
 use Rattle.stands.specs.Stand.{part, many, Lies, stand_at}
+use Rattle.term_merger.specs.declared.Cursor.{Cursor}
+use Rattle.term_merger.specs.Order.{cursor_in, no_cursor}
 use Rattle.term_cursors.specs.Cursors.{cursor_at, terms_in, bytes_in, sum_over}
 
 -- f 0, f 1, .., f (n - 1), one after another
@@ -27,13 +29,12 @@ pub record Runs (stands : List (List ℕ)) (lengths bytes marks : List ℕ) (all
   pub texts : (s : ℕ) → s < length stands → (stand_at stands s).text.from + sum (part (stand_at stands s).terms lengths) ≤ length bytes
 
 -- the first cursor of a segment
-unfoldable pub first_cursor : Stand → List ℕ → List ℕ → List ℕ → Bool → List ℕ
+unfoldable pub first_cursor : Stand → List ℕ → List ℕ → List ℕ → Bool → Cursor
 first_cursor p lengths bytes marks all = cursor_at lengths bytes marks all p.text.from p.terms.from p.terms.to p.map.from
 
-pub record Filled (stands : List (List ℕ)) (lengths bytes marks : List ℕ) (all : Bool) (n : ℕ) (cursors : List (List ℕ)) : Type 0 where
+pub record Filled (stands : List (List ℕ)) (lengths bytes marks : List ℕ) (all : Bool) (n : ℕ) (cursors : List Cursor) : Type 0 where
   pub size : length cursors ≡ 256
-  pub cursor : (s : ℕ) → s < n → get_or cursors s [] ≡ first_cursor (stand_at stands s) lengths bytes marks all
-  pub rest : (s c : ℕ) → n ≤ s → get_or (get_or cursors s []) c 0 ≡ 0
-  pub blank : (s : ℕ) → n ≤ s → s < 256 → get_or cursors s [] ≡ replicate 8 0
+  pub cursor : (s : ℕ) → s < n → cursor_in cursors s ≡ first_cursor (stand_at stands s) lengths bytes marks all
+  pub rest : (s : ℕ) → n ≤ s → cursor_in cursors s ≡ no_cursor
   pub terms : sum_over terms_in cursors ≡ terms_before stands n
   pub texts : sum_over (bytes_in lengths) cursors ≡ text_before stands lengths n

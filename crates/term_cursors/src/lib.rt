@@ -1,8 +1,9 @@
-// The cursors of the walk over the dictionaries: where each segment's current term stands, in eight numbers, and the first cursor of every segment
+// The cursors of the walk over the dictionaries: where each segment's current term stands, and the first cursor of every segment
 // (columnar/merge/term_merger.rs, `TermsWithSegmentOrd`; merge_dict_column.rs, the streams in `merge_dict_and_compute_term_ord_mapping`).
 #![tactic(auto)]
 
 ghost use Rattle.std.specs.Prelude.{◌≡◌, false, ◌+◌, ◌<◌, length, set, replicate};
+ghost use Rattle.term_merger.specs.Order.{no_cursor};
 ghost use Rattle.term_cursors.specs.Cursors.{unmarked_at, cursor_at, Standing};
 ghost use Rattle.term_cursors.specs.Runs.{Runs, Filled};
 
@@ -14,13 +15,7 @@ fn unmarked_at(marks: &[u8], all: bool, at: usize) -> usize
     requires { all ≡ false → at < length marks.now }
     ensures { result ≡ unmarked_at marks.now all at }
 {
-    if all {
-        return 0;
-    }
-    if marks[at] == 0 {
-        return 1;
-    }
-    0
+    (!all && marks[at] == 0) as usize
 }
 
 // Where a segment's current term stands: its first byte, its place among the term lengths, the place after the segment's last term, and its place in the map.
@@ -37,15 +32,18 @@ fn cursor_at(lengths: &[u32], bytes: &[u8], marks: &[u8], all: bool, at: TermPla
     requires { Standing lengths.now bytes.now marks.now all at }
     ensures { result ≡ cursor_at lengths.now bytes.now marks.now all at.from at.pos at.end at.to }
 {
-    let from = at.from;
-    let pos = at.pos;
-    if at.end <= pos {
-        return [from, from, 0, pos, at.end, at.to, 0, 0];
+    let (n, unmarked) = if at.pos < at.end {
+        (lengths[at.pos] as usize, unmarked_at(marks, all, at.pos))
+    } else {
+        (0, 0)
+    };
+    Cursor {
+        key: term_order::key_at(bytes, at.from, at.from + n),
+        unmarked,
+        pos: at.pos,
+        end: at.end,
+        to: at.to,
     }
-    let till = from + segment::wide(lengths[pos]);
-    let k = unmarked_at(marks, all, pos);
-    let key = term_order::key_at(bytes, from, till);
-    [from, till, k, pos, at.end, at.to, key.first, key.second]
 }
 
 // The same, written as segment s's cursor.
@@ -75,11 +73,10 @@ pub fn fill_cursors(
     cursors: &mut [Cursor],
 )
     requires runs { Runs stands.now lengths.now bytes.now marks.now all }
-    requires cursors_value { cursors.old ≡ replicate 256 (replicate 8 0) }
+    requires cursors_value { cursors.old ≡ replicate 256 no_cursor }
     ensures { Filled stands.now lengths.now bytes.now marks.now all (length stands.now) cursors.new }
 {
-    let mut s: usize = 0;
-    while s < stands.len() {
+    for s in 0..stands.len() {
         let p = stands::stand_at(stands, s);
         let at = TermPlace {
             from: p.text.from,
@@ -88,6 +85,5 @@ pub fn fill_cursors(
             to: p.map.from,
         };
         put_cursor(lengths, bytes, marks, all, at, cursors, s);
-        s += 1;
     }
 }

@@ -6,46 +6,36 @@ use Prim.Native.Nat.{ℕ, zero, suc, ◌+◌, ◌-◌, ◌≤◌, ◌<◌}
 use native.Mathlib.Numerals.{add-one}
 use native.Mathlib.Omega.{arith}
 use lib.Dec.{eqb}
-use lib.ListN.{length, get_or, set, take, drop, replicate, length-set, length-replicate, get_or-replicate, replicate-append-replicate, drop_of_length-le, get_or-append}
-use lib.Seq.{slice, slice-cons, drop-cons, drop-drop, take-length, take-suc-set, length-take-le, get_or-set_same, get_or-set_other, get_or-take, get_or-drop, get_or-append-add}
+use lib.ListN.{length, get_or, set, take, drop, replicate, length-set, length-replicate, get_or-replicate, drop_of_length-le, get_or-append}
+use lib.Seq.{slice, drop-cons, drop-drop, length-take-le, get_or-set_same, get_or-set_other, get_or-take, get_or-drop, get_or-append-add}
 use borrow.Author.Tests.{eqb-true, eqb-false, eq-eqb, ne_eqb}
 use Rattle.definitions.specs.Lists.{up_from, any, elem, filter}
 use Rattle.definitions.specs.Segment.{Segment}
 use Rattle.definitions.specs.Row.{row_values, bit_at, has_alive_set, is_alive, alive_rows}
 use Rattle.definitions.specs.Join.{is_used}
 use Rattle.definitions.proofs.Lists.{any_append}
-use Rattle.runs.specs.Put.{put}
-use Rattle.runs.proofs.Laws.{length-put}
+use Rattle.runs.specs.Put.{put, Below}
+use Rattle.runs.proofs.Laws.{length-put, below-part}
 use Rattle.column_index.specs.Lookup.{start_of, end_of}
 use Rattle.column_index.proofs.Laws.{row-slice}
+use Rattle.column_index.proofs.Walk.{sound-rises, sound-inside}
 use Rattle.stands.specs.declared.Span.{Span}
 use Rattle.stands.specs.declared.Stand.{Stand}
-use Rattle.stands.specs.Stand.{part, many, Lies, stand_at}
-use Rattle.term_marks.specs.Marks.{column_at, is_kept, bit, set_all, used_by, used_from, used_in, marks_over, marked_in, marked_all, Marking, Usable, Columns}
-use Rattle.lists.proofs.Parts.{run_length, part_at}
-
--- ---- every place
-
-pub ones_more : (m : List ℕ) (j : ℕ) → take j m ≡ replicate j 1 → j < length m → take (j + 1) (set m j 1) ≡ replicate (j + 1) 1
-ones_more m j e h =
-    ap (λ (n : ℕ). take n (set m j 1)) (add-one j) ∙ take-suc-set m j 1 h ∙ ap (λ (l : List ℕ). l ++ (1 ∷ [])) e ∙ replicate-append-replicate j 1 1
-
-pub ones_end : (m : List ℕ) (j n : ℕ) → take j m ≡ replicate j 1 → length m ≤ j → j ≤ length m → length m ≡ n → m ≡ replicate n 1
-ones_end m j n e h k l =
-    let p : j ≡ length m = omega arith in
-    sym (take-length m) ∙ ap (λ (z : ℕ). take z m) (sym p) ∙ e ∙ ap (λ (z : ℕ). replicate z 1) (p ∙ l)
+use Rattle.stands.specs.Stand.{run, part, many, Lies, stand_at}
+use Rattle.term_marks.specs.Marks.{column_at, is_kept, bit, set_all, used_by, used_from, used_in, marks_over, marked_in, marked_all, Marking, Columns}
+use Rattle.lists.proofs.Parts.{run_length, part_at, drop-take}
 
 -- ---- the places of a list
 
-pub set_step : (vs m : List ℕ) (j e : ℕ) → j < e → e ≤ length vs → set_all (slice (j + 1) e vs) (set m (get_or vs j 0) 1) ≡ set_all (slice j e vs) m
+pub set_step : (vs m : List ℕ) (j : ℕ) → j < length vs → set_all (drop (j + 1) vs) (set m (get_or vs j 0) 1) ≡ set_all (drop j vs) m
 unfolding set_all
-set_step vs m j e h l = rw (add-one j, slice-cons j e vs 0 h l)
+set_step vs m j h = rw (add-one j, drop-cons vs j 0 h)
 
-pub set-end : (vs m : List ℕ) (j e : ℕ) → e ≤ j → e ≤ length vs → set_all (slice j e vs) m ≡ m
+pub set-end : (vs m : List ℕ) (j : ℕ) → length vs ≤ j → set_all (drop j vs) m ≡ m
 unfolding set_all
-set-end vs m j e h l = rw (drop_of_length-le (take e vs) {i = j} (omega (arith, length-take-le e vs l)))
+set-end vs m j h = rw (drop_of_length-le vs h)
 
-pub set-length : (vs m : List ℕ) → length (set_all vs m) ≡ length m
+set-length : (vs m : List ℕ) → length (set_all vs m) ≡ length m
 unfolding set_all
 set-length [] m = refl
 set-length (v ∷ vs) m = set-length vs (set m v 1) ∙ length-set m v 1
@@ -79,17 +69,17 @@ set_at (v ∷ vs) m k h = set_at vs (set m v 1) k (rw (length-set m v 1) h) ∙ 
 
 -- ---- a row's values, and those of the rows behind it
 
-module _ (kind : ℕ) (ids offsets values alive : List ℕ) (row w : ℕ) (m : List ℕ) (r : w ≡ row) where
+module _ (kind : ℕ) (ids offsets values alive : List ℕ) (row : ℕ) (m : List ℕ) where
   abbrev by_if : Bool → List ℕ
   by_if b = set_all (cond b (slice (start_of kind ids offsets row) (end_of kind ids offsets row) values) []) m
 
-  pub by_dead : false ≡ bit_at alive w → m ≡ set_all (used_by kind ids offsets values alive row) m
+  pub by_dead : false ≡ bit_at alive row → m ≡ set_all (used_by kind ids offsets values alive row) m
   unfolding used_by set_all
-  by_dead e = ap by_if (e ∙ ap (bit_at alive) r)
+  by_dead e = ap by_if e
 
-  pub by_alive : true ≡ bit_at alive w → {a e : ℕ} → a ≡ start_of kind ids offsets row → e ≡ end_of kind ids offsets row → set_all (slice a e values) m ≡ set_all (used_by kind ids offsets values alive row) m
+  pub by_alive : true ≡ bit_at alive row → {a e : ℕ} → a ≡ start_of kind ids offsets row → e ≡ end_of kind ids offsets row → set_all (run a e values) m ≡ set_all (used_by kind ids offsets values alive row) m
   unfolding used_by
-  by_alive t p q = ap₂ (λ (x y : ℕ). set_all (slice x y values) m) p q ∙ ap by_if (t ∙ ap (bit_at alive) r)
+  by_alive t {a} {e} p q = ap (λ (l : List ℕ). set_all l m) (sym (drop-take a e values)) ∙ ap₂ (λ (x y : ℕ). set_all (slice x y values) m) p q ∙ ap by_if t
 
 module _ (kind : ℕ) (ids offsets values alive : List ℕ) where
   abbrev used : ℕ → ℕ → List ℕ
@@ -109,8 +99,16 @@ module _ (kind : ℕ) (ids offsets values alive : List ℕ) where
   unfolding used_from set_all
   rows_end row rows m h = ap (λ (n : ℕ). set_all (used row n) m) (let w : rows - row ≡ 0 = omega arith in w)
 
-  pub rows_start : (rows : ℕ) (m : List ℕ) → set_all (used_from kind ids offsets values alive 0 (rows - 0)) m ≡ set_all (used_from kind ids offsets values alive 0 rows) m
-  rows_start rows m = ap (λ (n : ℕ). set_all (used 0 n) m) (let w : rows - 0 ≡ rows = omega arith in w)
+-- where a row's values stand, and that they are ordinals
+module _ {kind rows : ℕ} {ids offsets values alive : List ℕ} {n : ℕ} (m : Marking kind rows ids offsets values alive n) {row : ℕ} (h : row < rows) {a e : ℕ} (s : a ≡ start_of kind ids offsets row) (t : e ≡ end_of kind ids offsets row) where
+  pub row-rises : a ≤ e
+  row-rises = rw (s, t) (sound-rises m.sound h)
+
+  pub row-ends : e ≤ length values
+  row-ends = rw t (sound-inside m.sound h)
+
+  pub row-below : {k : ℕ} → k ≡ n → Below k (run a e values)
+  row-below q = rw q (below-part n a (e - a) values m.ordinals)
 
 -- an ordinal is listed if an alive row uses it
 used-elem : (s : Segment) (k row n : ℕ) → eqb s.kind 3 ≡ false → has_alive_set s ≡ true
@@ -238,22 +236,12 @@ marks_step stands ids offsets values alive marks s h = rw (add-one s, drop-cons 
 
 module _ {stands : List (List ℕ)} {ids offsets values alive old : List ℕ} (c : Columns stands ids offsets values alive old) (marks : List ℕ) (l : length marks ≡ length old) {s : ℕ} (h : s < length stands) {p : Stand}
     (e : p ≡ stand_at stands s) where
-  pub turn_lies : Lies p.terms marks
+  turn_lies : Lies p.terms marks
   turn_lies = subst (λ (q : Stand). Lies q.terms marks) (sym e) (lies_as (c.terms-lie s h) l)
 
-  pub turn-usable : Usable p ids offsets values alive (length (part p.terms marks))
-  turn-usable =
-      subst (Usable p ids offsets values alive) (sym (part-long p ids offsets values alive marks turn_lies))
-      (subst (λ (q : Stand). Usable q ids offsets values alive (many q.terms)) (sym e) (c.usable s h))
-
   pub turn_more : {ys whole : List ℕ} → marked_all (drop s stands) ids offsets values alive marks ≡ whole → ys ≡ marks_over p ids offsets values alive (part p.terms marks)
-      → (marked_all (drop (s + 1) stands) ids offsets values alive (take p.terms.from marks ++ (ys ++ drop (many p.terms) (drop p.terms.from marks))) ≡ whole)
-      × (length (take p.terms.from marks ++ (ys ++ drop (many p.terms) (drop p.terms.from marks))) ≡ length old)
+      → marked_all (drop (s + 1) stands) ids offsets values alive (take p.terms.from marks ++ (ys ++ drop (many p.terms) (drop p.terms.from marks))) ≡ whole
   turn_more {ys} g o =
-      let z = in_lent p ids offsets values alive marks turn_lies ys o in (
-        ap (marked_all (drop (s + 1) stands) ids offsets values alive) (z ∙ ap (λ (q : Stand). marked_in q ids offsets values alive marks) e) ∙ sym (marks_step stands ids offsets values alive marks s h) ∙ g,
-        ap length z ∙ in_length p ids offsets values alive marks turn_lies ∙ l,
-      )
-
-pub marking-at : {kind rows : ℕ} {ids offsets values alive : List ℕ} {n m : ℕ} → Marking kind rows ids offsets values alive n → n ≡ m → Marking kind rows ids offsets values alive m
-marking-at {kind} {rows} {ids} {offsets} {values} {alive} h e = subst (Marking kind rows ids offsets values alive) e h
+      ap (marked_all (drop (s + 1) stands) ids offsets values alive) (in_lent p ids offsets values alive marks turn_lies ys o ∙ ap (λ (q : Stand). marked_in q ids offsets values alive marks) e)
+      ∙ sym (marks_step stands ids offsets values alive marks s h)
+      ∙ g

@@ -10,7 +10,8 @@ use lib.ListN.{length, get_or, set, take, length-take}
 use lib.Seq.{get_or-set_other, get_or-take}
 use borrow.Author.Tests.{eqb-true, eq-eqb, ltb-false}
 use Rattle.term_merger.specs.declared.Heap.{Heap}
-use Rattle.term_merger.specs.Order.{key_of, tie_of, order_at, comes_before}
+use Rattle.term_merger.specs.declared.Cursor.{Cursor}
+use Rattle.term_merger.specs.Order.{cursor_in, no_cursor, key_of, tie_of, order_at, comes_before}
 use Rattle.term_merger.specs.Heap.{count, one, held, Ordered, Sinking}
 use Rattle.term_merger.proofs.Laws.{Le, AtMost, at-most-le, top_least}
 
@@ -51,11 +52,11 @@ none_left h x p n e c = go (ltb p n) refl (sym c ∙ none-held h x e)
 
 -- ---- a change of one cursor
 
-pub same-order : (bytes : List ℕ) (cursors : List (List ℕ)) (s : ℕ) (r : List ℕ) (a b : ℕ) → (a ≡ s → ⊥) → (b ≡ s → ⊥) → comes_before bytes (set cursors s r) a b ≡ comes_before bytes cursors a b
+pub same-order : (bytes : List ℕ) (cursors : List Cursor) (s : ℕ) (r : Cursor) (a b : ℕ) → (a ≡ s → ⊥) → (b ≡ s → ⊥) → comes_before bytes (set cursors s r) a b ≡ comes_before bytes cursors a b
 unfolding comes_before order_at key_of
 same-order bytes cursors s r a b d e =
-    let f : get_or (set cursors s r) a [] ≡ get_or cursors a [] = get_or-set_other cursors s a r [] d in
-    let g : get_or (set cursors s r) b [] ≡ get_or cursors b [] = get_or-set_other cursors s b r [] e in
+    let f : cursor_in (set cursors s r) a ≡ cursor_in cursors a = get_or-set_other cursors s a r no_cursor d in
+    let g : cursor_in (set cursors s r) b ≡ cursor_in cursors b = get_or-set_other cursors s b r no_cursor e in
     rw (f, g)
 
 -- a number that is held once, at the top, stands at no other place
@@ -69,7 +70,7 @@ top_once (x ∷ xs) (suc n) (suc k) h c p l e =
     count-zero x (take n xs) (omega arith) k (rw (length-take n xs) (omega arith)) (get_or-take n xs k 0 (le_of_suc-le-suc l) ∙ e)
 
 -- the top's cursor goes on: the others are in order
-pub sinking_cursors : (bytes : List ℕ) (cursors : List (List ℕ)) (r seg : List ℕ) (n : ℕ) → n ≤ length seg → count (get_or seg 0 0) (take n seg) ≡ 1 → Ordered bytes cursors seg n → Sinking bytes (set cursors (get_or seg 0 0) r) seg 0 n
+pub sinking_cursors : (bytes : List ℕ) (cursors : List Cursor) (r : Cursor) (seg : List ℕ) (n : ℕ) → n ≤ length seg → count (get_or seg 0 0) (take n seg) ≡ 1 → Ordered bytes cursors seg n → Sinking bytes (set cursors (get_or seg 0 0) r) seg 0 n
 unfolding Ordered
 sinking_cursors bytes cursors r seg n h c o =
     record {
@@ -95,7 +96,7 @@ place-held h j l k = go (count (get_or h.seg j 0) (held h)) refl
     go zero e = absurd (count-zero (get_or h.seg j 0) (held h) e j (rw (length-take h.len h.seg) (omega arith)) (get_or-take h.len h.seg j 0 l))
     go (suc n) e = suc-le-suc zero-le
 
-pub top-le : (bytes : List ℕ) (cursors : List (List ℕ)) (h : Heap) (y : ℕ) → Ordered bytes cursors h.seg h.len → 0 < count y (held h)
+pub top-le : (bytes : List ℕ) (cursors : List Cursor) (h : Heap) (y : ℕ) → Ordered bytes cursors h.seg h.len → 0 < count y (held h)
     → Le (key_of bytes cursors (get_or h.seg 0 0)) (tie_of cursors (get_or h.seg 0 0)) (key_of bytes cursors y) (tie_of cursors y)
 top-le bytes cursors h y o c =
     let at = held_index h y c in

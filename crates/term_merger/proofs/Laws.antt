@@ -12,17 +12,18 @@ use lib.Dec.{eqb, ltb}
 use lib.ListN.{length, set, get_or, take, length-set}
 use lib.Seq.{get_or-set_other, get_or-set_same, take-set-lt, get_or-take, length-take-le, take-suc-set, take-suc}
 use Rattle.definitions.specs.Lists.{and_then, compare_bytes, is_below}
-use Rattle.definitions.proofs.Terms.{Cmp, cmp, Before, CmpBytes, cmp_bytes, after_is, same-is, before_trans, is_eq}
+use Rattle.definitions.proofs.Terms.{Before, CmpBytes, cmp_bytes, after_is, same-is, before_trans}
 use borrow.Author.Tests.{lt-ltb, le-ltb, ltb-true, ltb-false}
-use Rattle.term_order.specs.declared.TermOrder.{TermOrder}
+use Rattle.std.specs.declared.cmp.Ordering as std
+use Rattle.std.specs.Ordering.{nat_cmp, ordering_then, is_lt}
 use Rattle.term_order.specs.Order.{order_of}
-use Rattle.term_order.specs.declared.Key.{Key}
 use Rattle.term_order.specs.Key.{keyed, Inside}
-use Rattle.term_order.proofs.Laws.{told-lt, told-eq, told_gt}
-use Rattle.term_merger.specs.Order.{cell, key_in, key_of, tie_of, order_at, comes_before, TermsInside}
+use Rattle.term_order.proofs.Laws.{numbers-order}
+use Rattle.term_merger.specs.Order.{cursor_in, key_of, tie_of, order_at, comes_before, TermsInside}
 use Rattle.term_merger.specs.Heap.{one, count, Ordered, Sinking, first_child, FirstChild, Risen, Pushed}
 use Rattle.term_merger.specs.Live.{top_lives, kept_len, kept_numbers, Settled}
 use Rattle.term_merger.specs.declared.Heap.{Heap}
+use Rattle.term_merger.specs.declared.Cursor.{Cursor}
 use Rattle.lists.proofs.Numbers.{same?, le-lt}
 
 -- ---- the order of segments: by k, then by t
@@ -71,10 +72,10 @@ of_below k t k' t' h = go (compare_bytes k k') (cmp_bytes k k') (compare_bytes t
     go Ordering.gt x p y z = absurd (false≢true z)
 
 -- a stands at or before b
-abbrev pub AtMost : List ℕ → List (List ℕ) → ℕ → ℕ → Type 0
+abbrev pub AtMost : List ℕ → List Cursor → ℕ → ℕ → Type 0
 AtMost bytes cursors a b = comes_before bytes cursors b a ≡ false
 
-module _ (bytes : List ℕ) (cursors : List (List ℕ)) where
+module _ (bytes : List ℕ) (cursors : List Cursor) where
   pub at-most-le : (a b : ℕ) → AtMost bytes cursors a b → Le (key_of bytes cursors a) (tie_of cursors a) (key_of bytes cursors b) (tie_of cursors b)
   unfolding comes_before order_at
   at-most-le a b h = le_of _ _ _ _ h
@@ -216,7 +217,7 @@ children_least le tr g n a o f (suc m) j h p l = go (le-lt j 3) (λ (k : 3 ≤ j
 
 -- ---- the same over the heap's array
 
-module _ (bytes : List ℕ) (cursors : List (List ℕ)) where
+module _ (bytes : List ℕ) (cursors : List Cursor) where
   abbrev pub Up : List ℕ → ℕ → ℕ → Type 0
   Up seg i n = Rising (AtMost bytes cursors) (λ j. get_or seg j 0) i n
 
@@ -280,50 +281,32 @@ module _ (bytes : List ℕ) (cursors : List (List ℕ)) where
 
 -- ---- what the code's comparison says
 
-pub inside-at : (bytes : List ℕ) (cursors : List (List ℕ)) (s : ℕ) → TermsInside bytes cursors → s < 256 → Inside bytes (key_in (get_or cursors s []))
+pub inside-at : (bytes : List ℕ) (cursors : List Cursor) (s : ℕ) → TermsInside bytes cursors → s < 256 → Inside bytes (cursor_in cursors s).key
 unfolding TermsInside
 inside-at bytes cursors s r h = r s h
 
-module _ (bytes : List ℕ) (cursors : List (List ℕ)) (a b : ℕ) where
-  abbrev told : Ordering
-  told = compare_bytes (keyed bytes (key_in (get_or cursors a []))) (keyed bytes (key_in (get_or cursors b [])))
-
-  -- what was compared are the keys that the two cursors hold
-  pub compared : {k l : Key} {o : TermOrder} → k ≡ key_in (get_or cursors a []) → l ≡ key_in (get_or cursors b []) → o ≡ order_of (compare_bytes (keyed bytes k) (keyed bytes l)) → o ≡ order_of told
-  compared e f h = h ∙ ap₂ (λ (p q : Key). order_of (compare_bytes (keyed bytes p) (keyed bytes q))) e f
-
-  pub before-lt : TermOrder.Before ≡ order_of told → true ≡ comes_before bytes cursors a b
-  unfolding comes_before order_at key_of
-  before-lt e = rw (told-lt told e)
-
-  pub before_gt : TermOrder.After ≡ order_of told → false ≡ comes_before bytes cursors a b
-  unfolding comes_before order_at key_of
-  before_gt e = rw (told_gt told e)
-
-  ltb-below : (x y : ℕ) → ltb x y ≡ is_below (and_then (compare x y) Ordering.eq)
-  ltb-below x y = go (compare x y) (cmp x y)
-    where
-      go : (o : Ordering) → Cmp o x y → ltb x y ≡ is_below (and_then o Ordering.eq)
-      go Ordering.lt h = lt-ltb x y h
-      go Ordering.eq h = le-ltb x y (omega arith)
-      go Ordering.gt h = le-ltb x y (omega arith)
-
-  pub before_tie : TermOrder.Same ≡ order_of told → (cell cursors a 2 ≡ cell cursors b 2 → ⊥) → ltb (cell cursors a 2) (cell cursors b 2) ≡ comes_before bytes cursors a b
-  unfolding comes_before order_at key_of
-  before_tie e d = rw (told-eq told e) (go (compare (cell cursors a 2) (cell cursors b 2)) (cmp (cell cursors a 2) (cell cursors b 2)))
-    where
-      go : (o : Ordering) → Cmp o (cell cursors a 2) (cell cursors b 2) → ltb (cell cursors a 2) (cell cursors b 2) ≡ is_below (and_then o (and_then (compare a b) Ordering.eq))
-      go Ordering.lt h = lt-ltb (cell cursors a 2) (cell cursors b 2) h
-      go Ordering.eq h = absurd (d h)
-      go Ordering.gt h = le-ltb (cell cursors a 2) (cell cursors b 2) (omega arith)
-
-  pub before-number : TermOrder.Same ≡ order_of told → cell cursors a 2 ≡ cell cursors b 2 → ltb a b ≡ comes_before bytes cursors a b
-  unfolding comes_before order_at key_of
-  before-number e d = rw (told-eq told e, d, is_eq (cell cursors b 2)) (ltb-below a b)
+-- keys, then marks, then numbers
+pub compared : (bytes : List ℕ) (cursors : List Cursor) (a b : ℕ) {o p q r t : std.Ordering}
+    → o ≡ order_of (compare_bytes (keyed bytes (cursor_in cursors a).key) (keyed bytes (cursor_in cursors b).key))
+    → p ≡ nat_cmp (cursor_in cursors a).unmarked (cursor_in cursors b).unmarked → q ≡ ordering_then o p → r ≡ nat_cmp a b → t ≡ ordering_then q r
+    → is_lt t ≡ comes_before bytes cursors a b
+unfolding comes_before order_at key_of
+compared bytes cursors a b eo ep eq er et =
+    ap is_lt (et ∙ ap₂ ordering_then (eq ∙ ap₂ ordering_then eo (ep ∙ numbers-order _ _)) (er ∙ numbers-order a b))
+    ∙ go (compare_bytes (keyed bytes (cursor_in cursors a).key) (keyed bytes (cursor_in cursors b).key)) (compare (cursor_in cursors a).unmarked (cursor_in cursors b).unmarked) (compare a b)
+  where
+    go : (x y z : Ordering) → is_lt (ordering_then (ordering_then (order_of x) (order_of y)) (order_of z)) ≡ is_below (and_then x (and_then y (and_then z Ordering.eq)))
+    go Ordering.lt y z = refl
+    go Ordering.eq Ordering.lt z = refl
+    go Ordering.eq Ordering.eq Ordering.lt = refl
+    go Ordering.eq Ordering.eq Ordering.eq = refl
+    go Ordering.eq Ordering.eq Ordering.gt = refl
+    go Ordering.eq Ordering.gt z = refl
+    go Ordering.gt y z = refl
 
 -- ---- the first child
 
-module _ (bytes : List ℕ) (cursors : List (List ℕ)) (seg : List ℕ) (l n : ℕ) where
+module _ (bytes : List ℕ) (cursors : List Cursor) (seg : List ℕ) (l n : ℕ) where
   last-is : n ≤ l + 1 → l ≡ first_child bytes cursors seg l n
   unfolding first_child
   last-is h = rw (le-ltb (l + 1) n h)
@@ -367,7 +350,7 @@ module _ (bytes : List ℕ) (cursors : List (List ℕ)) (seg : List ℕ) (l n : 
 
 -- ---- push and pop
 
-module _ (bytes : List ℕ) (cursors : List (List ℕ)) where
+module _ (bytes : List ℕ) (cursors : List Cursor) where
   pub ordered-set : (seg : List ℕ) (n v : ℕ) → Ordered bytes cursors seg n → Ordered bytes cursors (set seg n v) n
   unfolding Ordered
   ordered-set seg n v o j p l = move (AtMost bytes cursors) (get_or-set_other seg n ((j - 1) / 2) v 0 (λ e. omega arith)) (get_or-set_other seg n j v 0 (λ e. omega arith)) (o j p l)
@@ -402,7 +385,7 @@ count-drop seg (suc n) x h =
     let m : count x (take (suc n) (set seg 0 v)) ≡ count x (set l 0 v) = ap (count x) e in
     omega arith
 
-module _ (bytes : List ℕ) (cursors : List (List ℕ)) where
+module _ (bytes : List ℕ) (cursors : List Cursor) where
   pub pushed : (h r : Heap) (s : ℕ) → length h.seg ≡ 256 → h.len < 256 → r.len ≡ h.len + 1 → Risen bytes cursors (set h.seg h.len s) (h.len + 1) r.seg → Pushed bytes cursors h s r
   pushed h r s l k n g =
       record {
@@ -413,20 +396,20 @@ module _ (bytes : List ℕ) (cursors : List (List ℕ)) where
 
 -- ---- the top stays or leaves
 
-module _ (cursors : List (List ℕ)) (seg : List ℕ) (len : ℕ) where
+module _ (cursors : List Cursor) (seg : List ℕ) (len : ℕ) where
   abbrev lives : Bool
   lives = top_lives cursors seg
 
-  pub top_stays : cell cursors (get_or seg 0 0) 3 < cell cursors (get_or seg 0 0) 4 → (len ≡ kept_len cursors seg len) × (seg ≡ kept_numbers cursors seg len)
+  pub top_stays : (cursor_in cursors (get_or seg 0 0)).pos < (cursor_in cursors (get_or seg 0 0)).end → (len ≡ kept_len cursors seg len) × (seg ≡ kept_numbers cursors seg len)
   unfolding kept_len kept_numbers
   top_stays l =
-      let e : lives ≡ true = lt-ltb (cell cursors (get_or seg 0 0) 3) (cell cursors (get_or seg 0 0) 4) l in
+      let e : lives ≡ true = lt-ltb (cursor_in cursors (get_or seg 0 0)).pos (cursor_in cursors (get_or seg 0 0)).end l in
       (sym (ap (λ (b : Bool). cond b len (len - 1)) e), sym (ap (λ (b : Bool). cond b seg (set seg 0 (get_or seg (len - 1) 0))) e))
 
-  pub top_leaves : cell cursors (get_or seg 0 0) 4 ≤ cell cursors (get_or seg 0 0) 3 → (len - 1 ≡ kept_len cursors seg len) × (set seg 0 (get_or seg (len - 1) 0) ≡ kept_numbers cursors seg len)
+  pub top_leaves : (cursor_in cursors (get_or seg 0 0)).end ≤ (cursor_in cursors (get_or seg 0 0)).pos → (len - 1 ≡ kept_len cursors seg len) × (set seg 0 (get_or seg (len - 1) 0) ≡ kept_numbers cursors seg len)
   unfolding kept_len kept_numbers
   top_leaves l =
-      let e : lives ≡ false = le-ltb (cell cursors (get_or seg 0 0) 3) (cell cursors (get_or seg 0 0) 4) l in
+      let e : lives ≡ false = le-ltb (cursor_in cursors (get_or seg 0 0)).pos (cursor_in cursors (get_or seg 0 0)).end l in
       (sym (ap (λ (b : Bool). cond b len (len - 1)) e), sym (ap (λ (b : Bool). cond b seg (set seg 0 (get_or seg (len - 1) 0))) e))
 
   pub kept-long : length seg ≡ 256 → length (kept_numbers cursors seg len) ≡ 256
@@ -461,12 +444,12 @@ module _ (cursors : List (List ℕ)) (seg : List ℕ) (len : ℕ) where
     settled {seg'} k m g = go lives refl g
       where
         go : (b : Bool) → lives ≡ b → Risen bytes cursors (cond b seg (set seg 0 (get_or seg (len - 1) 0))) (cond b len (len - 1)) seg' → Settled bytes cursors seg len seg' (cond b len (len - 1))
-        go true e g = inl (record { left = ltb-true (cell cursors (get_or seg 0 0) 3) (cell cursors (get_or seg 0 0) 4) e; size = refl; long = g.long; in_heap_order = g.in_heap_order; holds = g.holds })
+        go true e g = inl (record { left = ltb-true (cursor_in cursors (get_or seg 0 0)).pos (cursor_in cursors (get_or seg 0 0)).end e; size = refl; long = g.long; in_heap_order = g.in_heap_order; holds = g.holds })
         go false e g =
             let q : len - 1 + 1 ≡ len = omega arith in
             inr
             (record {
-              left = ltb-false (cell cursors (get_or seg 0 0) 3) (cell cursors (get_or seg 0 0) 4) e;
+              left = ltb-false (cursor_in cursors (get_or seg 0 0)).pos (cursor_in cursors (get_or seg 0 0)).end e;
               size = q;
               long = g.long;
               in_heap_order = g.in_heap_order;

@@ -9,19 +9,20 @@ use lib.ListN.{length, get_or, set}
 use borrow.Author.Tests.{lt-ltb, le-ltb, ltb-true, eq-eqb, ne_eqb}
 use Rattle.lists.proofs.Numbers.{same?}
 use Rattle.term_merger.specs.declared.Heap.{Heap}
-use Rattle.term_merger.specs.Order.{cell, key_of, tie_of}
+use Rattle.term_merger.specs.declared.Cursor.{Cursor}
+use Rattle.term_merger.specs.Order.{cursor_in, key_of, tie_of}
 use Rattle.term_merger.specs.Heap.{count, one, held, Ordered, FirstChild, Sinking}
 use Rattle.term_merger.specs.Live.{Settled}
 use Rattle.term_merger.proofs.Laws.{Le, AtMost, at-most-le, child_least}
 use Rattle.term_merger.proofs.Heaps.{one-pos, none_left, sinking_cursors, held_index, place-held, top-le}
 
-pub record Holding (bytes : List ℕ) (cursors : List (List ℕ)) (P N : ℕ → ℕ) (h : Heap) : Type 0 where
+pub record Holding (bytes : List ℕ) (cursors : List Cursor) (P N : ℕ → ℕ) (h : Heap) : Type 0 where
   pub len : h.len ≤ 256
   pub full : length h.seg ≡ 256
   pub in_heap_order : Ordered bytes cursors h.seg h.len
   pub holds : (x : ℕ) → count x (held h) ≡ one (ltb (P x) (N x))
 
-module _ {bytes : List ℕ} {cursors : List (List ℕ)} {P N : ℕ → ℕ} {h : Heap} (g : Holding bytes cursors P N h) where
+module _ {bytes : List ℕ} {cursors : List Cursor} {P N : ℕ → ℕ} {h : Heap} (g : Holding bytes cursors P N h) where
   some-held : (x : ℕ) → P x < N x → 0 < count x (held h)
   some-held x l = subst (λ (n : ℕ). 0 < n) (sym (g.holds x ∙ ap one (lt-ltb (P x) (N x) l))) (suc-le-suc zero-le)
 
@@ -67,15 +68,15 @@ module _ {bytes : List ℕ} {cursors : List (List ℕ)} {P N : ℕ → ℕ} {h :
         (subst (λ (y : ℕ). AtMost bytes cursors (get_or h.seg c 0) y) p.3 (child_least bytes cursors h.seg h.len c p.0 g.in_heap_order f p.1 p.2))
 
     -- its cursor goes on
-    module _ (new : List ℕ) where
-      pub sinking_new : {cursors' : List (List ℕ)} → cursors' ≡ set cursors s new → Sinking bytes cursors' h.seg 0 h.len
+    module _ (new : Cursor) where
+      pub sinking_new : {cursors' : List Cursor} → cursors' ≡ set cursors s new → Sinking bytes cursors' h.seg 0 h.len
       sinking_new {cursors'} ce =
           let c : count (get_or h.seg 0 0) (held h) ≡ 1 = ap (λ (x : ℕ). count x (held h)) (sym top) ∙ g.holds s ∙ ap one (lt-ltb (P s) (N s) top_left) in
-          subst (λ (z : List (List ℕ)). Sinking bytes z h.seg 0 h.len) (sym (ce ∙ ap (λ (x : ℕ). set cursors x new) top))
+          subst (λ (z : List Cursor). Sinking bytes z h.seg 0 h.len) (sym (ce ∙ ap (λ (x : ℕ). set cursors x new) top))
           (sinking_cursors bytes cursors new h.seg h.len (omega (arith, g.len, g.full)) c g.in_heap_order)
 
       module _ (P' : ℕ → ℕ) (there : (x : ℕ) → (x ≡ s → ⊥) → P' x ≡ P x)
-          (more : cell (set cursors s new) s 3 < cell (set cursors s new) s 4 → P' s < N s) (none : cell (set cursors s new) s 4 ≤ cell (set cursors s new) s 3 → N s ≤ P' s) where
+          (more : (cursor_in (set cursors s new) s).pos < (cursor_in (set cursors s new) s).end → P' s < N s) (none : (cursor_in (set cursors s new) s).end ≤ (cursor_in (set cursors s new) s).pos → N s ≤ P' s) where
         elsewhere : (x : ℕ) → (x ≡ s → ⊥) → count x (held h) ≡ one (ltb (P' x) (N x))
         elsewhere x d = g.holds x ∙ ap (λ (n : ℕ). one (ltb n (N x))) (sym (there x d))
 
@@ -85,7 +86,7 @@ module _ {bytes : List ℕ} {cursors : List (List ℕ)} {P N : ℕ → ℕ} {h :
             record { len = omega (arith, t.size, g.len); full = t.long; in_heap_order = t.in_heap_order; holds = λ x. t.holds x ∙ at x (same? x s) }
           where
             left : P' s < N s
-            left = more (subst (λ (x : ℕ). cell (set cursors s new) x 3 < cell (set cursors s new) x 4) (sym top) t.left)
+            left = more (subst (λ (x : ℕ). (cursor_in (set cursors s new) x).pos < (cursor_in (set cursors s new) x).end) (sym top) t.left)
 
             at : (x : ℕ) → (x ≡ s) ⊎ (x ≡ s → ⊥) → count x (held h) ≡ one (ltb (P' x) (N x))
             at x (inl e) =
@@ -96,7 +97,7 @@ module _ {bytes : List ℕ} {cursors : List (List ℕ)} {P N : ℕ → ℕ} {h :
             record { len = omega (arith, t.size, g.len); full = t.long; in_heap_order = t.in_heap_order; holds = λ x. at x (same? x s) }
           where
             gone : N s ≤ P' s
-            gone = none (subst (λ (x : ℕ). cell (set cursors s new) x 4 ≤ cell (set cursors s new) x 3) (sym top) t.left)
+            gone = none (subst (λ (x : ℕ). (cursor_in (set cursors s new) x).end ≤ (cursor_in (set cursors s new) x).pos) (sym top) t.left)
 
             at : (x : ℕ) → (x ≡ s) ⊎ (x ≡ s → ⊥) → count x (held (record { seg = seg; len = n })) ≡ one (ltb (P' x) (N x))
             at x (inl e) =

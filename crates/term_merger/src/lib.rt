@@ -2,25 +2,40 @@
 #![tactic(auto)]
 
 ghost use Rattle.std.specs.Prelude.{◌≡◌, ◌+◌, ◌-◌, ◌*◌, ◌<◌, ◌≤◌, length, leb};
-ghost use Rattle.term_merger.specs.Order.{key_in, comes_before, TermsInside};
+ghost use Rattle.term_merger.specs.Order.{comes_before, TermsInside};
 ghost use Rattle.term_merger.specs.Heap.{empty_heap, Ordered, PushedIfRoom, Risen, FirstChild, Sinking};
 ghost use Rattle.term_merger.specs.Live.{kept_len, kept_numbers, Settled, Started};
 
-use term_order::{Key, TermOrder};
+use term_order::Key;
 
-// A segment's place in the walk, in eight numbers (specs/Order).
-pub type Cursor = [usize; 8];
+// A segment's place in the walk.
+#[derive(Clone, Copy)]
+pub struct Cursor {
+    // of its current term
+    pub key: Key,
+    // 0 if the term is marked, else 1
+    pub unmarked: usize,
+    // the term's place among the term lengths, and the place after the segment's last term
+    pub pos: usize,
+    pub end: usize,
+    // its place in the map
+    pub to: usize,
+}
 
-// The current term's key.
-pub fn key_of(cursor: Cursor) -> Key
-    ensures { result ≡ key_in cursor }
-{
-    Key {
-        from: cursor[0],
-        till: cursor[1],
-        first: cursor[6],
-        second: cursor[7],
-    }
+impl Cursor {
+    // Nothing is left of it.
+    pub const NONE: Cursor = Cursor {
+        key: Key {
+            from: 0,
+            till: 0,
+            first: 0,
+            second: 0,
+        },
+        unmarked: 0,
+        pos: 0,
+        end: 0,
+        to: 0,
+    };
 }
 
 // Segment numbers in an array, each not before the one above it.
@@ -45,8 +60,7 @@ impl Heap {
     pub fn is_full(self) -> bool
         ensures { result ≡ leb 256 self.len }
     {
-        let n = self.len;
-        Heap::CAP <= n
+        Heap::CAP <= self.len
     }
 }
 
@@ -55,21 +69,12 @@ pub fn comes_before(bytes: &[u8], cursors: &[Cursor], a: u8, b: u8) -> bool
     requires { (256 ≤ length cursors.now) × TermsInside bytes.now cursors.now }
     ensures { result ≡ comes_before bytes.now cursors.now a b }
 {
-    let p = runs::byte(a);
-    let q = runs::byte(b);
-    let x = cursors[p];
-    let y = cursors[q];
-    let o = term_order::compare_keys(bytes, key_of(x), key_of(y));
-    match o {
-        TermOrder::Before => true,
-        TermOrder::Same => {
-            if x[2] != y[2] {
-                return x[2] < y[2];
-            }
-            p < q
-        }
-        TermOrder::After => false,
-    }
+    let x = cursors[a as usize];
+    let y = cursors[b as usize];
+    term_order::compare_keys(bytes, x.key, y.key)
+        .then(x.unmarked.cmp(&y.unmarked))
+        .then(a.cmp(&b))
+        .is_lt()
 }
 
 // The number at the last place goes up to its place.
@@ -160,9 +165,8 @@ fn keep_top(seg: &mut [u8; Heap::CAP], len: usize, cursors: &[Cursor]) -> usize
     ensures value { result ≡ kept_len cursors.now seg.old len }
     ensures seg_after { seg.new ≡ kept_numbers cursors.now seg.old len }
 {
-    let s = runs::byte(seg[0]);
-    let top = cursors[s];
-    if top[3] < top[4] {
+    let top = cursors[seg[0] as usize];
+    if top.pos < top.end {
         return len;
     }
     let n = len - 1;
@@ -187,13 +191,10 @@ pub fn start_heap(bytes: &[u8], cursors: &[Cursor]) -> Heap
     ensures { Started bytes.now cursors.now result }
 {
     let mut h = Heap::empty();
-    let mut s: usize = 0;
-    while s < Heap::CAP {
-        let cursor = cursors[s];
-        if cursor[3] < cursor[4] {
+    for (s, cursor) in cursors.iter().enumerate() {
+        if cursor.pos < cursor.end {
             h = push(h, bytes, cursors, s as u8);
         }
-        s += 1;
     }
     h
 }

@@ -1,56 +1,55 @@
--- The laws of the term order: two terms compared from place i on, and what the code's answer says. Assumes nothing.
-use mathlib.Core.Path.{◌≡◌, refl, sym, ap, ◌∙◌}
-use mathlib.Core.List.{List}
-use Prim.Native.Nat.{ℕ, ◌+◌, ◌≤◌, ◌<◌, compare, Ordering}
-use native.Mathlib.Numerals.{add-one}
-use native.Mathlib.Omega.{arith}
-use lib.ListN.{length, get_or, drop, drop_of_length-le}
-use lib.Seq.{drop-cons}
-use Rattle.definitions.specs.Lists.{and_then, compare_bytes}
-use Rattle.definitions.proofs.Terms.{is_lt, is_eq, is_gt}
-use Rattle.term_order.specs.declared.TermOrder.{TermOrder}
+-- The code's comparisons are the logic's. Assumes nothing.
+use Rattle.std.proofs.Common.{◌≡◌, ℕ, List, [], ◌∷◌, refl, ap, ap₂, ◌∙◌, arith, cond}
+use Rattle.std.proofs.lemmas.Bool.Decides.{nat_tests}
+use Prim.Native.Nat.{compare, Ordering}
+use Rattle.std.specs.declared.cmp.Ordering as std
+use Rattle.std.specs.Ordering.{nat_cmp, ordering_then, ordering_reverse, ord_min, on, is_lt, is_eq}
+use Rattle.std.specs.Borrow.{Bor}
+use Rattle.std.proofs.lemmas.Cmp.{nat_list_cmp_total}
+use Rattle.std.specs.Cmp.Lexicographic.{slice_cmp}
+use Rattle.definitions.specs.Lists.{and_then, compare_bytes, is_below, is_same, by_ordering}
+use Rattle.definitions.proofs.Terms.{Cmp, cmp}
 use Rattle.term_order.specs.Order.{order_of}
 
--- ---- comparing from place i on
+-- ---- the library's comparisons
 
-pub step : (a b : List ℕ) (i : ℕ) → i < length a → i < length b
-    → compare_bytes (drop i a) (drop i b) ≡ and_then (compare (get_or a i 0) (get_or b i 0)) (compare_bytes (drop (i + 1) a) (drop (i + 1) b))
-step a b i h k = rw (add-one i, drop-cons a i 0 h, drop-cons b i 0 k)
+pub numbers-order : (n m : ℕ) → nat_cmp n m ≡ order_of (compare n m)
+numbers-order n m = go (compare n m) (cmp n m)
+  where
+    go : (o : Ordering) → Cmp o n m → nat_cmp n m ≡ order_of o
+    go Ordering.lt h = grind (arith, nat_tests)
+    go Ordering.eq h = grind (arith, nat_tests)
+    go Ordering.gt h = grind (arith, nat_tests)
 
-pub same_step : (a b : List ℕ) (i : ℕ) → i < length a → i < length b → get_or a i 0 ≤ get_or b i 0 → get_or b i 0 ≤ get_or a i 0
-    → compare_bytes (drop i a) (drop i b) ≡ compare_bytes (drop (i + 1) a) (drop (i + 1) b)
-same_step a b i h k l m =
-    let e : get_or a i 0 ≡ get_or b i 0 = omega arith in
-    step a b i h k ∙ ap (λ (o : Ordering). and_then o (compare_bytes (drop (i + 1) a) (drop (i + 1) b))) (ap (compare (get_or a i 0)) (sym e) ∙ is_eq (get_or a i 0))
+pub then-order : (o p : Ordering) → ordering_then (order_of o) (order_of p) ≡ order_of (and_then o p)
+then-order Ordering.lt p = refl
+then-order Ordering.eq p = refl
+then-order Ordering.gt p = refl
 
-pub low_step : (a b : List ℕ) (i : ℕ) → i < length a → i < length b → get_or a i 0 < get_or b i 0 → compare_bytes (drop i a) (drop i b) ≡ Ordering.lt
-low_step a b i h k l = step a b i h k ∙ ap (λ (o : Ordering). and_then o (compare_bytes (drop (i + 1) a) (drop (i + 1) b))) (is_lt _ _ l)
+pub lists-order : (a b : List ℕ) → slice_cmp nat_cmp a b ≡ order_of (compare_bytes a b)
+lists-order [] [] = refl
+lists-order [] (y ∷ ys) = refl
+lists-order (x ∷ xs) [] = refl
+lists-order (x ∷ xs) (y ∷ ys) = ap₂ ordering_then (numbers-order x y) (lists-order xs ys) ∙ then-order (compare x y) (compare_bytes xs ys)
 
-pub high_step : (a b : List ℕ) (i : ℕ) → i < length a → i < length b → get_or b i 0 < get_or a i 0 → compare_bytes (drop i a) (drop i b) ≡ Ordering.gt
-high_step a b i h k l = step a b i h k ∙ ap (λ (o : Ordering). and_then o (compare_bytes (drop (i + 1) a) (drop (i + 1) b))) (is_gt _ _ l)
+-- ---- what an answer says
 
-pub b_end : (a b : List ℕ) (i : ℕ) → i < length a → length b ≤ i → compare_bytes (drop i a) (drop i b) ≡ Ordering.gt
-b_end a b i h k = rw (drop-cons a i 0 h, drop_of_length-le b k)
+pub below-is : (o : Ordering) → is_lt (order_of o) ≡ is_below o
+below-is Ordering.lt = refl
+below-is Ordering.eq = refl
+below-is Ordering.gt = refl
 
-pub a-end : (a b : List ℕ) (i : ℕ) → length a ≤ i → i < length b → compare_bytes (drop i a) (drop i b) ≡ Ordering.lt
-a-end a b i h k = rw (drop_of_length-le a h, drop-cons b i 0 k)
+pub same-is : (o : Ordering) → is_eq (order_of o) ≡ is_same o
+same-is Ordering.lt = refl
+same-is Ordering.eq = refl
+same-is Ordering.gt = refl
 
-pub both_end : (a b : List ℕ) (i : ℕ) → length a ≤ i → length b ≤ i → compare_bytes (drop i a) (drop i b) ≡ Ordering.eq
-both_end a b i h k = rw (drop_of_length-le a h, drop_of_length-le b k)
+-- ---- the lower of two lists
 
--- ---- what the code's comparison says
-
-pub told-lt : (o : Ordering) → TermOrder.Before ≡ order_of o → o ≡ Ordering.lt
-told-lt Ordering.lt e = refl
-told-lt Ordering.eq e = absurd (let z : ◌≡◌ {A = ℕ} 0 1 = cc in omega arith)
-told-lt Ordering.gt e = absurd (let z : ◌≡◌ {A = ℕ} 0 1 = cc in omega arith)
-
-pub told-eq : (o : Ordering) → TermOrder.Same ≡ order_of o → o ≡ Ordering.eq
-told-eq Ordering.lt e = absurd (let z : ◌≡◌ {A = ℕ} 0 1 = cc in omega arith)
-told-eq Ordering.eq e = refl
-told-eq Ordering.gt e = absurd (let z : ◌≡◌ {A = ℕ} 0 1 = cc in omega arith)
-
-pub told_gt : (o : Ordering) → TermOrder.After ≡ order_of o → o ≡ Ordering.gt
-told_gt Ordering.lt e = absurd (let z : ◌≡◌ {A = ℕ} 0 1 = cc in omega arith)
-told_gt Ordering.eq e = absurd (let z : ◌≡◌ {A = ℕ} 0 1 = cc in omega arith)
-told_gt Ordering.gt e = refl
+pub lower : (a b : Bor (List ℕ)) {r : Bor (List ℕ)} → r ≡ ord_min (on (λ x. x.now) (slice_cmp nat_cmp)) a b → r ≡ by_ordering (compare_bytes a.now b.now) a a b
+lower a b {r} e = e ∙ ap (λ (o : std.Ordering). cond (is_lt o) b a) ((nat_list_cmp_total).antisymm b.now a.now ∙ ap ordering_reverse (lists-order a.now b.now)) ∙ go (compare_bytes a.now b.now)
+  where
+    go : (o : Ordering) → cond (is_lt (ordering_reverse (order_of o))) b a ≡ by_ordering o a a b
+    go Ordering.lt = refl
+    go Ordering.eq = refl
+    go Ordering.gt = refl

@@ -6,15 +6,22 @@ use native.Mathlib.Omega.{arith}
 use mathlib.Core.Path.{◌≡◌, refl, sym, ap, ap₂, ◌∙◌, subst}
 use mathlib.Core.Logic.{◌⊎◌, inl, inr, ⊎_elim}
 use mathlib.Core.List.{List, [], ◌∷◌}
-use lib.ListN.{length, take, drop, get_or, length-drop, length-take, drop_of_length-le, get_or-eq_default}
+use lib.ListN.{length, take, drop, get_or, length-take, drop_of_length-le, get_or-eq_default}
 use lib.Seq.{drop-cons, drop-drop, get_or-drop, get_or-take}
 use lib.Pow.{pow_mono, pow-add, shl_exact}
+use Rattle.std.specs.Array.{IsFirstChunk}
+use Rattle.std.specs.Int.{w64, from_be_bytes}
 use Rattle.lists.proofs.Numbers.{le-lt}
 use Rattle.lists.proofs.Parts.{drop-take, run_length}
 use Rattle.definitions.specs.Lists.{and_then, compare_bytes}
 use Rattle.definitions.proofs.Terms.{Cmp, cmp, is_lt, is_eq, is_gt, Before, CmpBytes, cmp_bytes, before-is, same-is}
 use Rattle.term_order.specs.Key.{value_of, word_of, rest_of, term_in, keyed, key_at, Inside, AllBytes}
 use Rattle.term_order.specs.declared.Key.{Key}
+use Rattle.std.specs.declared.cmp.Ordering as std
+use Rattle.std.specs.declared.cmp.Ordering.TheVariants.{Less, Greater}
+use Rattle.std.specs.Ordering.{nat_cmp, ordering_then, MatchOrdering}
+use Rattle.term_order.specs.Order.{order_of}
+use Rattle.term_order.proofs.Laws.{numbers-order}
 
 -- ---- what is known of bytes
 
@@ -174,26 +181,12 @@ unfolding value_of
 value-take zero n t h = refl
 value-take (suc k) n t h = ap₂ (λ (v x : ℕ). v * 256 + x) (value-take k n t (omega arith)) (get_or-take n t k 0 h)
 
--- a term of n bytes in k more
-pub value_up : (n k : ℕ) (t : List ℕ) → value_of (n + k) (take n t) ≡ value_of n t * 2 ^ (8 * k)
-value_up n k t =
-    value-add n k (take n t)
-    ∙ ap₂ (λ (v w : ℕ). v * 2 ^ (8 * k) + w) (value-take n n t (le_refl n)) (ap (value_of k) (drop_of_length-le (take n t) (let w : length (take n t) ≤ n = omega (arith, length-take n t) in w)) ∙ value_nil k)
-    ∙ add-zero (value_of n t * 2 ^ (8 * k))
-
--- ---- terms compared k bytes at a time, from the byte at i on
-
-pub bytes_differ : (k : ℕ) (a b : List ℕ) (i : ℕ) → AllBytes a → AllBytes b → (value_of k (drop i a) ≡ value_of k (drop i b) → ⊥) → compare_bytes (drop i a) (drop i b) ≡ compare (value_of k (drop i a)) (value_of k (drop i b))
-bytes_differ k a b i p q d =
-    value-order k (drop i a) (drop i b) (bytes_drop i a p) (bytes_drop i b q) ∙ differ (value_of k (drop i a)) (value_of k (drop i b)) (compare_bytes (rest_at k (drop i a)) (rest_at k (drop i b))) d
-
-pub bytes-agree : (k : ℕ) (a b : List ℕ) (i : ℕ) → AllBytes a → AllBytes b → k ≤ length a - i → k ≤ length b - i → value_of k (drop i a) ≡ value_of k (drop i b)
-    → compare_bytes (drop i a) (drop i b) ≡ compare_bytes (drop (i + k) a) (drop (i + k) b)
-bytes-agree k a b i p q h l e =
-    value-order k (drop i a) (drop i b) (bytes_drop i a p) (bytes_drop i b q)
-    ∙ agree (value_of k (drop i a)) (value_of k (drop i b)) (compare_bytes (rest_at k (drop i a)) (rest_at k (drop i b))) e
-    ∙ agree (min k (length (drop i a))) (min k (length (drop i b))) (compare_bytes (drop k (drop i a)) (drop k (drop i b))) (omega (arith, length-drop i a, length-drop i b))
-    ∙ ap₂ compare_bytes (drop-drop k i a) (drop-drop k i b)
+-- a term in k bytes more
+pub value_up : (k : ℕ) (t : List ℕ) → value_of (length t + k) t ≡ value_of (length t) t * 2 ^ (8 * k)
+value_up k t =
+    value-add (length t) k t
+    ∙ ap (λ (w : ℕ). value_of (length t) t * 2 ^ (8 * k) + w) (ap (value_of k) (drop_of_length-le t (le_refl (length t))) ∙ value_nil k)
+    ∙ add-zero (value_of (length t) t * 2 ^ (8 * k))
 
 -- ---- keys
 
@@ -283,75 +276,69 @@ module _ {bytes : List ℕ} {a b : Key} (p : Inside bytes a) (q : Inside bytes b
       rest-long (term_in bytes a.from a.till) (term_in bytes b.from b.till) (omega arith) (omega arith)
       ∙ ap₂ compare_bytes (rest-stands bytes a.from a.till 16) (rest-stands bytes b.from b.till 16)
 
--- keys whose first words differ, whose second words do, and whose words are the same
-pub first-tells : (bytes : List ℕ) (a b : Key) → (a.first ≡ b.first → ⊥) → compare_bytes (keyed bytes a) (keyed bytes b) ≡ compare a.first b.first
+-- the first words tell, or the second ones, or else the rests: o and p are the orders of the words, and r is that of the keys
+pub keys_tell : (bytes : List ℕ) (a b : Key) {o p t r : std.Ordering} {Q : Type 0} → o ≡ nat_cmp a.first b.first → p ≡ nat_cmp a.second b.second → t ≡ ordering_then o p
+    → MatchOrdering t (r ≡ Less) Q (r ≡ Greater)
+    → (Q → r ≡ order_of (compare_bytes (rest_of (term_in bytes a.from a.till)) (rest_of (term_in bytes b.from b.till))))
+    → r ≡ order_of (compare_bytes (keyed bytes a) (keyed bytes b))
 unfolding keyed
-first-tells bytes a b d = differ a.first b.first _ d
+keys_tell bytes a b {o} {p} {t} {r} {Q} eo ep et m f =
+    go (compare a.first b.first) (compare a.second b.second)
+    (subst (λ (x : std.Ordering). MatchOrdering x (r ≡ Less) Q (r ≡ Greater)) (et ∙ ap₂ ordering_then (eo ∙ numbers-order a.first b.first) (ep ∙ numbers-order a.second b.second)) m)
+  where
+    rests : Ordering
+    rests = compare_bytes (rest_of (term_in bytes a.from a.till)) (rest_of (term_in bytes b.from b.till))
 
-pub second-tells : (bytes : List ℕ) (a b : Key) → a.first ≡ b.first → (a.second ≡ b.second → ⊥) → compare_bytes (keyed bytes a) (keyed bytes b) ≡ compare a.second b.second
-unfolding keyed
-second-tells bytes a b e d = agree a.first b.first _ e ∙ differ a.second b.second _ d
-
-pub rests_tell : (bytes : List ℕ) (a b : Key) → a.first ≡ b.first → a.second ≡ b.second
-    → compare_bytes (keyed bytes a) (keyed bytes b) ≡ compare_bytes (rest_of (term_in bytes a.from a.till)) (rest_of (term_in bytes b.from b.till))
-unfolding keyed
-rests_tell bytes a b e f = agree a.first b.first _ e ∙ agree a.second b.second _ f
+    go : (x y : Ordering) → MatchOrdering (ordering_then (order_of x) (order_of y)) (r ≡ Less) Q (r ≡ Greater) → r ≡ order_of (and_then x (and_then y rests))
+    go Ordering.lt y m = m
+    go Ordering.eq Ordering.lt m = m
+    go Ordering.eq Ordering.eq m = f m
+    go Ordering.eq Ordering.gt m = m
+    go Ordering.gt y m = m
 
 -- ---- a number made byte by byte
 
--- i of n bytes are taken
-pub record Taking (bytes : List ℕ) (at n w i : ℕ) : Type 0 where
-  pub most : i ≤ n
-  pub value : w ≡ value_of i (drop at bytes)
+module _ (bytes : List ℕ) (w i : ℕ) (e : w ≡ value_of i bytes) where
+  pub number-below : AllBytes bytes → w < 2 ^ (8 * i)
+  number-below all = rw e (value-below i bytes all)
 
-pub taking_none : (bytes : List ℕ) (at n : ℕ) → Taking bytes at n 0 0
-unfolding value_of
-taking_none bytes at n = record { most = zero-le; value = refl }
+  pub number-fits : AllBytes bytes → i < length bytes → length bytes ≤ 8 → w < 72057594037927936
+  number-fits all h k = lt_of_lt_of_le (number-below all) (let l : 8 * i ≤ 56 = omega arith in pow_mono l)
 
-module _ {bytes : List ℕ} {at n w i : ℕ} (t : Taking bytes at n w i) (all : AllBytes bytes) where
-  pub taking_below : w < 2 ^ (8 * i)
-  taking_below = rw t.value (value-below i (drop at bytes) (bytes_drop at bytes all))
-
-  pub taking_fits : i < n → n ≤ 8 → w < 72057594037927936
-  taking_fits h k = lt_of_lt_of_le taking_below (let l : 8 * i ≤ 56 = omega arith in pow_mono l)
-
-  pub taking_more : (x : ℕ) → x ≡ get_or bytes (at + i) 0 → i < n → Taking bytes at n (w * 256 + x) (i + 1)
+  pub number-more : w * 256 + get_or bytes i 0 ≡ value_of (i + 1) bytes
   unfolding value_of
-  taking_more x e h =
-      record {
-        most = omega arith;
-        value = ap₂ (λ (v y : ℕ). v * 256 + y) t.value (e ∙ sym (get_or-drop at bytes i 0)) ∙ ap (λ (m : ℕ). value_of m (drop at bytes)) (sym (add-one i));
-      }
+  number-more = rw (add-one i, e)
 
-  pub taking_all : n ≤ i → (w ≡ value_of n (drop at bytes)) × (w < 2 ^ (8 * n))
-  taking_all h =
-      let e : i ≡ n = omega (arith, t.most) in
-      (t.value ∙ ap (λ (m : ℕ). value_of m (drop at bytes)) e, subst (λ (m : ℕ). w < 2 ^ (8 * m)) e taking_below)
+-- ---- words
 
--- ---- words of n bytes
+-- there are eight bytes
+pub word-bytes : (t h : List ℕ) → IsFirstChunk t h 8 → from_be_bytes w64 h ≡ word_of t
+unfolding value_of word_of
+word-bytes t h f =
+    let at : (i : ℕ) → i < 8 → get_or h i 0 ≡ get_or t i 0 = λ i l. ap (λ (x : List ℕ). get_or x i 0) f.same ∙ get_or-take 8 t i 0 l in
+    let w : from_be_bytes w64 h ≡ value_of 8 t = omega (arith, at 0 (omega arith), at 1 (omega arith), at 2 (omega arith), at 3 (omega arith), at 4 (omega arith), at 5 (omega arith), at 6 (omega arith), at 7 (omega arith)) in
+    w
 
-pub word-long : (n : ℕ) (l : List ℕ) → 8 ≤ n → value_of 8 l ≡ word_of (take n l)
+-- there are fewer
+pub word_none : (t : List ℕ) → t ≡ [] → 0 ≡ word_of t
 unfolding word_of
-word-long n l h = sym (value-take 8 n l h)
+word_none t e = sym (ap (value_of 8) e ∙ value_nil 8)
 
-pub word_none : (l : List ℕ) → l ≡ [] → 0 ≡ word_of l
+pub word-short : (w : ℕ) (t : List ℕ) → length t < 8 → w ≡ value_of (length t) t → w < 2 ^ (8 * length t) → (w * 2 ^ (8 * (8 - length t))) % 18446744073709551616 ≡ word_of t
 unfolding word_of
-word_none l e = sym (ap (value_of 8) e ∙ value_nil 8)
+word-short w t h e b =
+    shl_exact (8 * length t) (8 * (8 - length t)) 64 b (omega arith)
+    ∙ ap (λ (v : ℕ). v * 2 ^ (8 * (8 - length t))) e
+    ∙ sym (value_up (8 - length t) t)
+    ∙ ap (λ (k : ℕ). value_of k t) (let z : length t + (8 - length t) ≡ 8 = omega arith in z)
 
-pub word-short : (n w : ℕ) (l : List ℕ) → n < 8 → w ≡ value_of n l → w < 2 ^ (8 * n) → (w * 2 ^ (8 * (8 - n))) % 18446744073709551616 ≡ word_of (take n l)
-unfolding word_of
-word-short n w l h e b =
-    shl_exact (8 * n) (8 * (8 - n)) 64 b (omega arith)
-    ∙ ap (λ (v : ℕ). v * 2 ^ (8 * (8 - n))) e
-    ∙ sym (value_up n (8 - n) l)
-    ∙ ap (λ (k : ℕ). value_of k (take n l)) (let z : n + (8 - n) ≡ 8 = omega arith in z)
-
--- the eight bytes after the first eight
-pub second_none : (n : ℕ) (l : List ℕ) → n ≤ 8 → 0 ≡ word_of (drop 8 (take n l))
-second_none n l h = word_none (drop 8 (take n l)) (drop_of_length-le (take n l) (let z : length (take n l) ≤ 8 = omega (arith, length-take n l) in z))
-
-pub second-some : (n at : ℕ) (l : List ℕ) → word_of (take (n - 8) (drop (at + 8) l)) ≡ word_of (drop 8 (take n (drop at l)))
-second-some n at l = ap word_of (sym (drop-take 8 n (drop at l) ∙ ap (take (n - 8)) (drop-drop 8 at l)))
+-- the bytes after the first eight
+pub past-eight : (t : List ℕ) → drop (min (length t) 8) t ≡ drop 8 t
+past-eight t = go (le-lt 8 (length t))
+  where
+    go : (8 < length t) ⊎ (length t ≤ 8) → drop (min (length t) 8) t ≡ drop 8 t
+    go (inl h) = ap (λ (n : ℕ). drop n t) (let z : min (length t) 8 ≡ 8 = omega arith in z)
+    go (inr h) = drop_of_length-le t (let z : length t ≤ min (length t) 8 = omega arith in z) ∙ sym (drop_of_length-le t h)
 
 -- the key of no bytes at the start
 pub key-none : (bytes : List ℕ) → ◌≡◌ {A = Key} (record { from = 0; till = 0; first = 0; second = 0 }) (key_at bytes 0 0)

@@ -83,11 +83,6 @@ first_in lengths at p n h k = let e : sum (drop p lengths) ≡ get_or lengths p 
 pub rest_in : (lengths : List ℕ) (at p n : ℕ) → p < length lengths → at + sum (drop p lengths) ≤ n → (at + get_or lengths p 0) + sum (drop (p + 1) lengths) ≤ n
 rest_in lengths at p n h k = let e : sum (drop p lengths) ≡ get_or lengths p 0 + sum (drop (p + 1) lengths) = sum_step lengths p h in omega (arith, e, k)
 
-pub second_in : (lengths : List ℕ) (at p n : ℕ) (q : Place) → q ≡ next_place lengths at p → p + 1 < length lengths → at + sum (drop p lengths) ≤ n → (q.ordinal < length lengths) × (q.at + get_or lengths q.ordinal 0 ≤ n)
-second_in lengths at p n q e h k =
-    subst (λ (x : Place). (x.ordinal < length lengths) × (x.at + get_or lengths x.ordinal 0 ≤ n)) (sym e)
-    (h, first_in lengths (at + get_or lengths p 0) (p + 1) n h (rest_in lengths at p n (omega (arith, h)) k))
-
 pub compared : (lengths bytes : List ℕ) (at p : ℕ) (q : Place) (s t : List ℕ) {r : Bool} → p + 1 < length lengths → q ≡ next_place lengths at p
     → s ≡ term_at bytes lengths at p → t ≡ term_at bytes lengths q.at q.ordinal → r ≡ is_below (compare_bytes s t) → r ≡ goes_on bytes lengths at p
 compared lengths bytes at p q s t h e f g k =
@@ -99,41 +94,41 @@ compared lengths bytes at p q s t h e f g k =
 -- it is at a term or past the last, the bytes from it on are enough for the terms from it on, and what is left to say of them is what is said of all
 abbrev pub Stands : List ℕ → List ℕ → Reader → Type 0
 Stands lengths bytes r =
-    (r.bytes.now ≡ bytes) × (r.ordinal ≤ length lengths) × (r.at + sum (drop r.ordinal lengths) ≤ length bytes)
-    × (rises_at lengths bytes r.at r.ordinal ≡ terms_rise lengths bytes)
+    (r.bytes.now ≡ bytes) × (r.place.ordinal ≤ length lengths) × (r.place.at + sum (drop r.place.ordinal lengths) ≤ length bytes)
+    × (rises_at lengths bytes r.place.at r.place.ordinal ≡ terms_rise lengths bytes)
 
 pub stands_start : (lengths : List ℕ) (b : Bor (List ℕ)) (r : Reader) → r ≡ started b → sum lengths ≤ length b.now → Stands lengths b.now r
 stands_start lengths b r e h = subst (Stands lengths b.now) (sym e) (refl, zero-le, omega (arith, h), rises_start lengths b.now)
 
 -- what it says of the next term
-pub told_is : (lengths bytes : List ℕ) (r : Reader) {b t : Bool} → Stands lengths bytes r → b ≡ goes_on r.bytes.now lengths r.at r.ordinal → b ≡ t
-    → goes_on bytes lengths r.at r.ordinal ≡ t
-told_is lengths bytes r s e f = ap (λ (x : List ℕ). goes_on x lengths r.at r.ordinal) (sym s.0) ∙ sym e ∙ f
+pub told_is : (lengths bytes : List ℕ) (r : Reader) {b t : Bool} → Stands lengths bytes r → b ≡ goes_on r.bytes.now lengths r.place.at r.place.ordinal → b ≡ t
+    → goes_on bytes lengths r.place.at r.place.ordinal ≡ t
+told_is lengths bytes r s e f = ap (λ (x : List ℕ). goes_on x lengths r.place.at r.place.ordinal) (sym s.0) ∙ sym e ∙ f
 
 -- where it goes on
-pub next_in : (lengths bytes : List ℕ) (r : Reader) → Stands lengths bytes r → goes_on bytes lengths r.at r.ordinal ≡ true
-    → (r.ordinal < length lengths) × (r.at + get_or lengths r.ordinal 0 ≤ length bytes)
+pub next_in : (lengths bytes : List ℕ) (r : Reader) → Stands lengths bytes r → goes_on bytes lengths r.place.at r.place.ordinal ≡ true
+    → (r.place.ordinal < length lengths) × (r.place.at + get_or lengths r.place.ordinal 0 ≤ length bytes)
 next_in lengths bytes r s e =
-    let h : r.ordinal + 1 < length lengths = goes_on-next lengths bytes r.at r.ordinal e in
-    let l : r.ordinal < length lengths = omega (arith, h) in
-    (l, first_in lengths r.at r.ordinal (length bytes) l s.2)
+    let h : r.place.ordinal + 1 < length lengths = goes_on-next lengths bytes r.place.at r.place.ordinal e in
+    let l : r.place.ordinal < length lengths = omega (arith, h) in
+    (l, first_in lengths r.place.at r.place.ordinal (length bytes) l s.2)
 
-pub stands_next : (lengths bytes : List ℕ) (r q : Reader) → Stands lengths bytes r → goes_on bytes lengths r.at r.ordinal ≡ true
-    → q ≡ moved r (next_place lengths r.at r.ordinal) → Stands lengths bytes q
+pub stands_next : (lengths bytes : List ℕ) (r q : Reader) → Stands lengths bytes r → goes_on bytes lengths r.place.at r.place.ordinal ≡ true
+    → q ≡ moved r (next_place lengths r.place.at r.place.ordinal) → Stands lengths bytes q
 stands_next lengths bytes r q s e f =
-    let h : r.ordinal + 1 < length lengths = goes_on-next lengths bytes r.at r.ordinal e in
-    let l : r.ordinal < length lengths = omega (arith, h) in
+    let h : r.place.ordinal + 1 < length lengths = goes_on-next lengths bytes r.place.at r.place.ordinal e in
+    let l : r.place.ordinal < length lengths = omega (arith, h) in
     subst (Stands lengths bytes) (sym f)
-    (s.0, omega (arith, h), rest_in lengths r.at r.ordinal (length bytes) l s.2, rises_next lengths bytes r.at r.ordinal e ∙ s.3)
+    (s.0, omega (arith, h), rest_in lengths r.place.at r.place.ordinal (length bytes) l s.2, rises_next lengths bytes r.place.at r.place.ordinal e ∙ s.3)
 
-pub nearer : (lengths bytes : List ℕ) (r q : Reader) → Stands lengths bytes r → goes_on bytes lengths r.at r.ordinal ≡ true
-    → q ≡ moved r (next_place lengths r.at r.ordinal) → length lengths - q.ordinal < length lengths - r.ordinal
+pub nearer : (lengths bytes : List ℕ) (r q : Reader) → Stands lengths bytes r → goes_on bytes lengths r.place.at r.place.ordinal ≡ true
+    → q ≡ moved r (next_place lengths r.place.at r.place.ordinal) → length lengths - q.place.ordinal < length lengths - r.place.ordinal
 nearer lengths bytes r q s e f =
-    let l : r.ordinal < length lengths = (next_in lengths bytes r s e).0 in
-    let o : q.ordinal ≡ r.ordinal + 1 = ap (λ (x : Reader). x.ordinal) f in
+    let l : r.place.ordinal < length lengths = (next_in lengths bytes r s e).0 in
+    let o : q.place.ordinal ≡ r.place.ordinal + 1 = ap (λ (x : Reader). x.place.ordinal) f in
     omega (arith, l, o)
 
 -- where it stops
-pub stands_end : (lengths bytes : List ℕ) (r : Reader) {b : Bool} → Stands lengths bytes r → goes_on bytes lengths r.at r.ordinal ≡ false
-    → b ≡ leb (length lengths) (r.ordinal + 1) → b ≡ terms_rise lengths bytes
-stands_end lengths bytes r s e f = f ∙ rises-end lengths bytes r.at r.ordinal e ∙ s.3
+pub stands_end : (lengths bytes : List ℕ) (r : Reader) {b : Bool} → Stands lengths bytes r → goes_on bytes lengths r.place.at r.place.ordinal ≡ false
+    → b ≡ leb (length lengths) (r.place.ordinal + 1) → b ≡ terms_rise lengths bytes
+stands_end lengths bytes r s e f = f ∙ rises-end lengths bytes r.place.at r.place.ordinal e ∙ s.3

@@ -22,10 +22,10 @@ goes_on bytes lengths at ordinal =
 
 -- a reader at the first term, and at another place
 abbrev pub started : Bor (List ℕ) → Reader
-started bytes = record { bytes = bytes; at = 0; ordinal = 0 }
+started bytes = record { bytes = bytes; place = record { at = 0; ordinal = 0 } }
 
 abbrev pub moved : Reader → Place → Reader
-moved r p = record { bytes = r.bytes; at = p.at; ordinal = p.ordinal }
+moved r p = record r { place = p }
 
 -- whether all of them ascend
 unfoldable pub terms_rise : List ℕ → List ℕ → Bool

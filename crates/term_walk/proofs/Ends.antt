@@ -15,7 +15,8 @@ use Rattle.definitions.specs.Join.{ordinal_of}
 use Rattle.definitions.specs.Outcome.{written}
 use Rattle.definitions.proofs.Terms.{same_members, sort_ascending, sort_member, self_present}
 use Rattle.term_merger.specs.declared.Heap.{Heap}
-use Rattle.term_merger.specs.Order.{cell}
+use Rattle.term_merger.specs.declared.Cursor.{Cursor}
+use Rattle.term_merger.specs.Order.{cursor_in, no_cursor}
 use Rattle.term_cursors.specs.Cursors.{unmarked_at, cursor_of, dict_of, terms_in, sum_over}
 use Rattle.term_cursors.specs.Runs.{join_to}
 use Rattle.term_cursors.proofs.Cursors.{dict-length}
@@ -111,10 +112,10 @@ join_written f k l old h e g o =
     let x : drop n l ≡ drop n old = ext_get_or 0 (drop n l) (drop n old) d (λ i m. get_or-drop n l i 0 ∙ o (n + i) (omega arith) ∙ sym (get_or-drop n old i 0)) in
     sym (take-append-drop n l) ∙ ap₂ (λ (p q : List ℕ). p ++ q) (join_taken f k l h g) x
 
-cursors_up : (f : ℕ → List ℕ) (l : List (List ℕ)) → ((s : ℕ) → s < length l → get_or l s [] ≡ f s) → l ≡ map f (up_to (length l))
+cursors_up : (f : ℕ → Cursor) (l : List Cursor) → ((s : ℕ) → s < length l → cursor_in l s ≡ f s) → l ≡ map f (up_to (length l))
 cursors_up f l h =
-    ext_get_or [] l (map f (up_to (length l))) (sym (up_length f (length l)))
-    (λ s k. h s k ∙ ap f (sym (zero-add s)) ∙ sym (up_at f [] 0 (length l) s k))
+    ext_get_or no_cursor l (map f (up_to (length l))) (sym (up_length f (length l)))
+    (λ s k. h s k ∙ ap f (sym (zero-add s)) ∙ sym (up_at f no_cursor 0 (length l) s k))
 
 -- equal dictionaries and maps are written alike
 pub merged-same : {d e : List (List ℕ)} {p q lens outs ords : List ℕ} {n m k : ℕ} {lens' outs' ords' : List ℕ} → d ≡ e → p ≡ q → Merged d p lens outs ords n m k lens' outs' ords' → Merged e q lens outs ords n m k lens' outs' ords'
@@ -123,8 +124,8 @@ merged-same {d} {e} {p} {q} {lens} {outs} {ords} {n} {m} {k} {lens'} {outs'} {or
 
 -- ---- the heap is empty
 
-module _ {lengths bytes marks : List ℕ} {all : Bool} {cursors₀ : List (List ℕ)} {lens₀ outs₀ ords₀ : List ℕ} (y : Ready lengths bytes marks all cursors₀ lens₀ outs₀ ords₀)
-    {cursors : List (List ℕ)} {lens outs ords : List ℕ} {h : Heap} {l : Last} {P : ℕ → ℕ} {out : List (List ℕ)}
+module _ {lengths bytes marks : List ℕ} {all : Bool} {cursors₀ : List Cursor} {lens₀ outs₀ ords₀ : List ℕ} (y : Ready lengths bytes marks all cursors₀ lens₀ outs₀ ords₀)
+    {cursors : List Cursor} {lens outs ords : List ℕ} {h : Heap} {l : Last} {P : ℕ → ℕ} {out : List (List ℕ)}
     (g : Going lengths bytes marks all cursors₀ lens₀ outs₀ ords₀ cursors lens outs ords h l P out) (z : h.len ≤ 0) where
   over : (s : ℕ) → left_of cursors₀ s ≤ P s
   over s = all-over g.heap z s
@@ -138,19 +139,19 @@ module _ {lengths bytes marks : List ℕ} {all : Bool} {cursors₀ : List (List 
   -- ---- the terms
 
   abbrev kept : ℕ → List (List ℕ)
-  kept s = marked_from marks all (cell cursors₀ s 3) (dict s)
+  kept s = marked_from marks all (cursor_in cursors₀ s).pos (dict s)
 
   out_in : (v : List ℕ) → has_term v out ≡ true → has_term v (join_to kept (length cursors₀)) ≡ true
   out_in v e =
       let q = g.merging.sound v e in
       let n : q.1 < length (dict q.0) = omega (arith, q.2, dict-size q.0) in
       join_has kept (length cursors₀) q.0 v (some-cursor cursors₀ q.0 q.1 q.2)
-      (subst (λ (w : List ℕ). has_term w (kept q.0) ≡ true) q.3 (marked-has marks all (dict q.0) (cell cursors₀ q.0 3) q.1 n q.4))
+      (subst (λ (w : List ℕ). has_term w (kept q.0) ≡ true) q.3 (marked-has marks all (dict q.0) (cursor_in cursors₀ q.0).pos q.1 n q.4))
 
   in_out : (v : List ℕ) → has_term v (join_to kept (length cursors₀)) ≡ true → has_term v out ≡ true
   in_out v e =
       let q = join_from kept (length cursors₀) v e in
-      let p = marked_from_lem marks all (dict q.0) (cell cursors₀ q.0 3) v q.2 in
+      let p = marked_from_lem marks all (dict q.0) (cursor_in cursors₀ q.0).pos v q.2 in
       subst (λ (w : List ℕ). has_term w out ≡ true) p.2 (g.merging.complete q.0 p.0 (omega (arith, p.1, dict-size q.0, over q.0)) p.3)
 
   terms_are : out ≡ walked_terms lengths bytes marks all cursors₀
@@ -169,7 +170,7 @@ module _ {lengths bytes marks : List ℕ} {all : Bool} {cursors₀ : List (List 
 
   join_size : (s : ℕ) → s ≤ length cursors₀ → length (join_to new s) ≡ sum_over terms_in (take s cursors₀)
   join_size zero k = refl
-  join_size (suc s) k = omega (arith, length-append (join_to new s) (new s), join_size s (let w : s ≤ length cursors₀ = omega arith in w), new-size s, sum-suc terms_in cursors₀ s [] k)
+  join_size (suc s) k = omega (arith, length-append (join_to new s) (new s), join_size s (let w : s ≤ length cursors₀ = omega arith in w), new-size s, sum-suc terms_in cursors₀ s no_cursor k)
 
   new-at : (s i : ℕ) → s < length cursors₀ → i < length (new s) → get_or ords (length (join_to new s) + i) 0 ≡ get_or (new s) i 0
   new-at s i k n =
@@ -202,5 +203,5 @@ module _ {lengths bytes marks : List ℕ} {all : Bool} {cursors₀ : List (List 
       cursors_up past cursors (λ s k. g.cursor s (omega (arith, g.size)) ∙ ap (cursor_of lengths bytes marks all cursors₀ s) (let q : P s ≡ left_of cursors₀ s = omega (arith, over s, g.most s) in q))
       ∙ ap (λ (n : ℕ). map past (up_to n)) (g.size ∙ sym y.size)
     where
-      past : ℕ → List ℕ
+      past : ℕ → Cursor
       past s = cursor_of lengths bytes marks all cursors₀ s (left_of cursors₀ s)

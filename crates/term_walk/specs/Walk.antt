@@ -3,7 +3,8 @@ use Rattle.std.specs.Prelude.{ℕ, suc, ◌+◌, ◌-◌, ◌≤◌, ◌<◌, Bo
 use Rattle.term_walk.specs.declared.Last.{Last}
 use Rattle.term_walk.specs.declared.Taken.{Taken}
 use Rattle.term_order.specs.Key.{term_in, keyed}
-use Rattle.term_merger.specs.Order.{cell, key_in}
+use Rattle.term_merger.specs.declared.Cursor.{Cursor}
+use Rattle.term_merger.specs.Order.{cursor_in}
 use Rattle.runs.specs.Put.{put}
 use Rattle.term_cursors.specs.Cursors.{unmarked_at, lens_of, dict_of, cursor_of, terms_in, bytes_in, sum_over}
 use Rattle.term_cursors.specs.Runs.{join_to}
@@ -13,58 +14,58 @@ use Rattle.definitions.specs.Outcome.{written}
 use Rattle.term_merger.specs.Live.{left_of}
 
 -- the term at a cursor, and the last one written
-abbrev pub term_of : List ℕ → List ℕ → List ℕ
-term_of bytes cursor = term_in bytes (get_or cursor 0 0) (get_or cursor 1 0)
+abbrev pub term_of : List ℕ → Cursor → List ℕ
+term_of bytes cursor = term_in bytes (cursor.key.from) (cursor.key.till)
 
 abbrev pub last_of : List ℕ → Last → List ℕ
 last_of bytes l = term_in bytes l.key.from l.key.till
 
 -- the term is the last one written
-pub record Again (bytes cursor : List ℕ) (l : Last) (lens outs : List ℕ) (t : Taken) (lens' outs' : List ℕ) : Type 0 where
+pub record Again (bytes : List ℕ) (cursor : Cursor) (l : Last) (lens outs : List ℕ) (t : Taken) (lens' outs' : List ℕ) : Type 0 where
   pub some : 0 < l.terms
-  pub same : keyed bytes (key_in cursor) ≡ keyed bytes l.key
+  pub same : keyed bytes cursor.key ≡ keyed bytes l.key
   pub ordinal : t.ordinal + 1 ≡ l.terms
   pub last : t.last ≡ l
   pub lengths : lens' ≡ lens
   pub texts : outs' ≡ outs
 
 -- it is another, and not marked
-pub record Skipped (bytes cursor : List ℕ) (l : Last) (lens outs : List ℕ) (t : Taken) (lens' outs' : List ℕ) : Type 0 where
-  pub other : 0 < l.terms → keyed bytes (key_in cursor) ≡ keyed bytes l.key → ⊥
-  pub unmarked : get_or cursor 2 0 ≡ 0 → ⊥
+pub record Skipped (bytes : List ℕ) (cursor : Cursor) (l : Last) (lens outs : List ℕ) (t : Taken) (lens' outs' : List ℕ) : Type 0 where
+  pub other : 0 < l.terms → keyed bytes cursor.key ≡ keyed bytes l.key → ⊥
+  pub unmarked : cursor.unmarked ≡ 0 → ⊥
   pub ordinal : t.ordinal ≡ 0
   pub last : t.last ≡ l
   pub lengths : lens' ≡ lens
   pub texts : outs' ≡ outs
 
 -- it is another, and marked: it is written
-pub record Added (bytes cursor given : List ℕ) (l : Last) (lens outs : List ℕ) (t : Taken) (lens' outs' : List ℕ) : Type 0 where
-  pub other : 0 < l.terms → keyed bytes (key_in cursor) ≡ keyed bytes l.key → ⊥
-  pub marked : get_or cursor 2 0 ≡ 0
+pub record Added (bytes : List ℕ) (cursor : Cursor) (given : List ℕ) (l : Last) (lens outs : List ℕ) (t : Taken) (lens' outs' : List ℕ) : Type 0 where
+  pub other : 0 < l.terms → keyed bytes cursor.key ≡ keyed bytes l.key → ⊥
+  pub marked : cursor.unmarked ≡ 0
   pub ordinal : t.ordinal ≡ l.terms
   pub terms : t.last.terms ≡ l.terms + 1
-  pub used : t.last.bytes ≡ l.bytes + (get_or cursor 1 0 - get_or cursor 0 0)
+  pub used : t.last.bytes ≡ l.bytes + (cursor.key.till - cursor.key.from)
   pub copied : t.last.copied ≡ l.copied + length (term_of bytes cursor)
-  pub key : t.last.key ≡ key_in cursor
-  pub lengths : lens' ≡ set lens l.terms (get_or given (get_or cursor 3 0) 0)
+  pub key : t.last.key ≡ cursor.key
+  pub lengths : lens' ≡ set lens l.terms (get_or given (cursor.pos) 0)
   pub texts : outs' ≡ put l.bytes (term_of bytes cursor) outs
 
-abbrev pub Took : List ℕ → List ℕ → List ℕ → Last → List ℕ → List ℕ → Taken → List ℕ → List ℕ → Type 0
+abbrev pub Took : List ℕ → Cursor → List ℕ → Last → List ℕ → List ℕ → Taken → List ℕ → List ℕ → Type 0
 Took bytes cursor given l lens outs t lens' outs' =
     Again bytes cursor l lens outs t lens' outs' ⊎ (Skipped bytes cursor l lens outs t lens' outs' ⊎ Added bytes cursor given l lens outs t lens' outs')
 
 -- ---- what the walk needs
 
 -- the first cursors of up to 256 segments: their terms lie in the runs, ascend, follow one another in the map, and have room in the outputs
-pub record Ready (lengths bytes marks : List ℕ) (all : Bool) (cursors : List (List ℕ)) (lens outs ords : List ℕ) : Type 0 where
+pub record Ready (lengths bytes marks : List ℕ) (all : Bool) (cursors : List Cursor) (lens outs ords : List ℕ) : Type 0 where
   pub size : length cursors ≡ 256
-  pub cursor : (s : ℕ) → s < 256 → get_or cursors s [] ≡ cursor_of lengths bytes marks all cursors s 0
-  pub low : (s : ℕ) → cell cursors s 3 ≤ cell cursors s 4
-  pub inside : (s : ℕ) → cell cursors s 4 ≤ length lengths
-  pub marked : (s : ℕ) → all ≡ false → cell cursors s 4 ≤ length marks
-  pub fits : (s : ℕ) → cell cursors s 0 + sum (lens_of lengths cursors s) ≤ length bytes
+  pub cursor : (s : ℕ) → s < 256 → cursor_in cursors s ≡ cursor_of lengths bytes marks all cursors s 0
+  pub low : (s : ℕ) → (cursor_in cursors s).pos ≤ (cursor_in cursors s).end
+  pub inside : (s : ℕ) → (cursor_in cursors s).end ≤ length lengths
+  pub marked : (s : ℕ) → all ≡ false → (cursor_in cursors s).end ≤ length marks
+  pub fits : (s : ℕ) → (cursor_in cursors s).key.from + sum (lens_of lengths cursors s) ≤ length bytes
   pub asc : (s : ℕ) → T (terms_ascending (dict_of lengths bytes cursors s))
-  pub starts : (s : ℕ) → 0 < left_of cursors s → cell cursors s 5 ≡ sum_over terms_in (take s cursors)
+  pub starts : (s : ℕ) → 0 < left_of cursors s → (cursor_in cursors s).to ≡ sum_over terms_in (take s cursors)
   pub places : sum_over terms_in cursors ≤ length ords
   pub terms : sum_over terms_in cursors ≤ length lens
   pub texts : sum_over (bytes_in lengths) cursors ≤ length outs
@@ -86,15 +87,15 @@ abbrev pub map_to : List (List ℕ) → (ℕ → List (List ℕ)) → ℕ → Li
 map_to terms dict n = join_to (λ s. map (ordinal_of terms) (dict s)) n
 
 -- the marked terms of all segments
-unfoldable pub walked_terms : List ℕ → List ℕ → List ℕ → Bool → List (List ℕ) → List (List ℕ)
-walked_terms lengths bytes marks all cursors = terms_to marks all (λ s. cell cursors s 3) (dict_of lengths bytes cursors) (length cursors)
+unfoldable pub walked_terms : List ℕ → List ℕ → List ℕ → Bool → List Cursor → List (List ℕ)
+walked_terms lengths bytes marks all cursors = terms_to marks all (λ s. (cursor_in cursors s).pos) (dict_of lengths bytes cursors) (length cursors)
 
 -- and their map
-unfoldable pub walked_map : List ℕ → List ℕ → List ℕ → Bool → List (List ℕ) → List ℕ
+unfoldable pub walked_map : List ℕ → List ℕ → List ℕ → Bool → List Cursor → List ℕ
 walked_map lengths bytes marks all cursors = map_to (walked_terms lengths bytes marks all cursors) (dict_of lengths bytes cursors) (length cursors)
 
 -- each cursor past its segment's last term
-unfoldable pub walked_cursors : List ℕ → List ℕ → List ℕ → Bool → List (List ℕ) → List (List ℕ)
+unfoldable pub walked_cursors : List ℕ → List ℕ → List ℕ → Bool → List Cursor → List Cursor
 walked_cursors lengths bytes marks all cursors = map (λ s. cursor_of lengths bytes marks all cursors s (left_of cursors s)) (up_to (length cursors))
 
 -- the dictionary dict and the map new are written; n and m count the terms and their bytes, k the bytes copied: each term's once

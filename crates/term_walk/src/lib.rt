@@ -2,17 +2,16 @@
 // (columnar/merge/term_merger.rs, `TermMerger::advance`; merge_dict_column.rs, `merge_dict_and_compute_term_ord_mapping`, `is_term_present`).
 #![tactic(auto)]
 
-ghost use Rattle.std.specs.Prelude.{◌≡◌, ◌+◌, ◌-◌, ◌<◌, ◌≤◌, length, get_or};
+ghost use Rattle.std.specs.Prelude.{◌≡◌, ◌+◌, ◌-◌, ◌<◌, ◌≤◌, length};
 ghost use Rattle.definitions.specs.Lists.{compare_bytes, is_same};
 ghost use Rattle.runs.specs.Put.{put};
 ghost use Rattle.term_order.specs.Key.{Inside, keyed};
-ghost use Rattle.term_merger.specs.Order.{key_in};
 ghost use Rattle.term_merger.specs.Live.{Started};
 ghost use Rattle.term_walk.specs.Walk.{Took, Ready, Merged, walked_terms, walked_map, walked_cursors};
 
 use term_cursors::TermPlace;
 use term_merger::{Cursor, Heap};
-use term_order::{Key, TermOrder};
+use term_order::Key;
 
 // How many terms are kept, how many bytes they have, and how many bytes were copied for them.
 #[derive(Clone, Copy)]
@@ -42,12 +41,7 @@ fn same_term(bytes: &[u8], a: Key, b: Key) -> bool
     requires inside_2 { Inside bytes.now b }
     ensures { result ≡ is_same (compare_bytes (keyed bytes.now a) (keyed bytes.now b)) }
 {
-    let o = term_order::compare_keys(bytes, a, b);
-    match o {
-        TermOrder::Before => false,
-        TermOrder::Same => true,
-        TermOrder::After => false,
-    }
+    term_order::compare_keys(bytes, a, b).is_eq()
 }
 
 // Copies a term to its place in the output; returns the count of bytes copied, raised by those of this term. The count is never above the
@@ -58,7 +52,7 @@ fn copy_term(term: &[u8], out: &mut [u8], at: usize, copied: usize) -> usize
     ensures value { result ≡ copied + length term.now }
     ensures out_after { out.new ≡ put at term.now out.old }
 {
-    let n = runs::append_bytes(term, out, at);
+    let n = runs::append(term, out, at);
     copied + n
 }
 
@@ -71,39 +65,30 @@ fn take_term(
     out_bytes: &mut [u8],
     last: Last,
 ) -> Taken
-    requires inside { Inside bytes.now (key_in cursor) × (get_or cursor 3 0 < length lengths.now) }
+    requires inside { Inside bytes.now cursor.key × (cursor.pos < length lengths.now) }
     requires inside_2 { Inside bytes.now last.key × (last.copied ≤ last.bytes) }
-    requires terms_in_bounds { (last.terms < length out_lengths.old) × (last.bytes + (get_or cursor 1 0 - get_or cursor 0 0) ≤ length out_bytes.old) }
+    requires terms_in_bounds { (last.terms < length out_lengths.old) × (last.bytes + (cursor.key.till - cursor.key.from) ≤ length out_bytes.old) }
     ensures { Took bytes.now cursor lengths.now last out_lengths.old out_bytes.old result out_lengths.new out_bytes.new }
 {
     let n = last.terms;
-    let key = term_merger::key_of(cursor);
-    let written = last.key;
-    if 0 < n {
-        if same_term(bytes, key, written) {
-            return Taken {
-                last: last,
-                ordinal: n - 1,
-            };
-        }
-    }
-    if cursor[2] != 0 {
+    if 0 < n && same_term(bytes, cursor.key, last.key) {
         return Taken {
-            last: last,
-            ordinal: 0,
+            last,
+            ordinal: n - 1,
         };
     }
-    let p = cursor[3];
-    out_lengths[n] = lengths[p];
-    let a = cursor[0];
-    let e = cursor[1];
-    let at = last.bytes;
-    let copied = copy_term(&bytes[a..e], out_bytes, at, last.copied);
+    if cursor.unmarked != 0 {
+        return Taken { last, ordinal: 0 };
+    }
+    out_lengths[n] = lengths[cursor.pos];
+    let from = cursor.key.from;
+    let till = cursor.key.till;
+    let copied = copy_term(&bytes[from..till], out_bytes, last.bytes, last.copied);
     let next = Last {
         terms: n + 1,
-        bytes: at + (e - a),
-        copied: copied,
-        key: key,
+        bytes: last.bytes + (till - from),
+        copied,
+        key: cursor.key,
     };
     Taken {
         last: next,
@@ -141,16 +126,15 @@ pub fn merge_terms(
         },
     };
     while 0 < h.len {
-        let s = runs::byte(h.seg[0]);
+        let s = h.seg[0] as usize;
         let cursor = cursors[s];
         let t = take_term(bytes, cursor, lengths, out_lengths, out_bytes, last);
-        let to = cursor[5];
-        map[to] = t.ordinal as u32;
+        map[cursor.to] = t.ordinal as u32;
         let at = TermPlace {
-            from: cursor[1],
-            pos: cursor[3] + 1,
-            end: cursor[4],
-            to: to + 1,
+            from: cursor.key.till,
+            pos: cursor.pos + 1,
+            end: cursor.end,
+            to: cursor.to + 1,
         };
         term_cursors::put_cursor(lengths, bytes, marks, all, at, cursors, s);
         let n = h.len;

@@ -1,41 +1,56 @@
 -- The laws of the scans and walks: what each says at the next element or record, and at the end. Assumes nothing.
-use Rattle.std.proofs.Common.{◌≡◌, ℕ, ◌+◌, ◌-◌, ◌<◌, ◌≤◌, Bool, true, false, ◌&&◌, ◌||◌, eqb, leb, List, [], ◌∷◌, map, length, get_or, take, drop, refl, zero-le, add-one, drop_of_length-le, drop-cons, eq-eqb, ne_eqb, le-leb}
+use Rattle.std.specs.declared.cmp.Ordering.TheVariants.{Less, Equal, Greater}
+use Rattle.std.proofs.lemmas.List.{get_or-map}
+use Rattle.std.proofs.lemmas.Map.Keys.{le_from_is_le}
+use lib.ListN.{length-map}
+use mathlib.Core.Bool.{false≢true}
+use borrow.Author.Tests.{ltb-false, eqb-false}
+use Rattle.std.proofs.Common.{ltb, cond, arith, sym, ◌≡◌, ℕ, ◌+◌, ◌-◌, ◌<◌, ◌≤◌, Bool, true, false, ◌&&◌, eqb, leb, List, [], ◌∷◌, map, length, get_or, take, drop, refl, add-one, drop_of_length-le, drop-cons, le-leb}
 use borrow.Author.Tests.{lt-leb}
-use Rattle.definitions.specs.Lists.{not_falling_from}
-use Rattle.definitions.specs.Segment.{SegmentRecord, record_words}
+use Rattle.std.specs.Prelude.{Some}
+use Rattle.std.specs.List.{IsAllAdjacentAnswer}
+use Rattle.std.specs.Ordering.{is_some_and, is_le, nat_cmp}
+use Rattle.lists.proofs.Tests.{true-T}
+use Rattle.definitions.proofs.Slices.{fall_step}
+use Prim.Native.Nat.{suc}
+use Rattle.definitions.specs.Lists.{not_falling, not_falling_from}
+use Rattle.definitions.specs.Segment.{record_words}
 use Rattle.definitions.specs.TimeOrder.{time_of}
 use Rattle.segment.specs.declared.Record.{Record}
 use Rattle.segment.specs.Records.{struct_of, record_in, records_of}
 use Rattle.segment.proofs.Walk.{records-end, records-step}
 use Rattle.time_checks.specs.Times.{singles_from, singles, times_rise, fits_times, times_from}
 use Rattle.lists.proofs.Parts.{part-is, rest-is}
-use Rattle.definitions.proofs.Lists.{or-holds}
 
 -- ---- times
 
--- the times from the one before on
-unfoldable pub rises_from : ℕ → List ℕ → Bool
-rises_from m values = not_falling_from m (map time_of values)
+risen : (m : ℕ) (ns : List ℕ) → ((k : ℕ) → suc k < length (m ∷ ns) → time_of (get_or (m ∷ ns) k 0) ≤ time_of (get_or (m ∷ ns) (suc k) 0)) → not_falling_from (time_of m) (map time_of ns) ≡ true
+risen m [] f = refl
+risen m (n ∷ ns) f = rw (le-leb (time_of m) (time_of n) (f 0 (omega arith))) (risen n ns (λ k l. f (suc k) (omega arith)))
 
-pub rises_start : (values : List ℕ) → rises_from 0 values ≡ times_rise values
-unfolding rises_from times_rise
-rises_start [] = refl
-rises_start (v ∷ vs) = rw (le-leb 0 (time_of v) zero-le)
+above : (a b : ℕ) → is_le (nat_cmp a b) ≡ false → b < a
+above a b = go (ltb a b) (eqb a b) refl refl
+  where
+    go : (t u : Bool) → ltb a b ≡ t → eqb a b ≡ u → is_le (cond t Less (cond u Equal Greater)) ≡ false → b < a
+    go true u p q e = absurd (false≢true (sym e))
+    go false true p q e = absurd (false≢true (sym e))
+    go false false p q e = let l = ltb-false a b p in let n = eqb-false a b q in omega arith
 
-module _ (m t : ℕ) (values : List ℕ) (i : ℕ) (h : i < length values) (e : t ≡ time_of (get_or values i 0)) where
-  rises_step : rises_from m (drop i values) ≡ leb m t && rises_from t (drop (i + 1) values)
-  unfolding rises_from
-  rises_step = rw (e, add-one i, drop-cons values i 0 h)
-
-  pub rises-low : t < m → false ≡ rises_from m (drop i values)
-  rises-low k = rw (rises_step, lt-leb m t k)
-
-  pub rises_next : m ≤ t → rises_from t (drop (i + 1) values) ≡ rises_from m (drop i values)
-  rises_next k = rw (rises_step, le-leb m t k)
-
-pub rises-end : (m : ℕ) (values : List ℕ) (i : ℕ) → length values ≤ i → true ≡ rises_from m (drop i values)
-unfolding rises_from
-rises-end m values i h = rw (drop_of_length-le values h)
+-- what the comparison of neighbours answers
+pub neighbours : (values : List ℕ) (r : Bool) → IsAllAdjacentAnswer (λ x y b. b ≡ is_some_and is_le (Some (nat_cmp (time_of x) (time_of y)))) values r → r ≡ times_rise values
+unfolding times_rise
+neighbours [] true h = refl
+neighbours (v ∷ vs) true h = sym (risen v vs (λ k l. le_from_is_le (time_of (get_or (v ∷ vs) k 0)) (time_of (get_or (v ∷ vs) (suc k) 0)) (rw add-one at (sym (h k 0 (omega arith))))))
+neighbours values false h = go (not_falling (map time_of values)) refl
+  where
+    go : (b : Bool) → not_falling (map time_of values) ≡ b → false ≡ b
+    go false e = refl
+    go true e =
+        let i : suc h.0 < length values = omega (arith, h.1) in
+        let s = fall_step (map time_of values) h.0 (true-T (not_falling (map time_of values)) e) (omega (arith, length-map values time_of)) in
+        let p = get_or-map time_of values h.0 0 0 (omega arith) in
+        let q = get_or-map time_of values (suc h.0) 0 0 i in
+        absurd (let f = above (time_of (get_or values h.0 0)) (time_of (get_or values (suc h.0) 0)) (rw add-one at (sym (h.2 0))) in omega arith)
 
 -- ---- offsets
 
@@ -72,24 +87,3 @@ module _ (records : List (List ℕ)) (s : ℕ) (h : s < length records) {r : Rec
   unfolding times_from
   times_step offsets values o o' v v' p q =
       rw (part-is r.offsets o o' offsets p, part-is (record_words (record_in r)) v v' values q, rest-is r.offsets o o' offsets p, rest-is (record_words (record_in r)) v v' values q, records-step records s h e)
-
--- ---- one segment
-
-module _ (r : SegmentRecord) (offsets values : List ℕ) where
-  pub type-none : (r.type ≡ 255) → eqb r.type 255 || eqb r.type 7 ≡ true
-  type-none e = rw (eq-eqb r.type 255 e)
-
-  pub type_time : eqb r.type 7 ≡ true → eqb r.type 255 || eqb r.type 7 ≡ true
-  type_time e = or-holds (eqb r.type 255) (eqb r.type 7) e
-
-  pub times-type : (r.type ≡ 255 → ⊥) → eqb r.type 7 ≡ false → false ≡ fits_times r offsets values
-  unfolding fits_times
-  times-type d e = rw (ne_eqb r.type 255 d, e)
-
-  pub times-several : eqb r.type 255 || eqb r.type 7 ≡ true → singles offsets ≡ false → false ≡ fits_times r offsets values
-  unfolding fits_times
-  times-several t e = rw (t, e)
-
-  pub times_are : eqb r.type 255 || eqb r.type 7 ≡ true → singles offsets ≡ true → times_rise values ≡ fits_times r offsets values
-  unfolding fits_times
-  times_are t e = rw (t, e)

@@ -1,5 +1,5 @@
 -- The answers of the time order as the code finds them are the definitions' own. Assumes nothing.
-use Rattle.std.proofs.Common.{◌≡◌, ℕ, ◌<◌, ◌≤◌, Bool, true, false, not, ◌&&◌, ◌||◌, T, eqb, ltb, List, [], ◌∷◌, map, length, take, drop, sym, refl, ap, ◌∙◌, ap₂, arith, le-ltb, lt-ltb}
+use Rattle.std.proofs.Common.{◌≡◌, ℕ, Bool, true, false, not, ◌&&◌, ◌||◌, T, eqb, ltb, List, [], ◌∷◌, map, length, take, drop, sym, refl, ap, ◌∙◌, ap₂, arith}
 use mathlib.Core.Bool.{or-false}
 use lib.Ieee.Fits.{and_l, and_r}
 use Rattle.definitions.specs.Lists.{all, any, up_to, not_falling}
@@ -7,18 +7,20 @@ use Rattle.definitions.specs.Words.{values_in}
 use Rattle.definitions.specs.Segment.{Segment, SegmentRecord, Sections, Input, record_words, first_segment, after_first, segments_from, segments_of}
 use Rattle.definitions.specs.Row.{row_values, is_present, no_type}
 use Rattle.definitions.specs.Types.{is_known_type, DateTime}
-use Rattle.definitions.specs.Checks.{Check, first_of, Passed}
+use Rattle.definitions.specs.Checks.{Check, check, first_of, Passed}
 use Rattle.definitions.specs.Answer.{total, segment_codes_wrong, codes_wrong, alive_wrong, index_fits, alive_set_wrong, alive_addresses, segment_checks, plain_checks, checks_to_seven}
 use Rattle.definitions.specs.TimeOrder.{TimeInput, time_of, times_wrong, time_own_checks, time_checks, time_answer}
 use Rattle.definitions.proofs.Words.{unseen}
 use Rattle.definitions.proofs.Accept.{index-fits}
 use Rattle.definitions.proofs.Checks.{first_stays, first-passed, all-passed, passes}
+use Rattle.refusal.specs.declared.Refusal.{Refusal}
+use Rattle.refusal.specs.Number.{number_of}
+use Rattle.refusal.proofs.Number.{number_not-zero}
 use Rattle.segment.specs.Lent.{working_only}
 use Rattle.sections_fit.proofs.Seven.{Ready, ready}
 use Rattle.definitions.proofs.AliveNumber.{total-number}
 use Rattle.time_checks.specs.Times.{singles, times_rise, fits_times, times_from, alive_of}
 use Rattle.time_checks.proofs.Several.{several}
-use Rattle.lists.proofs.Tests.{taken, other}
 
 -- ---- up to 7
 
@@ -76,43 +78,23 @@ module _ (i : TimeInput) where
   abbrev plain : List Check
   plain = plain_checks i.records i.sections
 
-  pub stopped : (first_of (checks_to_seven (as_ordered i)) ≡ 0 → ⊥) → first_of (checks_to_seven (as_ordered i)) ≡ time_answer i
+  pub stopped : (f : Refusal) → number_of f ≡ first_of (checks_to_seven (as_ordered i)) → number_of f ≡ time_answer i
   unfolding time_answer time_checks
-  stopped d = let e = ap first_of (plain_seven i) in e ∙ first_stays plain (first_of (time_own_checks i)) (λ z. d (e ∙ z))
+  stopped f e =
+      let p : number_of f ≡ first_of plain = e ∙ ap first_of (plain_seven i) in
+      p ∙ first_stays plain (first_of (time_own_checks i)) (λ z. number_not-zero f (p ∙ z))
 
-  module _ (e : first_of (checks_to_seven (as_ordered i)) ≡ 0) where
-    pub passed : Passed (plain_checks i.records i.sections)
-    passed = (all-passed plain 0 tt (sym (ap first_of (plain_seven i)) ∙ e)).0
+  module _ (e : 0 ≡ first_of (checks_to_seven (as_ordered i))) where
+    passed : Passed (plain_checks i.records i.sections)
+    passed = (all-passed plain 0 tt (sym (e ∙ ap first_of (plain_seven i)))).0
 
     pub first-ready : Ready i.records i.sections
     first-ready = ready i.records i.sections passed
 
-    later : time_answer i ≡ first_of (time_own_checks i)
-    unfolding time_answer time_checks
-    later = first-passed plain (first_of (time_own_checks i)) passed
-
     number_is : total alive_of i.records ≡ length (alive_addresses (segments_from i.records i.sections))
     number_is = total-number i.records i.sections (omega (arith, first-ready.exact.alive)) (passes passed 6)
 
-    times-is : times_wrong (segments_from i.records i.sections) ≡ not (times_from i.records i.sections.offsets i.sections.values)
-    times-is = times-all i.records i.sections (index-fits i.records i.sections passed)
-
-    module _ {n : ℕ} (m : n ≡ total alive_of i.records) where
-      alive-is-n : length (alive_addresses (segments_from i.records i.sections)) ≡ n
-      alive-is-n = sym (m ∙ number_is)
-
-      pub too_short : i.space < n → 11 ≡ time_answer i
-      too_short h = taken 11 _ (lt-ltb i.space (length (alive_addresses (segments_from i.records i.sections))) (rw alive-is-n h)) ∙ sym later
-
-      module _ (h : n ≤ i.space) {b : Bool} (t : b ≡ times_from i.records i.sections.offsets i.sections.values) where
-        fits : ltb i.space (length (alive_addresses (segments_from i.records i.sections))) ≡ false
-        fits = le-ltb i.space (length (alive_addresses (segments_from i.records i.sections))) (rw alive-is-n h)
-
-        wrong : times_wrong (segments_from i.records i.sections) ≡ not b
-        wrong = times-is ∙ ap not (sym t)
-
-        pub unfit_times : not b ≡ true → 12 ≡ time_answer i
-        unfit_times k = other 11 fits (taken 12 0 (wrong ∙ k)) ∙ sym later
-
-        pub accepted : not b ≡ false → 0 ≡ time_answer i
-        accepted k = other 11 fits (other 12 (wrong ∙ k) refl) ∙ sym later
+    -- 11 and 12 as the code asks them
+    pub later : time_answer i ≡ first_of (check 11 (ltb i.space (total alive_of i.records)) ∷ check 12 (not (times_from i.records i.sections.offsets i.sections.values)) ∷ [])
+    unfolding time_answer time_checks
+    later = first-passed plain (first_of (time_own_checks i)) passed ∙ rw (number_is, times-all i.records i.sections (index-fits i.records i.sections passed))

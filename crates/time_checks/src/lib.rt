@@ -5,9 +5,12 @@
 ghost use Rattle.std.specs.Prelude.{◌≡◌, ◌<◌, ◌≤◌, length};
 ghost use Rattle.definitions.specs.Answer.{total};
 ghost use Rattle.definitions.specs.TimeOrder.{time_of, time_answer};
+ghost use Rattle.refusal.specs.Number.{answer_number};
 ghost use Rattle.segment.specs.Records.{record_in, records_of};
 ghost use Rattle.time_checks.specs.Times.{singles, times_rise, fits_times, times_from, HoldsTimes, alive_of};
-ghost use Rattle.time_checks.specs.Lent.{lent_times};
+ghost use Rattle.time_checks.specs.Lent.{times_in};
+
+use refusal::Refusal;
 
 // ---- 12
 
@@ -15,74 +18,53 @@ ghost use Rattle.time_checks.specs.Lent.{lent_times};
 pub fn time_of(word: u64) -> u64
     ensures { result ≡ time_of word }
 {
-    std::num::wrapping_add_u64(word, 9223372036854775808)
+    word.wrapping_add(1 << 63)
 }
 
 // Whether no time is below the one before it.
 fn times_rise(values: &[u64]) -> bool
     ensures { result ≡ times_rise values.now }
 {
-    let mut last: u64 = 0;
-    let mut i: usize = 0;
-    while i < values.len() {
-        let t = time_of(values[i]);
-        if t < last {
-            return false;
-        }
-        last = t;
-        i += 1;
-    }
-    true
+    values.is_sorted_by_key(|&word| time_of(word))
 }
 
 // Whether no row has several values; offsets begin with 0.
 fn single_values(offsets: &[u32]) -> bool
     ensures { result ≡ singles offsets.now }
 {
-    let mut last: usize = 0;
-    let mut i: usize = 0;
-    while i < offsets.len() {
-        let n = segment::wide(offsets[i]);
-        if last + 1 < n {
+    let mut last: u32 = 0;
+    for &n in offsets {
+        if n.saturating_sub(last) > 1 {
             return false;
         }
         last = n;
-        i += 1;
     }
     true
 }
 
 // Whether a segment has no column, or one of times that don't fall, at most one in a row; withdrawn rows count.
+#[tactic(auto, unfolding(crate::specs::Times::fits_times))]
 fn times_fit(r: segment::Record, offsets: &[u32], values: &[u64]) -> bool
     ensures { result ≡ fits_times (record_in r) offsets.now values.now }
 {
-    let t = r.typ;
-    if t != 255 && t != 7 {
-        return false;
-    }
-    if !single_values(offsets) {
-        return false;
-    }
-    times_rise(values)
+    (r.typ == 255 || r.typ == 7) && single_values(offsets) && times_rise(values)
 }
 
 fn all_times_fit(records: &[segment::RecordNumbers], offsets: &[u32], values: &[u64]) -> bool
     requires { HoldsTimes (records_of records.now) offsets.now values.now }
     ensures { result ≡ times_from (records_of records.now) offsets.now values.now }
 {
-    let mut s: usize = 0;
     let mut o: usize = 0;
     let mut v: usize = 0;
-    while s < records.len() {
-        let r = segment::record_at(records, s);
-        let o_end = o + segment::wide(r.offsets);
+    for &numbers in records {
+        let r = segment::Record::from(numbers);
+        let o_end = o + r.offsets as usize;
         let v_end = v + segment::value_words(r);
         if !times_fit(r, &offsets[o..o_end], &values[v..v_end]) {
             return false;
         }
         o = o_end;
         v = v_end;
-        s += 1;
     }
     true
 }
@@ -95,41 +77,28 @@ fn all_alive(records: &[segment::RecordNumbers]) -> usize
     ensures { result ≡ total alive_of (records_of records.now) }
 {
     let mut n: usize = 0;
-    let mut s: usize = 0;
-    while s < records.len() {
-        let r = segment::record_at(records, s);
-        n += segment::wide(r.alive);
-        s += 1;
+    for &numbers in records {
+        n += segment::Record::from(numbers).alive as usize;
     }
     n
 }
 
 // ---- the answers
 
-// The first of the checks up to 7, 11 and 12 that fails, or 0; the output has place for so many addresses.
+// The first of the checks up to 7, 11 and 12 that fails; the output has place for so many addresses.
 pub fn answer(
     records: &[segment::RecordNumbers],
-    ids: &[u32],
-    offsets: &[u32],
-    values: &[u64],
-    lengths: &[u32],
-    bytes: &[u8],
-    alive: &[u64],
+    sections: &segment::Sections,
     space: usize,
-) -> u32
-    ensures { result ≡ time_answer (lent_times records.now ids.now offsets.now values.now lengths.now bytes.now alive.now space) }
+) -> Result<(), Refusal>
+    ensures { answer_number result ≡ time_answer (times_in records.now sections.now space) }
 {
-    let first = sections_fit::first_to_seven(
-        1, 255, records, ids, offsets, values, lengths, bytes, alive,
-    );
-    if first != 0 {
-        return first;
-    }
+    sections_fit::first_to_seven(1, 255, records, sections)?;
     if space < all_alive(records) {
-        return 11;
+        return Err(Refusal::OutputSpace);
     }
-    if !all_times_fit(records, offsets, values) {
-        return 12;
+    if !all_times_fit(records, sections.offsets, sections.values) {
+        return Err(Refusal::Times);
     }
-    0
+    Ok(())
 }

@@ -173,12 +173,14 @@ times_zero kind ids = rw (none_below ids) (go (eqb kind 0) (eqb kind 1) (eqb kin
 
 -- ---- the cursor
 
-pub key-none : (values : List ℕ) (n row rows : ℕ) → length values ≡ 0 → 0 ∷ 0 ∷ 0 ∷ row ∷ rows ∷ n ∷ 0 ∷ 0 ∷ [] ≡ key_cursor (last_key values n) row rows n
+pub key-none : (values : List ℕ) (n row rows : ℕ) → length values ≡ 0
+    → record { key = record { from = 0; till = 0; first = 0; second = 0 }; unmarked = 0; pos = row; end = rows; to = n } ≡ key_cursor (last_key values n) row rows n
 unfolding key_cursor
 key-none [] n row rows e = refl
 key-none (v ∷ vs) n row rows e = absurd (omega arith)
 
-pub key_time : (values : List ℕ) (n row rows t : ℕ) → (length values ≡ 0 → ⊥) → t ≡ time_of (get_or values (n - 1) 0) → 0 ∷ 0 ∷ 0 ∷ row ∷ rows ∷ n ∷ 1 ∷ t ∷ [] ≡ key_cursor (last_key values n) row rows n
+pub key_time : (values : List ℕ) (n row rows t : ℕ) → (length values ≡ 0 → ⊥) → t ≡ time_of (get_or values (n - 1) 0)
+    → record { key = record { from = 0; till = 0; first = 1; second = t }; unmarked = 0; pos = row; end = rows; to = n } ≡ key_cursor (last_key values n) row rows n
 unfolding key_cursor
 key_time [] n row rows t d e = absurd (d refl)
-key_time (v ∷ vs) n row rows t d e = ap (λ (x : ℕ). 0 ∷ 0 ∷ 0 ∷ row ∷ rows ∷ n ∷ 1 ∷ x ∷ []) e
+key_time (v ∷ vs) n row rows t d e = ap (λ (x : ℕ). key_cursor (suc x) row rows n) e

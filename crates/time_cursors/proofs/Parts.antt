@@ -2,13 +2,14 @@
 use Prim.Native.Nat.{ℕ, suc, ◌-◌, ◌*◌, ◌≤◌, ◌<◌}
 use native.Mathlib.Omega.{arith}
 use mathlib.Core.Path.{◌≡◌, sym, ◌∙◌}
-use mathlib.Core.List.{List, [], ◌∷◌}
+use mathlib.Core.List.{List}
 use lib.ListN.{length}
 use borrow.Author.Tests.{lt-ltb, le-ltb}
 use Rattle.column_index.specs.Lookup.{rank_in}
 use Rattle.column_index.proofs.Sound.{earlier_le}
 use Rattle.stands.specs.declared.Stand.{Stand}
 use Rattle.stands.specs.Look.{ids_at, values_at, alive_set_at}
+use Rattle.term_merger.specs.Order.{no_cursor}
 use Rattle.time_cursors.specs.Cursors.{alive_bit, next_row, times_before, last_key, key_cursor, cursor_at, first_from, segment_in, TimesAt, Timed, Left}
 use Rattle.time_cursors.proofs.Laws.{seek-low, seek-high, rank_grows, times-listed, times_earlier, times-kind}
 use Rattle.lists.proofs.Parts.{run_length}
@@ -33,7 +34,7 @@ module _ {p : Stand} {ids values alive : List ℕ} (t : Timed p ids values alive
     from-before : from ≤ n
     from-before = rw e (next_low p.flag (alive_set_at p alive) p.rows from)
 
-    pub cursor-none : p.rows ≤ n → 0 ∷ 0 ∷ 0 ∷ p.rows ∷ p.rows ∷ 0 ∷ 0 ∷ 0 ∷ [] ≡ first_from (segment_in p ids values alive) from
+    pub cursor-none : p.rows ≤ n → record no_cursor { pos = p.rows; end = p.rows } ≡ first_from (segment_in p ids values alive) from
     unfolding first_from cursor_at key_cursor segment_in
     cursor-none h = rw (sym e, le-ltb n p.rows h)
 

@@ -6,6 +6,7 @@ use Rattle.segment.specs.Kind.{by_index}
 use Rattle.definitions.specs.Row.{bit_at}
 use Rattle.definitions.specs.TimeOrder.{time_of}
 use Rattle.column_index.specs.Lookup.{rank_in, Sound}
+use Rattle.term_merger.specs.declared.Cursor.{Cursor}
 use Rattle.stands.specs.declared.Stand.{Stand}
 use Rattle.stands.specs.Stand.{many, Lies}
 use Rattle.stands.specs.Look.{ids_at, values_at, alive_set_at}
@@ -35,16 +36,16 @@ abbrev pub last_key : List ℕ → ℕ → ℕ
 last_key [] n = 0
 last_key (v ∷ vs) n = suc (time_of (get_or (v ∷ vs) (n - 1) 0))
 
--- ---- the cursor: eight numbers
--- 0 to 2: an empty term, and no tie before the segment's number; 3 and 4: the row, and the number of rows; 5: how many times stand up to the row's end
--- 6 and 7, the key: 0 before all times, else 1; the time in the order of two's complement
+-- ---- the cursor
+-- an empty term, and no tie before the segment's number; the row, and the number of rows; how many times stand up to the row's end
+-- the key's words: 0 before all times, else 1; the time in the order of two's complement
 
-unfoldable pub key_cursor : ℕ → ℕ → ℕ → ℕ → List ℕ
-key_cursor zero row rows k = 0 ∷ 0 ∷ 0 ∷ row ∷ rows ∷ k ∷ 0 ∷ 0 ∷ []
-key_cursor (suc t) row rows k = 0 ∷ 0 ∷ 0 ∷ row ∷ rows ∷ k ∷ 1 ∷ t ∷ []
+unfoldable pub key_cursor : ℕ → ℕ → ℕ → ℕ → Cursor
+key_cursor zero row rows k = record { key = record { from = 0; till = 0; first = 0; second = 0 }; unmarked = 0; pos = row; end = rows; to = k }
+key_cursor (suc t) row rows k = record { key = record { from = 0; till = 0; first = 1; second = t }; unmarked = 0; pos = row; end = rows; to = k }
 
 -- of a row of the segment; no row is left at the number of rows
-unfoldable pub cursor_at : Segment → ℕ → List ℕ
+unfoldable pub cursor_at : Segment → ℕ → Cursor
 unfolding key_cursor times_before
 cursor_at s n =
     cond (ltb n s.rows)
@@ -52,7 +53,7 @@ cursor_at s n =
     (key_cursor 0 s.rows s.rows 0)
 
 -- of the first alive row from the given one on
-unfoldable pub first_from : Segment → ℕ → List ℕ
+unfoldable pub first_from : Segment → ℕ → Cursor
 unfolding cursor_at next_row
 first_from s from = cursor_at s (next_row s.flag s.alive s.rows from)
 

@@ -9,16 +9,14 @@ ghost use Rattle.column_index.specs.Lookup.{rank_in};
 ghost use Rattle.time_cursors.specs.Cursors.{alive_bit, next_row, times_before, last_key, key_cursor, first_from, segment_in, Timed, Left};
 
 use term_merger::Cursor;
+use term_order::Key;
 
 // Whether the row is alive; all are where there is no alive set.
 pub fn is_listed(flag: usize, alive: &[u64], row: usize) -> bool
     requires { flag ≡ 1 → row < 64 * length alive.now }
     ensures { result ≡ alive_bit flag alive.now row }
 {
-    if flag != 1 {
-        return true;
-    }
-    alive_set::is_alive(alive, row)
+    flag != 1 || alive_set::is_alive(alive, row)
 }
 
 // 1 for an alive row, else 0: no branch, which could not be foreseen.
@@ -27,8 +25,7 @@ pub fn one_if_listed(flag: usize, alive: &[u64], row: usize) -> usize
     ensures value { result ≡ cond (alive_bit flag alive.now row) 1 0 }
     ensures upper_bound { result ≤ 1 }
 {
-    let b = is_listed(flag, alive, row);
-    b as usize
+    is_listed(flag, alive, row) as usize
 }
 
 // The first alive row from the given one on, or the number of rows.
@@ -40,14 +37,12 @@ fn next_alive(flag: usize, alive: &[u64], rows: usize, from: usize) -> usize
     if flag != 1 {
         return from;
     }
-    let mut n = from;
-    while n < rows {
+    for n in from..rows {
         if alive_set::is_alive(alive, n) {
             return n;
         }
-        n += 1;
     }
-    n
+    rows
 }
 
 // How many ids are at most the row; the first k are.
@@ -56,14 +51,12 @@ fn ids_until(ids: &[u32], row: usize, k: usize) -> usize
     requires k_bound { k ≤ rank_in (suc row) ids.now }
     ensures { result ≡ rank_in (suc row) ids.now }
 {
-    let mut n = k;
-    while n < ids.len() {
-        if row < segment::wide(ids[n]) {
+    for n in k..ids.len() {
+        if row < ids[n] as usize {
             return n;
         }
-        n += 1;
     }
-    n
+    ids.len()
 }
 
 // How many times stand up to the row's end; k stand before a row that is not after it.
@@ -73,23 +66,11 @@ fn times_until(kind: usize, ids: &[u32], row: usize, k: usize) -> usize
     requires k_bound { (kind ≡ 0 → ⊥) → (kind ≡ 1 → ⊥) → k ≤ rank_in (suc row) ids.now }
     ensures { result ≡ times_before kind ids.now (suc row) }
 {
-    if kind == 0 {
-        return 0;
+    match kind {
+        0 => 0,
+        1 => row + 1,
+        _ => ids_until(ids, row, k),
     }
-    if kind == 1 {
-        return row + 1;
-    }
-    ids_until(ids, row, k)
-}
-
-// Where the last of n times stands, else the first one: untimed rows at a segment's start go with it (02, (e)).
-fn last_of(n: usize) -> usize
-    ensures { result ≡ n - 1 }
-{
-    if n == 0 {
-        return 0;
-    }
-    n - 1
 }
 
 // The cursor at a row with n times up to its end.
@@ -97,11 +78,24 @@ fn key_cursor(values: &[u64], n: usize, row: usize, rows: usize) -> Cursor
     requires { n ≤ length values.now }
     ensures { result ≡ key_cursor (last_key values.now n) row rows n }
 {
-    if values.len() == 0 {
-        return [0, 0, 0, row, rows, n, 0, 0];
+    let key = if values.is_empty() {
+        Cursor::NONE.key
+    } else {
+        // untimed rows at a segment's start go with the first time (02, (e))
+        let t = time_checks::time_of(values[n.saturating_sub(1)]);
+        Key {
+            first: 1,
+            second: t as usize,
+            ..Cursor::NONE.key
+        }
+    };
+    Cursor {
+        key,
+        unmarked: 0,
+        pos: row,
+        end: rows,
+        to: n,
     }
-    let t = time_checks::time_of(values[last_of(n)]);
-    [0, 0, 0, row, rows, n, 1, t as usize]
 }
 
 // The cursor at the first alive row from the given one on; k times stand before it.
@@ -117,16 +111,14 @@ pub fn first_from(
     requires left { Left p ids.now from k }
     ensures { result ≡ first_from (segment_in p ids.now values.now alive.now) from }
 {
-    let a = p.alive.from;
-    let b = p.alive.to;
-    let n = next_alive(p.flag, &alive[a..b], p.rows, from);
+    let n = next_alive(p.flag, &alive[p.alive.from..p.alive.to], p.rows, from);
     if p.rows <= n {
-        return [0, 0, 0, p.rows, p.rows, 0, 0, 0];
+        return Cursor {
+            pos: p.rows,
+            end: p.rows,
+            ..Cursor::NONE
+        };
     }
-    let c = p.ids.from;
-    let d = p.ids.to;
-    let m = times_until(p.kind, &ids[c..d], n, k);
-    let e = p.values.from;
-    let f = p.values.to;
-    key_cursor(&values[e..f], m, n, p.rows)
+    let m = times_until(p.kind, &ids[p.ids.from..p.ids.to], n, k);
+    key_cursor(&values[p.values.from..p.values.to], m, n, p.rows)
 }

@@ -1,4 +1,4 @@
--- What an answer of 0 gives to the merge, and what the merge gives to the outcome. Assumes nothing.
+-- What acceptance gives to the merge, and what the merge gives to the outcome. Assumes nothing.
 use Prim.Native.Nat.{ℕ, suc, ◌≤◌, ◌<◌, suc-le-suc}
 use native.Mathlib.Omega.{arith}
 use mathlib.Core.Path.{◌≡◌, refl, sym, ap, ◌∙◌, subst}
@@ -57,10 +57,10 @@ module _ (records : List (List ℕ)) (ids offsets values lengths bytes alive : L
   abbrev here : ℕ → Segment
   here k = placed (stands_in records) ids values alive k
 
-  module _ (zero-answer : time_answer (lent_times records ids offsets values lengths bytes alive space) ≡ 0) where
+  module _ (zero-answer : 0 ≡ time_answer (lent_times records ids offsets values lengths bytes alive space)) where
     passed : Passed (time_checks input)
     unfolding time_answer time_checks
-    passed = (all-passed (time_checks input) 0 tt zero-answer).0
+    passed = (all-passed (time_checks input) 0 tt (sym zero-answer)).0
 
     plain : Passed (plain_checks (records_of records) (sections_in ids offsets values lengths bytes alive))
     unfolding time_checks

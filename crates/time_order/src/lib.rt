@@ -4,16 +4,12 @@
 ghost use Rattle.std.specs.Prelude.{◌≡◌, length};
 ghost use Rattle.definitions.specs.TimeOrder.{time_order, time_outcome};
 ghost use Rattle.segment.specs.Lent.{addresses_of};
-ghost use Rattle.time_checks.specs.Lent.{lent_times};
+ghost use Rattle.time_checks.specs.Lent.{times_in};
 ghost use Rattle.stands.specs.Stand.{stands_in};
 ghost use Rattle.time_merge.specs.Order.{placed_segments, time_written, Ready, Rising};
 ghost use Rattle.time_order.specs.Outcome.{outcome_of, output_of};
 
-#[derive(Clone, Copy)]
-pub enum TimeAnswer {
-    Sorted(usize),
-    Refused(u32),
-}
+use refusal::Refusal;
 
 // The time order of segments that have passed the checks.
 fn order_rows(
@@ -48,33 +44,15 @@ fn order_rows(
     )
 }
 
-// The alive rows of segments of times, sorted by key, segment and row, as addresses (segment, row) from the start of the output.
+// The alive rows of segments of times, sorted by key, segment and row, as addresses (segment, row) from the start of the output; how many they are, or the first check that fails.
 pub fn time_order(
     records: &[segment::RecordNumbers],
-    ids: &[u32],
-    offsets: &[u32],
-    values: &[u64],
-    lengths: &[u32],
-    bytes: &[u8],
-    alive: &[u64],
+    sections: &segment::Sections,
     out: &mut [[u32; 2]],
-) -> TimeAnswer
-    ensures out_after { outcome_of result out.new ≡ time_outcome (lent_times records.now ids.now offsets.now values.now lengths.now bytes.now alive.now (length out.old)) (addresses_of out.old) }
-    ensures out_after_2 { out.new ≡ output_of (lent_times records.now ids.now offsets.now values.now lengths.now bytes.now alive.now (length out.old)) out.old }
+) -> Result<usize, Refusal>
+    ensures out_after { outcome_of result out.new ≡ time_outcome (times_in records.now sections.now (length out.old)) (addresses_of out.old) }
+    ensures out_after_2 { out.new ≡ output_of (times_in records.now sections.now (length out.old)) out.old }
 {
-    let k = time_checks::answer(
-        records,
-        ids,
-        offsets,
-        values,
-        lengths,
-        bytes,
-        alive,
-        out.len(),
-    );
-    if k != 0 {
-        return TimeAnswer::Refused(k);
-    }
-    let n = order_rows(records, ids, values, alive, out);
-    TimeAnswer::Sorted(n)
+    time_checks::answer(records, sections, out.len())?;
+    Ok(order_rows(records, sections.ids, sections.values, sections.alive, out))
 }

@@ -2,11 +2,13 @@
 // made. All numbers are hexadecimal.
 #![tactic(auto)]
 
-use time_order::TimeAnswer;
+use case_text::Reader;
+use refusal::Refusal;
+use segment::Sections;
 
 fn show_number(n: u32) {
     io::write_all(1, b" ");
-    io::print_hex(1, segment::wide(n) as u64, 1);
+    io::print_hex(1, u64::from(n), 1);
 }
 
 fn end_line() {
@@ -14,30 +16,28 @@ fn end_line() {
 }
 
 fn show_pairs(out: &[[u32; 2]]) {
-    let mut i: usize = 0;
-    while i < out.len() {
-        let p = out[i];
-        show_number(p[0]);
-        show_number(p[1]);
-        i += 1;
+    for &[segment, row] in out {
+        show_number(segment);
+        show_number(row);
     }
 }
 
-fn show_answer(answer: TimeAnswer) {
+fn show_answer(answer: Result<usize, Refusal>) {
     match answer {
-        TimeAnswer::Sorted(n) => {
+        Ok(n) => {
             io::write_all(1, b"0 ");
             io::print_hex(1, n as u64, 1);
         }
-        TimeAnswer::Refused(k) => {
-            io::print_hex(1, segment::wide(k) as u64, 1);
+        Err(refusal) => {
+            let number = u32::from(refusal);
+            io::print_hex(1, u64::from(number), 1);
             io::write_all(1, b" 0");
         }
     }
 }
 
-// Reads a case, prints its answer and the whole output, and gives the place behind it.
-fn show_case(text: &[u8], from: usize) -> usize {
+// Reads a case, and prints its answer and the whole output.
+fn show_case(reader: &mut Reader) {
     let mut records = [[0u32; segment::WIDTH]; 260];
     let mut ids = [0u32; 80];
     let mut offsets = [0u32; 80];
@@ -45,49 +45,34 @@ fn show_case(text: &[u8], from: usize) -> usize {
     let mut lengths = [0u32; 8];
     let mut bytes = [0u8; 8];
     let mut alive = [0u64; 16];
-    let mut out = [[4294967295u32; 2]; 96];
-    let r = case_text::read_records(text, from, &mut records);
-    let i = case_text::read_numbers(text, r.at, &mut ids);
-    let o = case_text::read_numbers(text, i.at, &mut offsets);
-    let v = case_text::read_words(text, o.at, &mut values);
-    let l = case_text::read_numbers(text, v.at, &mut lengths);
-    let b = case_text::read_bytes(text, l.at, &mut bytes);
-    let a = case_text::read_words(text, b.at, &mut alive);
-    let s = case_text::number(text, a.at);
-    let space = case_text::capped(s.value, 96);
-    let rc = r.count;
-    let ic = i.count;
-    let oc = o.count;
-    let vc = v.count;
-    let lc = l.count;
-    let bc = b.count;
-    let ac = a.count;
-    let answer = time_order::time_order(
-        &records[..rc],
-        &ids[..ic],
-        &offsets[..oc],
-        &values[..vc],
-        &lengths[..lc],
-        &bytes[..bc],
-        &alive[..ac],
-        &mut out[..space],
-    );
+    let mut out = [[u32::MAX; 2]; 96];
+    let rc = reader.list(&mut records);
+    let ic = reader.list(&mut ids);
+    let oc = reader.list(&mut offsets);
+    let vc = reader.list(&mut values);
+    let lc = reader.list(&mut lengths);
+    let bc = reader.list(&mut bytes);
+    let ac = reader.list(&mut alive);
+    let space = reader.count(96);
+    let sections = Sections {
+        ids: &ids[..ic],
+        offsets: &offsets[..oc],
+        values: &values[..vc],
+        lengths: &lengths[..lc],
+        bytes: &bytes[..bc],
+        alive: &alive[..ac],
+    };
+    let answer = time_order::time_order(&records[..rc], &sections, &mut out[..space]);
     show_answer(answer);
     show_pairs(&out[..space]);
     end_line();
-    s.at
 }
 
 fn main() {
     let mut buf = [0u8; 131072];
     let n = io::read_full(0, &mut buf);
-    let text = &buf[..n];
-    let c = case_text::number(text, 0);
-    let cases = case_text::capped(c.value, 4096);
-    let mut at = c.at;
-    let mut k: usize = 0;
-    while k < cases {
-        at = show_case(text, at);
-        k += 1;
+    let mut reader = Reader { rest: &buf[..n] };
+    for _ in 0..reader.count(4096) {
+        show_case(&mut reader);
     }
 }

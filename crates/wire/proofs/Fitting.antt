@@ -2,10 +2,10 @@
 use mathlib.Core.Path.{◌≡◌, refl, sym, ap, ap₂, ◌∙◌}
 use mathlib.Core.List.{List, [], ◌∷◌, map}
 use mathlib.Core.Bool.{Bool, true, false, ◌&&◌, cond, not}
-use Prim.Native.Nat.{ℕ, ◌/◌, ◌%◌, ◌≤◌, ◌<◌}
+use Prim.Native.Nat.{ℕ, ◌/◌, ◌≤◌, ◌<◌}
 use native.Mathlib.Omega.{arith}
-use borrow.Author.Tests.{eqb-true, leb-true, not-false}
-use lib.Dec.{eqb, leb}
+use borrow.Author.Tests.{eqb-true, not-false}
+use lib.Dec.{eqb}
 use lib.ListN.{length, get_or, take}
 use Rattle.definitions.specs.Segment.{SegmentRecord, record_from, record_width}
 use Rattle.segment.specs.Records.{row_of, records_of}
@@ -19,6 +19,7 @@ use Rattle.wire.proofs.Sections.{part_of, part-short, bounded, grouped-length}
 use Rattle.runs.proofs.Laws.{front-lent}
 use Rattle.lists.proofs.Tests.{both_true}
 use Rattle.wire.proofs.Words.{words-length}
+use Rattle.wire.proofs.Input.{whole-short}
 
 -- what words that fit have
 pub record Fitting (words : List ℕ) : Type 0 where
@@ -135,10 +136,6 @@ pub record Ready (l v b : List ℕ) : Type 0 where
   pub fitted : Fitted v b
   pub said : bytes_fit l ≡ true
   pub room : length l / 8 ≤ 8192
-
-whole-short : (l : List ℕ) → whole_words l ≡ true → length l ≤ 65536
-unfolding whole_words
-whole-short l h = leb-true (length l) 65536 (both_true (leb (length l) 65536) (eqb (length l % 8) 0) h).0
 
 pub ready : (l w w' b b' : List ℕ) (r : Bool) → r ≡ bytes_fit l → not r ≡ false → w' ≡ cond (whole_words l) (put 0 (words_of l) w) w → b' ≡ cond (whole_words l) (put 0 (bounds_of (words_of l)) b) b → 10 ≤ length b
     → Ready l (take (length l / 8) w') b'

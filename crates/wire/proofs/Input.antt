@@ -1,23 +1,21 @@
 -- The input as a whole. Assumes nothing.
-use mathlib.Core.Path.{◌≡◌}
+use mathlib.Core.Path.{◌≡◌, sym, ◌∙◌}
 use mathlib.Core.List.{List}
-use mathlib.Core.Bool.{Bool, true, false}
-use Prim.Native.Nat.{ℕ, ◌%◌, ◌≤◌, ◌<◌}
-use borrow.Author.Tests.{lt-leb, le-leb, eq-eqb, ne_eqb}
+use mathlib.Core.Bool.{Bool, true, false, not}
+use Prim.Native.Nat.{ℕ, ◌%◌, ◌≤◌}
+use borrow.Author.Tests.{leb-true, not-false}
+use lib.Dec.{leb, eqb}
+use Rattle.lists.proofs.Tests.{both_true}
 use lib.ListN.{length}
 use Rattle.definitions.specs.Wire.{words_of, words_fit, whole_words, bytes_fit}
 
-pub too_long : (l : List ℕ) → 65536 < length l → whole_words l ≡ false
+pub whole-short : (l : List ℕ) → whole_words l ≡ true → length l ≤ 65536
 unfolding whole_words
-too_long l h = rw (lt-leb (length l) 65536 h)
+whole-short l h = leb-true (length l) 65536 (both_true (leb (length l) 65536) (eqb (length l % 8) 0) h).0
 
-pub not-whole : (l : List ℕ) → length l ≤ 65536 → (length l % 8 ≡ 0 → ⊥) → whole_words l ≡ false
-unfolding whole_words
-not-whole l h k = rw (le-leb (length l) 65536 h, ne_eqb (length l % 8) 0 k)
-
-pub whole : (l : List ℕ) → length l ≤ 65536 → length l % 8 ≡ 0 → whole_words l ≡ true
-unfolding whole_words
-whole l h k = rw (le-leb (length l) 65536 h, eq-eqb (length l % 8) 0 k)
+-- the same of a test t that the code asks for `!t`
+pub short : (l : List ℕ) {t : Bool} → t ≡ whole_words l → not t ≡ false → length l ≤ 65536
+short l {t} e h = whole-short l (sym e ∙ not-false t h)
 
 pub no_fit : (l : List ℕ) → whole_words l ≡ false → false ≡ bytes_fit l
 unfolding bytes_fit

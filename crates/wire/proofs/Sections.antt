@@ -6,15 +6,16 @@ use Prim.Native.Nat.{ℕ, zero, suc, ◌+◌, ◌-◌, ◌*◌, ◌/◌, ◌≤�
 use native.Mathlib.Nat.{add_comm, suc-mul, zero-mul, le_of_suc-le-suc}
 use native.Mathlib.Numerals.{add-one}
 use native.Mathlib.Omega.{arith}
-use borrow.Author.Tests.{lt-ltb, le-ltb, ltb-true, ltb-false, le-leb, lt-leb, leb-true, leb-false, eqb-true, eqb-false}
+use borrow.Author.Tests.{lt-ltb, le-ltb, ltb-true, ltb-false, le-leb, lt-leb, leb-true, leb-false, eq-eqb, ne_eqb}
 use lib.Dec.{T, ltb, leb, eqb}
+use Rattle.std.specs.Prelude.{Option, None, Some}
 use lib.Ieee.Bits.{is_true}
 use lib.ListN.{length, drop, take, get_or, set, length-append, length-take, length-drop, drop_of_length-le, get_or-append}
 use lib.Seq.{drop-cons, drop-drop, take-take}
 use Rattle.definitions.specs.Lists.{all, all_below}
 use Rattle.definitions.specs.Segment.{record_width, narrow_numbers}
 use Rattle.segment.specs.Records.{row_of}
-use Rattle.definitions.specs.Wire.{element_words, sections_by, word_sections, ends_from, section_at, grouped, record_groups, records_narrow, address_groups}
+use Rattle.definitions.specs.Wire.{element_words, sections_by, word_sections, ends_from, section_at, grouped, record_groups, records_narrow, widths_fit, words_fit, address_groups}
 use Rattle.lists.proofs.Parts.{part-lent, part_length}
 use Rattle.lists.proofs.Lists.{all-at}
 use Rattle.wire.proofs.Words.{below_all}
@@ -29,15 +30,15 @@ module _ (words : List ℕ) (at e : ℕ) where
   abbrev size : ℕ
   size = get_or words at 0 * e
 
-  pub end_out : length words ≤ at → 0 ≡ section_end e at words
+  pub end_out : length words ≤ at → None ≡ section_end e at words
   unfolding section_end
   end_out h = rw (le-ltb at (length words) h)
 
-  pub end_short : at < length words → length words < at + 1 + size → 0 ≡ section_end e at words
+  pub end_short : at < length words → length words < at + 1 + size → None ≡ section_end e at words
   unfolding section_end
   end_short h k = rw (lt-ltb at (length words) h, lt-leb (at + 1 + size) (length words) k)
 
-  pub end_whole : at < length words → at + 1 + size ≤ length words → at + 1 + size ≡ section_end e at words
+  pub end_whole : at < length words → at + 1 + size ≤ length words → Some (at + 1 + size) ≡ section_end e at words
   unfolding section_end
   end_whole h k = rw (lt-ltb at (length words) h, le-leb (at + 1 + size) (length words) k)
 
@@ -61,37 +62,39 @@ module _ (words : List ℕ) (at e : ℕ) where
   pub record Whole : Type 0 where
     pub below : at < length words
     pub fits : at + 1 + size ≤ length words
-    pub end : at + 1 + size ≡ section_end e at words
+    pub end : Some (at + 1 + size) ≡ section_end e at words
 
-  zero_go : (es : List ℕ) (t u : Bool) → ltb at (length words) ≡ t → leb (at + 1 + size) (length words) ≡ u → section_end e at words ≡ 0 → sections_by (e ∷ es) (drop at words) ≡ []
-  zero_go es false u p q z = sections-none (e ∷ es) (ltb-false at (length words) p)
-  zero_go es true false p q z = sections-short es (ltb-true at (length words) p) (leb-false (at + 1 + size) (length words) q)
-  zero_go es true true p q z =
-      absurd (omega (arith, z, end_whole (ltb-true at (length words) p) (leb-true (at + 1 + size) (length words) q)))
+  none_go : (es : List ℕ) (t u : Bool) → ltb at (length words) ≡ t → leb (at + 1 + size) (length words) ≡ u → section_end e at words ≡ None → sections_by (e ∷ es) (drop at words) ≡ []
+  none_go es false u p q z = sections-none (e ∷ es) (ltb-false at (length words) p)
+  none_go es true false p q z = sections-short es (ltb-true at (length words) p) (leb-false (at + 1 + size) (length words) q)
+  none_go es true true p q z =
+      let w = end_whole (ltb-true at (length words) p) (leb-true (at + 1 + size) (length words) q) in
+      absurd (cc)
 
-  pub end-zero : (es : List ℕ) → section_end e at words ≡ 0 → sections_by (e ∷ es) (drop at words) ≡ []
-  end-zero es z = zero_go es (ltb at (length words)) (leb (at + 1 + size) (length words)) refl refl z
+  pub end-none : (es : List ℕ) → section_end e at words ≡ None → sections_by (e ∷ es) (drop at words) ≡ []
+  end-none es z = none_go es (ltb at (length words)) (leb (at + 1 + size) (length words)) refl refl z
 
-  some_go : (t u : Bool) → ltb at (length words) ≡ t → leb (at + 1 + size) (length words) ≡ u → (section_end e at words ≡ 0 → ⊥) → Whole
-  some_go false u p q z = absurd (z (sym (end_out (ltb-false at (length words) p))))
-  some_go true false p q z = absurd (z (sym (end_short (ltb-true at (length words) p) (leb-false (at + 1 + size) (length words) q))))
+  some_go : (t u : Bool) → ltb at (length words) ≡ t → leb (at + 1 + size) (length words) ≡ u → {end : ℕ} → section_end e at words ≡ Some end → Whole
+  some_go false u p q z = let n = end_out (ltb-false at (length words) p) in absurd (cc)
+  some_go true false p q z = let n = end_short (ltb-true at (length words) p) (leb-false (at + 1 + size) (length words) q) in absurd (cc)
   some_go true true p q z =
       let h = ltb-true at (length words) p in
       let k = leb-true (at + 1 + size) (length words) q in
       record { below = h; fits = k; end = end_whole h k }
 
-  pub end-some : (section_end e at words ≡ 0 → ⊥) → Whole
+  pub end-some : {end : ℕ} → section_end e at words ≡ Some end → Whole
   end-some z = some_go (ltb at (length words)) (leb (at + 1 + size) (length words)) refl refl z
 
   pub size-length : at + 1 + size ≤ length words → length (take size (drop (at + 1) words)) ≡ size
   size-length k = part_length size (at + 1) words k
 
-  ends_more : (es : List ℕ) (end : ℕ) → (end ≡ 0 → ⊥) → end ≡ section_end e at words
+  ends_more : (es : List ℕ) (end : ℕ) → section_end e at words ≡ Some end
       → (end ≤ length words) × (ends_from at (sections_by (e ∷ es) (drop at words)) ≡ (end ∷ []) ++ ends_from end (sections_by es (drop end words)))
   unfolding ends_from
-  ends_more es end z q =
-      let w = end-some (λ y. z (q ∙ y)) in
-      let f : end ≡ at + 1 + size = q ∙ sym w.end in
+  ends_more es end q =
+      let w = end-some q in
+      let g : Some (at + 1 + size) ≡ Some end = w.end ∙ q in
+      let f : end ≡ at + 1 + size = cc in
       (omega (arith, w.fits), rw (f, sections-more es w.below w.fits, size-length w.fits))
 
 -- ---- all sections
@@ -127,28 +130,16 @@ pub left_end : (words : List ℕ) (k at : ℕ) → 9 ≤ k → ends_left words k
 unfolding ends_left ends_from sections_by
 left_end words k at h = rw (drop_of_length-le element_words {i = k} h)
 
-pub left_cut : (words : List ℕ) (k at end : ℕ) → k < 9 → end ≡ section_end (get_or element_words k 0) at words → end ≡ 0 → ends_left words k at ≡ []
+pub left_cut : (words : List ℕ) (k at : ℕ) → k < 9 → section_end (get_or element_words k 0) at words ≡ None → ends_left words k at ≡ []
 unfolding ends_left ends_from
-left_cut words k at end h q z = rw (drop-cons element_words k 0 h, end-zero words at (get_or element_words k 0) (drop (suc k) element_words) (sym q ∙ z))
+left_cut words k at h q = rw (drop-cons element_words k 0 h, end-none words at (get_or element_words k 0) (drop (suc k) element_words) q)
 
-pub left-more : (words : List ℕ) (k at end : ℕ) → k < 9 → end ≡ section_end (get_or element_words k 0) at words → (end ≡ 0 → ⊥)
+pub left-more : (words : List ℕ) (k at end : ℕ) → k < 9 → section_end (get_or element_words k 0) at words ≡ Some end
     → (end ≤ length words) × (ends_left words k at ≡ (end ∷ []) ++ ends_left words (k + 1) end)
 unfolding ends_left
-left-more words k at end h q z =
-    let m = ends_more words at (get_or element_words k 0) (drop (suc k) element_words) end z q in
+left-more words k at end h q =
+    let m = ends_more words at (get_or element_words k 0) (drop (suc k) element_words) end q in
     (m.0, rw (add-one k, drop-cons element_words k 0 h) m.1)
-
-pub size_positive : (k : ℕ) → k < 9 → 0 < get_or element_words k 0
-size_positive zero h = omega arith
-size_positive (suc zero) h = omega arith
-size_positive (suc (suc zero)) h = omega arith
-size_positive (suc (suc (suc zero))) h = omega arith
-size_positive (suc (suc (suc (suc zero)))) h = omega arith
-size_positive (suc (suc (suc (suc (suc zero))))) h = omega arith
-size_positive (suc (suc (suc (suc (suc (suc zero)))))) h = omega arith
-size_positive (suc (suc (suc (suc (suc (suc (suc zero))))))) h = omega arith
-size_positive (suc (suc (suc (suc (suc (suc (suc (suc zero)))))))) h = omega arith
-size_positive (suc (suc (suc (suc (suc (suc (suc (suc (suc k))))))))) h = absurd (omega arith)
 
 -- ---- which words are a section's
 
@@ -177,16 +168,16 @@ Parts words es at =
     (k : ℕ) → k < length (sections_by es (drop at words))
     → Part words (get_or (at ∷ ends_from at (sections_by es (drop at words))) k 0) (get_or (ends_from at (sections_by es (drop at words))) k 0) (get_or (sections_by es (drop at words)) k [])
 
-parts_go : (words es : List ℕ) (at e : ℕ) → Parts words es (at + 1 + size words at e) → (b : Bool) → eqb (section_end e at words) 0 ≡ b → Parts words (e ∷ es) at
-parts_go words es at e f true q k h = absurd (omega (arith, h, ap length (end-zero words at e es (eqb-true (section_end e at words) 0 q))))
-parts_go words es at e f false q k h =
-    let w = end-some words at e (eqb-false (section_end e at words) 0 q) in
+parts_go : (words es : List ℕ) (at e : ℕ) → Parts words es (at + 1 + size words at e) → (o : Option ℕ) → section_end e at words ≡ o → Parts words (e ∷ es) at
+parts_go words es at e f None q k h = absurd (omega (arith, h, ap length (end-none words at e es q)))
+parts_go words es at e f (Some end) q k h =
+    let w = end-some words at e q in
     let m = sections-more words at e es w.below w.fits in
     rw m (parts_cons words (take (size words at e) (drop (at + 1) words)) (sections_by es (drop (at + 1 + size words at e) words)) at (size words at e) w.fits refl (size-length words at e w.fits) f k (rw m at h))
 
 parts : (words es : List ℕ) (at : ℕ) → Parts words es at
 parts words [] at k h = absurd (parts_none words at k h)
-parts words (e ∷ es) at k h = parts_go words es at e (parts words es (at + 1 + size words at e)) (eqb (section_end e at words) 0) refl k h
+parts words (e ∷ es) at k h = parts_go words es at e (parts words es (at + 1 + size words at e)) (section_end e at words) refl k h
 
 -- a section by its bounds
 pub part_of : (words bounds : List ℕ) (k : ℕ) → Bounded words bounds → k < length (word_sections words)
@@ -217,6 +208,19 @@ pub first_bound : (words bounds : List ℕ) → Bounded words bounds → length 
 unfolding bounds_of
 first_bound words bounds b h = b.at 1 (omega arith) ∙ head_end (word_sections words) (omega arith)
 
+three_two : (n : ℕ) → eqb (1 + n) 3 ≡ eqb n 2
+three_two zero = refl
+three_two (suc zero) = refl
+three_two (suc (suc zero)) = refl
+three_two (suc (suc (suc k))) = ne_eqb (1 + suc (suc (suc k))) 3 (λ e. omega arith) ∙ sym (ne_eqb (suc (suc (suc k))) 2 (λ e. omega arith))
+
+-- what is left to ask of nine sections, by the bounds
+pub fit_by_bounds : (words bounds : List ℕ) → Bounded words bounds → length (word_sections words) ≡ 9
+    → words_fit words ≡ eqb (get_or bounds 9 0) (length words) && (eqb (get_or bounds 1 0) 3 && widths_fit (word_sections words))
+unfolding words_fit
+fit_by_bounds words bounds b h =
+    rw (eq-eqb (length (word_sections words)) 9 h, last_bound words bounds b h, first_bound words bounds b h, three_two (length (section_at (word_sections words) 0)))
+
 -- ---- elements of several words
 
 pub grouped-length : (e n : ℕ) (l : List ℕ) → length (grouped e n l) ≡ n
@@ -231,6 +235,9 @@ grouped-at e (suc n) l zero h = rw (zero-mul e)
 grouped-at e (suc n) l (suc i) h =
     let q : e + i * e ≡ suc i * e = add_comm e (i * e) ∙ sym (suc-mul i e) in
     grouped-at e n (drop e l) i (le_of_suc-le-suc h) ∙ ap (take e) (drop-drop (i * e) e l ∙ ap (λ (k : ℕ). drop k l) q)
+
+pub two_at : (l : List ℕ) (k : ℕ) → k + 2 ≤ length l → take 2 (drop k l) ≡ get_or l k 0 ∷ get_or l (k + 1) 0 ∷ []
+two_at l k h = rw (add-one k, drop-cons l k 0 (omega arith), drop-cons l (suc k) 0 (omega arith))
 
 pub sections-nine : (words : List ℕ) → length (word_sections words) ≤ 9
 unfolding word_sections
@@ -257,9 +264,6 @@ pub group_ok : (e bound k : ℕ) (s words bounds : List ℕ) (room : ℕ) → Na
 group_ok e bound k s words bounds room n q r =
     let f = fill_ok bound k s words bounds (length words) n q (omega arith) in
     (f.0, r f.1)
-
-pub number_short : {bound : ℕ} (k i : ℕ) (words bounds : List ℕ) → Narrow words bounds k bound → i < length (section_at (word_sections words) k) → i < length words
-number_short k i words bounds n h = omega (arith, part-short _ _ _ _ (part_of words bounds k n.bounded n.stands))
 
 pub number_ok : (bound k i : ℕ) (s words bounds : List ℕ) → Narrow words bounds k bound → s ≡ section_at (word_sections words) k → i < length (section_at (word_sections words) k) → get_or s i 0 < bound
 number_ok bound k i s words bounds n e h = rw e (below_all bound (section_at (word_sections words) k) n.below i h)

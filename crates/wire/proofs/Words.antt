@@ -2,36 +2,19 @@
 use mathlib.Core.Path.{◌≡◌, refl, ap, ◌∙◌}
 use mathlib.Core.List.{List, [], ◌∷◌}
 use mathlib.Core.Bool.{true}
-use Prim.Native.Nat.{ℕ, zero, suc, ◌+◌, ◌*◌, ◌/◌, ◌≤◌, ◌<◌}
-use native.Mathlib.Nat.{add-suc, le_of_suc-le-suc}
-use native.Mathlib.Numerals.{add-one}
+use Prim.Native.Nat.{ℕ, zero, suc, ◌+◌, ◌*◌, ◌/◌, ◌<◌}
+use native.Mathlib.Nat.{le_of_suc-le-suc}
 use native.Mathlib.Omega.{arith}
 use borrow.Author.Tests.{ltb-true}
 use lib.Dec.{ltb}
 use lib.ListN.{length, drop, take, get_or}
-use lib.Seq.{drop-cons, drop-drop}
+use lib.Seq.{drop-drop}
 use Rattle.definitions.specs.Wire.{little_endian, words_in, words_of}
 use Rattle.definitions.specs.Lists.{all_below}
 use Rattle.lists.proofs.Tests.{both_true}
 use Rattle.runs.specs.Put.{Below}
 
 -- ---- words
-
-le_step : (n at : ℕ) (l : List ℕ) → at < length l → little_endian (take (suc n) (drop at l)) ≡ get_or l at 0 + 256 * little_endian (take n (drop (at + 1) l))
-le_step n at l h = rw (add-one at, drop-cons l at 0)
-
-le_next : (n at k : ℕ) (l : List ℕ) → at + k < length l → little_endian (take (suc n) (drop (at + k) l)) ≡ get_or l (at + k) 0 + 256 * little_endian (take n (drop (at + suc k) l))
-le_next n at k l h = rw (add-suc at k, drop-cons l (at + k) 0)
-
-pub half-sum : (l : List ℕ) (at a b c d : ℕ) → at + 4 ≤ length l → a ≡ get_or l at 0 → b ≡ get_or l (at + 1) 0 → c ≡ get_or l (at + 2) 0 → d ≡ get_or l (at + 3) 0
-    → a + 256 * (b + 256 * (c + 256 * d)) ≡ little_endian (take 4 (drop at l))
-half-sum l at a b c d fits pa pb pc pd =
-    omega (arith, le_step 3 at l (omega arith), le_next 2 at 1 l (omega arith), le_next 1 at 2 l (omega arith), le_next 0 at 3 l (omega arith))
-
--- a word is its two halves
-pub halves : (l : List ℕ) (at : ℕ) → at + 8 ≤ length l → little_endian (take 4 (drop at l)) + 4294967296 * little_endian (take 4 (drop (at + 4) l)) ≡ little_endian (take 8 (drop at l))
-halves l at h =
-    omega (arith, le_step 3 at l (omega arith), le_next 2 at 1 l (omega arith), le_next 1 at 2 l (omega arith), le_next 0 at 3 l (omega arith), le_step 7 at l (omega arith), le_next 6 at 1 l (omega arith), le_next 5 at 2 l (omega arith), le_next 4 at 3 l (omega arith))
 
 words_in_length : (n : ℕ) (l : List ℕ) → length (words_in n l) ≡ n
 unfolding words_in

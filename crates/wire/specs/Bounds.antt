@@ -1,11 +1,11 @@
 -- Where the sections stand among the words. Assumes nothing.
-use Rattle.std.specs.Prelude.{ℕ, ◌+◌, ◌*◌, ◌≤◌, ◌<◌, ◌≡◌, true, ◌&&◌, cond, List, ◌∷◌, ltb, leb, get_or, length}
+use Rattle.std.specs.Prelude.{ℕ, ◌+◌, ◌*◌, ◌≤◌, ◌<◌, ◌≡◌, true, ◌&&◌, cond, List, ◌∷◌, ltb, leb, get_or, length, Option, None, Some}
 use Rattle.definitions.specs.Wire.{word_sections, ends_from, section_at, record_groups, records_narrow, words_fit}
 use Rattle.definitions.specs.Lists.{all_below}
 
--- the end of the section whose count is word number at, with size words to an element; 0 if it is cut
-unfoldable pub section_end : ℕ → ℕ → List ℕ → ℕ
-section_end size at words = cond (ltb at (length words) && leb (at + 1 + get_or words at 0 * size) (length words)) (at + 1 + get_or words at 0 * size) 0
+-- the end of the section whose count is word number at, with size words to an element; none if it is cut
+unfoldable pub section_end : ℕ → ℕ → List ℕ → Option ℕ
+section_end size at words = cond (ltb at (length words) && leb (at + 1 + get_or words at 0 * size) (length words)) (Some (at + 1 + get_or words at 0 * size)) None
 
 -- 0, and where each section ends: section k's count is word number bound k, its words follow up to bound k + 1
 unfoldable pub bounds_of : List ℕ → List ℕ

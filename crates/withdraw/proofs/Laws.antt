@@ -1,9 +1,10 @@
 -- What the code needs of a set whose rows may be marked: a row's bit is there, the number stays within 32 bits, and the set stays one. Assumes nothing.
 use Prim.Native.Nat.{ℕ, suc, ◌+◌, ◌-◌, ◌*◌, ◌/◌, ◌%◌, ◌≤◌, ◌<◌}
 use native.Mathlib.Omega.{arith}
-use mathlib.Core.Path.{◌≡◌, sym, ap, ◌∙◌, subst}
-use mathlib.Core.List.{List, ◌∷◌}
-use mathlib.Core.Bool.{Bool, true, false, not}
+use mathlib.Core.Path.{◌≡◌, refl, sym, ap, ◌∙◌, subst}
+use mathlib.Core.List.{List, [], ◌∷◌}
+use Rattle.std.specs.List.{list_all}
+use mathlib.Core.Bool.{Bool, true, false, not, beq, ◌&&◌}
 use native.Mathlib.Numerals.{add-one}
 use lib.ListN.{length, get_or, drop, drop_of_length-le}
 use lib.Seq.{drop-cons}
@@ -50,14 +51,32 @@ module _ (m : AliveSet) (k : Markable m) (row : ℕ) (l : row < m.given.rows) wh
   pub next-rows : (alive : Bool) → (marked_row alive m row).given.rows ≡ m.given.rows
   next-rows alive = (row_is m row k.sound at_row alive).rows
 
+pub each-below : (n : ℕ) (rows : List ℕ) → list_all (λ row. ltb row n) rows ≡ all_below n rows
+unfolding all_below
+each-below n [] = refl
+each-below n (row ∷ rows) = ap (λ (b : Bool). ltb row n && b) (each-below n rows)
+
+-- two bits compared
+alike : (a b : Bool) → beq a b ≡ true → a ≡ b
+alike true true e = refl
+alike true false e = cc
+alike false true e = cc
+alike false false e = refl
+
+pub unlike : (a b : Bool) → beq a b ≡ false → a ≡ not b
+unlike true true e = cc
+unlike true false e = refl
+unlike false true e = refl
+unlike false false e = cc
+
 -- ---- a row's turn, by its bit and by what it is to be
 
 module _ (r : Record) (words : List ℕ) (row : ℕ) {alive b : Bool} (e : b ≡ bit_at words row) where
-  pub kept-alive : b ≡ true → alive ≡ true → set_by r words ≡ marked_row alive (set_by r words) row
+  kept-alive : b ≡ true → alive ≡ true → set_by r words ≡ marked_row alive (set_by r words) row
   unfolding marked_row
   kept-alive p q = rw (q, ← e, p)
 
-  pub kept-withdrawn : b ≡ false → alive ≡ false → set_by r words ≡ marked_row alive (set_by r words) row
+  kept-withdrawn : b ≡ false → alive ≡ false → set_by r words ≡ marked_row alive (set_by r words) row
   unfolding marked_row
   kept-withdrawn p q = rw (q, ← e, p)
 
@@ -70,6 +89,13 @@ module _ (r : Record) (words : List ℕ) (row : ℕ) {alive b : Bool} (e : b ≡
       → record { given = with_count (r.alive + 1) (record_in r); words = out } ≡ marked_row alive (set_by r words) row
   unfolding marked_row reinstated
   bit-set p q o = rw (q, ← e, p, o)
+
+pub kept : (r : Record) (words : List ℕ) (row : ℕ) (alive b : Bool) → b ≡ bit_at words row → beq b alive ≡ true → set_by r words ≡ marked_row alive (set_by r words) row
+kept r words row alive b e p = go (alike b alive p) alive refl
+  where
+    go : b ≡ alive → (t : Bool) → alive ≡ t → set_by r words ≡ marked_row alive (set_by r words) row
+    go p true q = kept-alive r words row e (p ∙ q) q
+    go p false q = kept-withdrawn r words row e (p ∙ q) q
 
 -- ---- row after row
 

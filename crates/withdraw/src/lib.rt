@@ -4,14 +4,10 @@
 ghost use Rattle.std.specs.Prelude.{◌≡◌, [], false, ◌<◌, ◌-◌};
 ghost use Rattle.definitions.specs.Lists.{all_below};
 ghost use Rattle.definitions.specs.Withdraw.{withdrawing, reinstating, row_absent, mark_number, marked_row, marked_rows, changes_to, mark_outcome, withdraw_outcome, reinstate_outcome};
+ghost use Rattle.refusal.specs.Number.{answer_number};
 ghost use Rattle.withdraw.specs.Lent.{set_by, lent_set, outcome_of, record_left, marking_of, Markable};
 
-// How many rows changed, 0 where the rows were so already; or the number of the first check that fails.
-#[derive(Clone, Copy)]
-pub enum MarkAnswer {
-    Changed(u32),
-    Refused(u32),
-}
+use refusal::Refusal;
 
 // ---- 2, 3, 6, 15 and 16
 
@@ -19,36 +15,29 @@ pub enum MarkAnswer {
 fn rows_there(rows: &[u32], n: u32) -> bool
     ensures { result ≡ all_below n rows.now }
 {
-    let mut j: usize = 0;
-    while j < rows.len() {
-        if n <= rows[j] {
-            return false;
-        }
-        j += 1;
-    }
-    true
+    rows.iter().all(|&row| row < n)
 }
 
-// The number of the first check that fails, or 0. 6 reads all words; 15 comes before 16.
-fn first_wrong(r: segment::Record, words: &[u64], rows: &[u32]) -> u32
-    ensures { result ≡ mark_number (set_by r words.now) rows.now }
+// The first check that fails is the refusal. 6 reads all words; 15 comes before 16.
+fn first_wrong(r: segment::Record, words: &[u64], rows: &[u32]) -> Result<(), Refusal>
+    ensures { answer_number result ≡ mark_number (set_by r words.now) rows.now }
 {
     if words.len() != segment::alive_words(r) {
-        return 2;
+        return Err(Refusal::Lengths);
     }
     if 2 <= r.flag {
-        return 3;
+        return Err(Refusal::UnknownCode);
     }
     if !segment_fit::set_fits(r, words) {
-        return 6;
+        return Err(Refusal::AliveSet);
     }
     if !rows_there(rows, r.rows) {
-        return 15;
+        return Err(Refusal::AbsentRow);
     }
     if r.flag == 0 {
-        return 16;
+        return Err(Refusal::NoAliveSet);
     }
-    0
+    Ok(())
 }
 
 // ---- the rows
@@ -59,20 +48,22 @@ fn mark_row(alive: bool, r: segment::Record, words: &mut [u64], row: usize) -> s
     requires row_lt_rows { row < r.rows }
     ensures { set_by result words.new ≡ marked_row alive (set_by r words.old) row }
 {
-    let mut q = r;
-    if alive_set::is_alive(words, row) {
-        if alive {
-            return q;
-        }
-        alive_set::clear_alive(words, row);
-        q.alive = r.alive - 1;
-        return q;
+    if alive_set::is_alive(words, row) == alive {
+        return r;
     }
     if alive {
         alive_set::set_alive(words, row);
-        q.alive = r.alive + 1;
+        segment::Record {
+            alive: r.alive + 1,
+            ..r
+        }
+    } else {
+        alive_set::clear_alive(words, row);
+        segment::Record {
+            alive: r.alive - 1,
+            ..r
+        }
     }
-    q
 }
 
 // Row after row.
@@ -82,22 +73,10 @@ fn mark_all(alive: bool, r: segment::Record, words: &mut [u64], rows: &[u32]) ->
     ensures { set_by result words.new ≡ marked_rows alive (set_by r words.old) rows.now }
 {
     let mut q = r;
-    let mut j: usize = 0;
-    while j < rows.len() {
-        q = mark_row(alive, q, words, segment::wide(rows[j]));
-        j += 1;
+    for &row in rows {
+        q = mark_row(alive, q, words, row as usize);
     }
     q
-}
-
-// How much is left of a without b.
-fn less(a: u32, b: u32) -> u32
-    ensures { result ≡ a - b }
-{
-    if a < b {
-        return 0;
-    }
-    a - b
 }
 
 // How many rows changed, by the numbers of alive rows before and after.
@@ -105,12 +84,13 @@ fn changes(alive: bool, r: segment::Record, after: u32) -> u32
     ensures { result ≡ changes_to alive (set_by r []) after }
 {
     if alive {
-        return less(after, r.alive);
+        after.saturating_sub(r.alive)
+    } else {
+        r.alive.saturating_sub(after)
     }
-    less(r.alive, after)
 }
 
-// ---- the calls
+// ---- the calls: how many rows changed, 0 where they were so already, or the first check that fails
 
 // Makes the rows alive, or withdraws them: all of them, or none if one of the checks fails.
 fn mark(
@@ -118,22 +98,23 @@ fn mark(
     record: &mut segment::RecordNumbers,
     words: &mut [u64],
     rows: &[u32],
-) -> MarkAnswer
+) -> Result<u32, Refusal>
     ensures words_after { outcome_of result «record».new words.new ≡ mark_outcome (marking_of alive rows.now) (lent_set «record».old words.old) }
     ensures record_after { «record».new ≡ record_left (mark_outcome (marking_of alive rows.now) (lent_set «record».old words.old)) «record».old }
 {
-    let r = segment::record_of(*record);
-    let k = first_wrong(r, words, rows);
-    if k != 0 {
-        return MarkAnswer::Refused(k);
-    }
+    let r = segment::Record::from(*record);
+    first_wrong(r, words, rows)?;
     let q = mark_all(alive, r, words, rows);
-    *record = segment::numbers_of(q);
-    MarkAnswer::Changed(changes(alive, r, q.alive))
+    *record = q.into();
+    Ok(changes(alive, r, q.alive))
 }
 
 // Withdraws a row.
-pub fn withdraw(record: &mut segment::RecordNumbers, words: &mut [u64], row: u32) -> MarkAnswer
+pub fn withdraw(
+    record: &mut segment::RecordNumbers,
+    words: &mut [u64],
+    row: u32,
+) -> Result<u32, Refusal>
     ensures words_after { outcome_of result «record».new words.new ≡ withdraw_outcome row (lent_set «record».old words.old) }
     ensures record_after { «record».new ≡ record_left (withdraw_outcome row (lent_set «record».old words.old)) «record».old }
 {
@@ -142,7 +123,11 @@ pub fn withdraw(record: &mut segment::RecordNumbers, words: &mut [u64], row: u32
 }
 
 // Reinstates a row.
-pub fn reinstate(record: &mut segment::RecordNumbers, words: &mut [u64], row: u32) -> MarkAnswer
+pub fn reinstate(
+    record: &mut segment::RecordNumbers,
+    words: &mut [u64],
+    row: u32,
+) -> Result<u32, Refusal>
     ensures words_after { outcome_of result «record».new words.new ≡ reinstate_outcome row (lent_set «record».old words.old) }
     ensures record_after { «record».new ≡ record_left (reinstate_outcome row (lent_set «record».old words.old)) «record».old }
 {
@@ -155,7 +140,7 @@ pub fn withdraw_rows(
     record: &mut segment::RecordNumbers,
     words: &mut [u64],
     rows: &[u32],
-) -> MarkAnswer
+) -> Result<u32, Refusal>
     ensures words_after { outcome_of result «record».new words.new ≡ mark_outcome (withdrawing rows.now) (lent_set «record».old words.old) }
     ensures record_after { «record».new ≡ record_left (mark_outcome (withdrawing rows.now) (lent_set «record».old words.old)) «record».old }
 {
@@ -167,7 +152,7 @@ pub fn reinstate_rows(
     record: &mut segment::RecordNumbers,
     words: &mut [u64],
     rows: &[u32],
-) -> MarkAnswer
+) -> Result<u32, Refusal>
     ensures words_after { outcome_of result «record».new words.new ≡ mark_outcome (reinstating rows.now) (lent_set «record».old words.old) }
     ensures record_after { «record».new ≡ record_left (mark_outcome (reinstating rows.now) (lent_set «record».old words.old)) «record».old }
 {

@@ -1,23 +1,17 @@
-use Prim.Native.Nat.{zero-le}
-use mathlib.Core.Path.{refl, ◌∙◌}
-use borrow.Author.Rules.{rules}
-use Rattle.column_index_shuffled.proofs.Plain.{plain_stop, plain-next, plain_end}
-use mathlib.Core.Path.{ap}
-use mathlib.Core.Bool.{not}
+use Rattle.std.proofs.Common.{refl, ◌∙◌, ℕ, List, ◌&&◌, rules, tests}
+use Rattle.std.proofs.lemmas.Iterator.{YieldsList-from_slice}
+use Rattle.std.proofs.lemmas.Iterator.Search.{all_from_yields_List}
+use Rattle.std.proofs.lemmas.List.Recursion.{same_from_clauses}
+use Rattle.std.specs.List.{list_all}
+use Rattle.definitions.specs.Lists.{all}
+use Rattle.stands.specs.Stand.{stand_of}
+use Rattle.column_index_shuffled.specs.Plain.{is_plain, all_plain}
 use Rattle.column_index_shuffled.proofs.all_plain.Goals as goal
 
-pub loop-s-init : goal.loop-s-init
-loop-s-init c =
-    (zero-le, refl)
-
-pub returns-then-not-is_plain : goal.returns-then-not-is_plain
-returns-then-not-is_plain c =
-    plain_stop _ _ c.loop-s-test.true c.stand_at.ensures c.is_plain.ensures (ap not c.if-not-is_plain.true) ∙ c.loop-s.invariant.1
-
-pub loop-s-preserved : goal.loop-s-preserved
-loop-s-preserved c =
-    (search rules, plain-next _ _ c.loop-s-test.true c.stand_at.ensures c.is_plain.ensures (ap not c.if-not-is_plain.false) ∙ c.loop-s.invariant.1)
-
 pub returns : goal.returns
+unfolding all_plain
 returns c =
-    plain_end _ _ _ c.loop-s-test.false ∙ c.loop-s.invariant.1
+    let xs = c.args.stands.now in
+    let p = λ (r : List ℕ). is_plain c.args.to (stand_of r) in
+    all_from_yields_List p _ _ _ c.all.ensures.ran (YieldsList-from_slice xs cc) (λ x b q k. search (rules, tests))
+    ∙ same_from_clauses (list_all p) (all p) (λ x b. p x && b) refl (λ _ _. refl) (λ _ _. refl) xs

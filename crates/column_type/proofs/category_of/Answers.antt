@@ -1,14 +1,13 @@
-use mathlib.Core.Path.{refl, sym, ap, ◌∙◌}
-use Rattle.column_type.specs.Codes.{category_number}
-use Rattle.column_type.proofs.Laws.{category-none, category-absent, category-column}
+use Rattle.std.proofs.Common.{arith}
+use Rattle.std.proofs.lemmas.Bool.Decides.{nat_tests}
+use Rattle.definitions.specs.Types.{is_numerical}
+use Rattle.column_type.specs.Codes.{category}
 use Rattle.column_type.proofs.category_of.Goals as goal
 
-pub returns-in-Column : goal.returns-in-Column
-returns-in-Column c =
-    c.number.ensures ∙ ap category_number c.category.ensures ∙ category-column _ _ (sym c.type_of.ensures ∙ c.in-Column.is)
+pub returns-in-Ok : goal.returns-in-Ok
+unfolding category is_numerical
+returns-in-Ok c = grind (arith, nat_tests)
 
-pub returns-in-Absent : goal.returns-in-Absent
-returns-in-Absent c = category-absent _ (sym c.type_of.ensures ∙ c.in-Absent.is)
-
-pub returns-in-Unknown : goal.returns-in-Unknown
-returns-in-Unknown c = category-none _ _ (sym c.type_of.ensures ∙ c.in-Unknown.is) refl
+pub returns-in-Err : goal.returns-in-Err
+unfolding category is_numerical
+returns-in-Err c = grind (arith, nat_tests)

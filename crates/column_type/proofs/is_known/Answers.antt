@@ -1,13 +1,12 @@
-use mathlib.Core.Path.{sym, ap, ◌∙◌}
-use Rattle.column_type.specs.Codes.{is_code}
-use Rattle.column_type.proofs.Laws.{known_code}
+use Rattle.std.proofs.Common.{arith}
+use Rattle.std.proofs.lemmas.Bool.Decides.{nat_tests}
+use Rattle.definitions.specs.Types.{is_known_type}
 use Rattle.column_type.proofs.is_known.Goals as goal
 
-pub returns-in-Column : goal.returns-in-Column
-returns-in-Column c = ap is_code (sym c.in-Column.is ∙ c.type_of.ensures) ∙ sym (known_code c.args.n)
+pub returns-then-n-eq-ABSENT : goal.returns-then-n-eq-ABSENT
+unfolding is_known_type
+returns-then-n-eq-ABSENT c = grind (arith, nat_tests)
 
-pub returns-in-Absent : goal.returns-in-Absent
-returns-in-Absent c = ap is_code (sym c.in-Absent.is ∙ c.type_of.ensures) ∙ sym (known_code c.args.n)
-
-pub returns-in-Unknown : goal.returns-in-Unknown
-returns-in-Unknown c = ap is_code (sym c.in-Unknown.is ∙ c.type_of.ensures) ∙ sym (known_code c.args.n)
+pub returns-else-n-eq-ABSENT : goal.returns-else-n-eq-ABSENT
+unfolding is_known_type
+returns-else-n-eq-ABSENT c = grind (arith, nat_tests)

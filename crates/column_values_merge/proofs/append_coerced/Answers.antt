@@ -1,18 +1,14 @@
-use mathlib.Core.Path.{ap, ◌∙◌}
-use mathlib.Core.List.{List}
-use Prim.Native.Nat.{ℕ}
-use Rattle.runs.specs.Put.{put}
 use Rattle.column_values_merge.proofs.Laws.{coerced-other, coerced_double, coerced_integer}
 use Rattle.column_values_merge.proofs.append_coerced.Goals as goal
+use Rattle.column_values_merge.proofs.append_coerced.Goals.{else-u-eq2-via-then-u-eq2+else-t-ne2, else-u-eq2-via-else-u-eq2}
 
-pub returns-then-u-ne2 : goal.returns-then-u-ne2
-returns-then-u-ne2 c =
-    c.append.ensures ∙ ap (λ (l : List ℕ). put c.args.at l c.args.out.now) (coerced-other _ _ _ c.if-u-ne2.true)
+pub returns-then-t-ne2 : goal.returns-then-t-ne2
+returns-then-t-ne2 c =
+    rw (← coerced_integer _ _ _ c.if-u-eq2.true c.if-t-ne2.true) c.append_doubles.ensures
 
-pub returns-then-t-eq2 : goal.returns-then-t-eq2
-returns-then-t-eq2 c =
-    c.append-then-t-eq2.ensures ∙ ap (λ (l : List ℕ). put c.args.at l c.args.out.now) (coerced_double _ _ _ c.if-u-ne2.false c.if-t-eq2.true)
-
-pub returns : goal.returns
-returns c =
-    c.append_doubles.ensures ∙ ap (λ (l : List ℕ). put c.args.at l c.args.out.now) (coerced_integer _ _ _ c.if-u-ne2.false c.if-t-eq2.false)
+pub returns-else-u-eq2 : goal.returns-else-u-eq2
+returns-else-u-eq2 c =
+    elim c.else-u-eq2.branch [
+      | else-u-eq2-via-then-u-eq2+else-t-ne2 w ↦ rw (← coerced_double _ _ _ w.if-u-eq2.true w.if-t-ne2.false) c.append.ensures.out_after
+      | else-u-eq2-via-else-u-eq2 w ↦ rw (← coerced-other _ _ _ w.if-u-eq2.false) c.append.ensures.out_after
+    ]

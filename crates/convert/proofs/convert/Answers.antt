@@ -1,40 +1,22 @@
 use native.Mathlib.Omega.{arith}
+use Rattle.std.proofs.lemmas.Result.{err_from_is_err_and}
 use Rattle.convert.proofs.Risen.{ids-narrow}
-use Rattle.convert.proofs.Outcomes.{refused, stopped, counted, few-ids, few-offsets, converts}
+use Rattle.convert.proofs.Outcomes.{stopped, short, converts}
 use Rattle.convert.proofs.convert.Goals as goal
 
-pub returns-then-v-ne0 : goal.returns-then-v-ne0
-returns-then-v-ne0 c =
-    refused c.args.r c.args.ids.now c.args.offsets.now c.args.values.now c.args.lengths.now c.args.bytes.now c.args.alive.now c.args.out_ids.now c.args.out_offsets.now (stopped c.args.r c.args.ids.now c.args.offsets.now c.args.values.now c.args.lengths.now c.args.bytes.now c.args.alive.now c.args.out_ids.now c.args.out_offsets.now c.first_to_six-v.ensures.value c.if-v-ne0.true) c.if-v-ne0.true
+pub returns-in_err-n : goal.returns-in_err-n
+returns-in_err-n c =
+    let p = err_from_is_err_and c.from_residual.result c.from_residual.ensures.1 in
+    rw (p.1, p.2) (stopped c.args.r _ _ _ _ c.in_err-n.ensures.value)
 
 pub returns-then-out_ids-n : goal.returns-then-out_ids-n
 returns-then-out_ids-n c =
-    refused c.args.r c.args.ids.now c.args.offsets.now c.args.values.now c.args.lengths.now c.args.bytes.now c.args.alive.now c.args.out_ids.now c.args.out_offsets.now (few-ids c.args.r c.args.ids.now c.args.offsets.now c.args.values.now c.args.lengths.now c.args.bytes.now c.args.alive.now c.args.out_ids.now c.args.out_offsets.now c.first_to_six-v.ensures.value c.if-v-ne0.false c.wide-n.ensures.value c.if-out_ids-n.true) (λ e. omega (arith, e))
-
-pub returns-then-out_offsets-n : goal.returns-then-out_offsets-n
-returns-then-out_offsets-n c =
-    refused c.args.r c.args.ids.now c.args.offsets.now c.args.values.now c.args.lengths.now c.args.bytes.now c.args.alive.now c.args.out_ids.now c.args.out_offsets.now (few-offsets c.args.r c.args.ids.now c.args.offsets.now c.args.values.now c.args.lengths.now c.args.bytes.now c.args.alive.now c.args.out_ids.now c.args.out_offsets.now c.first_to_six-v.ensures.value c.if-v-ne0.false c.wide-n.ensures.value c.if-out_offsets-n.true) (λ e. omega (arith, e))
-
-pub fill-requires-clause-offsets_len_bound : goal.fill-requires-clause-offsets_len_bound
-fill-requires-clause-offsets_len_bound c =
-    c.first_to_six-v.ensures.offsets_len_bound c.if-v-ne0.false
-
-pub fill-requires-clause-n_value : goal.fill-requires-clause-n_value
-fill-requires-clause-n_value c =
-    counted c.args.r c.args.ids.now c.args.offsets.now c.args.values.now c.args.lengths.now c.args.bytes.now c.args.alive.now c.args.out_ids.now c.args.out_offsets.now c.first_to_six-v.ensures.value c.if-v-ne0.false c.wide-n.ensures.value
-
-pub fill-requires-clause-n_in_bounds : goal.fill-requires-clause-n_in_bounds
-fill-requires-clause-n_in_bounds c =
-    c.if-out_ids-n.false
-
-pub fill-requires-clause-n_in_bounds_2 : goal.fill-requires-clause-n_in_bounds_2
-fill-requires-clause-n_in_bounds_2 c =
-    c.if-out_offsets-n.false
+    short c.args.r _ _ _ c.in_ok-n.ensures.value c.in_ok-n.ensures.ids_value (grind arith)
 
 pub renewed_record-requires : goal.renewed_record-requires
 renewed_record-requires c =
-    omega (arith, counted c.args.r c.args.ids.now c.args.offsets.now c.args.values.now c.args.lengths.now c.args.bytes.now c.args.alive.now c.args.out_ids.now c.args.out_offsets.now c.first_to_six-v.ensures.value c.if-v-ne0.false c.wide-n.ensures.value, ids-narrow c.args.offsets.now (c.first_to_six-v.ensures.offsets_len_bound c.if-v-ne0.false))
+    omega (arith, ids-narrow c.args.sections.now.offsets.now c.in_ok-n.ensures.offsets_len_bound)
 
 pub returns : goal.returns
 returns c =
-    converts c.args.r c.args.ids.now c.args.offsets.now c.args.values.now c.args.lengths.now c.args.bytes.now c.args.alive.now c.args.out_ids.now c.args.out_offsets.now c.first_to_six-v.ensures.value c.if-v-ne0.false c.wide-n.ensures.value c.if-out_ids-n.false c.if-out_offsets-n.false c.renewed_record.ensures c.fill.ensures.out_ids_after c.fill.ensures.out_offsets_after
+    converts c.args.r _ _ _ c.in_ok-n.ensures.value c.in_ok-n.ensures.ids_value c.if-out_ids-n.false c.if-out_offsets-n.false c.renewed_record.ensures c.fill.ensures.out_ids_after c.fill.ensures.out_offsets_after

@@ -41,6 +41,6 @@ pub slice_bounds-zero-end-2 : goal.slice_bounds-zero-end-2
 slice_bounds-zero-end-2 c =
     omega (arith, front_long c.args.work.now c.unless-n.result (marks_fit c.requires c.unless-n.ensures) c.requires.clean c.mark.new.marks c.mark.auto.marks)
 
-pub returns : goal.returns
-returns c =
+pub returns-clause-left : goal.returns-clause-left
+returns-clause-left c =
     left c.requires c.unless-n.ensures c.mark.new.marks c.mark.auto.marks c.mark.ensures _ _ _ _ _ _ c.zero.new.work c.merge_dict-c.ensures c.zero.ensures

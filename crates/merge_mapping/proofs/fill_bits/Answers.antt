@@ -1,31 +1,18 @@
-use native.Mathlib.Omega.{arith}
-use mathlib.Core.Path.{refl, ◌∙◌}
-use Prim.Native.Nat.{zero-le}
-use lib.ListN.{length-set}
+use Rattle.std.proofs.Common.{◌≡◌, ◌∙◌, arith}
 use Rattle.runs.proofs.Laws.{putting-none, putting-next, putting-all}
+use Rattle.merge_mapping.specs.Mapping.{bytes_for}
 use Rattle.merge_mapping.proofs.Turns.{bytes-length, bytes-at}
 use Rattle.merge_mapping.proofs.fill_bits.Goals as goal
 
 pub loop-i-init : goal.loop-i-init
-loop-i-init c =
-    (zero-le, putting-none _ _ _, refl)
-
-pub alive_byte-requires-clause-rows_bound : goal.alive_byte-requires-clause-rows_bound
-alive_byte-requires-clause-rows_bound c =
-    c.requires.rows_bound
-
-pub alive_byte-requires-clause-i_bound : goal.alive_byte-requires-clause-i_bound
-alive_byte-requires-clause-i_bound c =
-    omega (arith, c.loop-i-test.true)
-
-pub alive_byte-requires-clause-rows_bound_2 : goal.alive_byte-requires-clause-rows_bound_2
-alive_byte-requires-clause-rows_bound_2 c =
-    omega (arith, c.requires.rows_in_bounds)
+loop-i-init c = putting-none _ _ _
 
 pub loop-i-preserved : goal.loop-i-preserved
 loop-i-preserved c =
-    (omega (arith, c.loop-i-test.true), rw c.loop-i.invariant.1 (putting-next _ _ _ _ _ _ (bytes-length c.args.flag c.args.words.now c.args.rows) (omega (arith, c.requires.rows_in_bounds)) c.loop-i-test.true (c.alive_byte.ensures ∙ bytes-at _ _ _ _ c.loop-i-test.true)), simp length-set c.loop-i.invariant.2)
+    let n : c.div_ceil-i-end.result ≡ bytes_for c.args.rows = omega arith in
+    rw c.loop-i.invariant (putting-next _ _ _ _ _ _ (bytes-length c.args.flag c.args.words.now c.args.rows) (omega arith) (omega arith) (c.alive_byte.ensures ∙ bytes-at _ _ _ _ (omega arith)))
 
 pub returns : goal.returns
 returns c =
-    c.loop-i.invariant.1 ∙ putting-all _ _ _ _ _ (bytes-length c.args.flag c.args.words.now c.args.rows) c.loop-i.invariant.0 c.loop-i-test.false
+    let n : c.div_ceil-i-end.result ≡ bytes_for c.args.rows = omega arith in
+    c.loop-i.invariant ∙ putting-all _ _ _ _ _ (bytes-length c.args.flag c.args.words.now c.args.rows) (omega arith) (omega arith)

@@ -1,26 +1,28 @@
-use Rattle.std.proofs.Common.{ℕ, get_or, ap, ◌∙◌, ap₂, arith}
-use Rattle.definitions.specs.Segment.{pair}
-use Rattle.min_max.specs.Keys.{key_of, word_of, range_of, range_from, all_keys}
-use Rattle.min_max.proofs.Order.{extremes-found, pair-other, pair-none, pair-some}
+use Rattle.std.proofs.Common.{◌≡◌, ◌<◌, length, get_or, arith}
+use Rattle.std.proofs.lemmas.Bool.Decides.{nat_tests}
+use Rattle.std.proofs.lemmas.Grind.{common_steps}
+use Rattle.definitions.specs.Types.{pair_of}
+use Rattle.min_max.specs.Keys.{shift_of, key_of, range_of, range_from, all_keys}
+use Rattle.min_max.proofs.Order.{extremes-found, pair-none, pair-some}
 use Rattle.min_max.proofs.pair_of.Goals as goal
 
-pub returns-then-t-gt1 : goal.returns-then-t-gt1
-returns-then-t-gt1 c =
-    pair-other _ _ c.if-t-gt1.true
+pub returns-then-t-ne-U64 : goal.returns-then-t-ne-U64
+unfolding pair_of
+returns-then-t-ne-U64 c = grind (arith, nat_tests)
 
-pub returns-then-words-eq0 : goal.returns-then-words-eq0
-returns-then-words-eq0 c =
-    pair-none _ _ c.if-words-eq0.true
+pub returns-in_default : goal.returns-in_default
+returns-in_default c =
+    let e : length c.args.words.now ≡ 0 = grind (arith, common_steps) in
+    let h = pair-none c.args.t c.args.words.now e in
+    grind arith
 
 pub returns : goal.returns
 returns c =
-    let t = c.args.t in
     let ws = c.args.words.now in
-    let shift = c.shift_of-shift.ensures in
-    let key = c.key_of-first.ensures.value ∙ ap (λ (n : ℕ). key_of n (get_or ws 0 0)) shift in
-    let found = c.range_of-r.ensures ∙ (λ i. range_from (range_of (key i) (key i)) (all_keys (shift i) ws)) in
-    ap₂ pair
-    (c.word_of.ensures ∙ (λ i. word_of (shift i) c.range_of-r.result.least))
-    (c.word_of-2.ensures ∙ (λ i. word_of (shift i) c.range_of-r.result.greatest))
-    ∙ extremes-found t ws (omega arith) (λ k. (c.shared_slice_known-1.given k).fits) found
-    ∙ pair-some t ws (omega arith)
+    let inside : 0 < length ws = grind (arith, common_steps) in
+    let first : get_or ws 0 0 ≡ c.in-Some.word = grind (arith, common_steps) in
+    let key = key_of (shift_of c.args.t) (get_or ws 0 0) in
+    let found : c.range_of-r.result ≡ range_from (range_of key key) (all_keys (shift_of c.args.t) ws) = cc in
+    let e = extremes-found c.args.t ws inside (λ k. (c.type_inv.words k).fits) found in
+    let s = pair-some c.args.t ws (omega arith) in
+    cc

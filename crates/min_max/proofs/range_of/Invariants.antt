@@ -1,10 +1,8 @@
-use Rattle.std.proofs.Common.{◌≡◌, ◌-◌, ◌≤◌, length, drop}
+use Rattle.std.proofs.Common.{◌≡◌, ◌*◌, drop}
 use Rattle.min_max.specs.Keys.{range_from, all_keys}
 use Rattle.min_max.proofs.Ranges.{of_four}
 use Rattle.min_max.proofs.range_of.Given as goal
 
-abbrev pub invariant-loop-i : goal.invariant-loop-i
-invariant-loop-i l = (l.i ≤ length l.words) × (range_from (of_four l.a l.b l.c l.d) (all_keys l.shift (drop l.i l.words)) ≡ range_from l.initial.a (all_keys l.shift l.words))
-
-abbrev pub decreases-loop-i : goal.decreases-loop-i
-decreases-loop-i l = length l.words - l.i
+abbrev pub invariant-loop-w : goal.invariant-loop-w
+invariant-loop-w l =
+    range_from (of_four l.a l.b l.c l.d) (all_keys l.shift (drop (l.w-index * 4) l.words)) ≡ range_from l.initial.a (all_keys l.shift l.words)

@@ -1,15 +1,11 @@
+use Rattle.std.proofs.Common.{rules}
 use Rattle.min_max.specs.Keys.{shift_of}
-use Rattle.lists.proofs.Tests.{at_code, past_code}
-use Rattle.min_max.specs.Keys.{shift_of}
-use Rattle.lists.proofs.Tests.{at_code, past_code}
 use Rattle.min_max.proofs.shift_of.Goals as goal
 
-pub returns-then-t-eq0 : goal.returns-then-t-eq0
+pub returns-then-t-eq-I64 : goal.returns-then-t-eq-I64
 unfolding shift_of
-returns-then-t-eq0 c =
-    at_code _ 0 _ _ c.if-t-eq0.true
+returns-then-t-eq-I64 c = search rules
 
-pub returns : goal.returns
+pub returns-else-t-eq-I64 : goal.returns-else-t-eq-I64
 unfolding shift_of
-returns c =
-    past_code _ 0 _ _ c.if-t-eq0.false
+returns-else-t-eq-I64 c = search rules

@@ -1,21 +1,14 @@
-use mathlib.Core.Path.{refl, ◌∙◌}
-use Prim.Native.Nat.{zero-le}
-use native.Mathlib.Omega.{arith}
-use Rattle.runs.proofs.Scans.{below-high, below_next, below_end}
+use Rattle.std.proofs.Common.{rules}
+use borrow.Author.Tests.{tests}
+use mathlib.Core.Path.{◌∙◌}
+use lib.Dec.{ltb}
+use Rattle.std.proofs.lemmas.Iterator.{YieldsList-from_slice}
+use Rattle.std.proofs.lemmas.Iterator.Search.{all_from_yields_List}
+use Rattle.definitions.specs.Lists.{all_below}
+use Rattle.runs.proofs.Scans.{list_all-all}
 use Rattle.runs.proofs.all_below.Goals as goal
 
-pub loop-i-init : goal.loop-i-init
-loop-i-init c =
-    (zero-le, refl)
-
-pub returns-then-limit-words : goal.returns-then-limit-words
-returns-then-limit-words c =
-    below-high _ _ _ c.loop-i-test.true c.if-limit-words.true ∙ c.loop-i.invariant.1
-
-pub loop-i-preserved : goal.loop-i-preserved
-loop-i-preserved c =
-    (omega arith, below_next _ _ _ c.loop-i-test.true c.if-limit-words.false ∙ c.loop-i.invariant.1)
-
 pub returns : goal.returns
+unfolding all_below
 returns c =
-    below_end _ _ _ c.loop-i-test.false ∙ c.loop-i.invariant.1
+    all_from_yields_List (λ x. ltb x c.args.limit) _ _ _ c.all.ensures.ran (YieldsList-from_slice c.args.words.now cc) (λ x b q k. search (rules, tests)) ∙ list_all-all (λ x. ltb x c.args.limit) c.args.words.now

@@ -8,12 +8,12 @@ use Rattle.sections_fit.proofs.all_alive_fit.Goals as goal
 
 pub returns-then-not-alive_fits : goal.returns-then-not-alive_fits
 returns-then-not-alive_fits c =
-    fell _ c.alive_fits.ensures (alive_step _ _ c.loop-r-test.true c.record_of-r.ensures c.args.mode _ c.split_at.ensures.front c.split_at.ensures.back c.alive_words.ensures.value) c.if-not-alive_fits.true ∙ c.loop-r.invariant.1
+    fell _ c.alive_fits.ensures (alive_step _ _ c.loop-r-test.true c.from-r.ensures c.args.mode _ c.split_at.ensures.front c.split_at.ensures.back c.alive_words.ensures.value) c.if-not-alive_fits.true ∙ c.loop-r.invariant.1
 
 pub loop-r-preserved : goal.loop-r-preserved
 loop-r-preserved c = (
-  omega (arith, c.alive_words.ensures.value, c.split_at.ensures.back_len, total_step c.args.records.now c.loop-r.r-index c.loop-r-test.true c.record_of-r.ensures alive_words, c.loop-r.invariant.0),
-  went _ c.alive_fits.ensures (alive_step _ _ c.loop-r-test.true c.record_of-r.ensures c.args.mode _ c.split_at.ensures.front c.split_at.ensures.back c.alive_words.ensures.value) c.if-not-alive_fits.false ∙ c.loop-r.invariant.1,
+  omega (arith, c.alive_words.ensures.value, c.split_at.ensures.back_len, total_step c.args.records.now c.loop-r.r-index c.loop-r-test.true c.from-r.ensures alive_words, c.loop-r.invariant.0),
+  went _ c.alive_fits.ensures (alive_step _ _ c.loop-r-test.true c.from-r.ensures c.args.mode _ c.split_at.ensures.front c.split_at.ensures.back c.alive_words.ensures.value) c.if-not-alive_fits.false ∙ c.loop-r.invariant.1,
 )
 
 pub returns : goal.returns

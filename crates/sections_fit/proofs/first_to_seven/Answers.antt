@@ -9,7 +9,7 @@ use Rattle.sections_fit.proofs.Own.{lengths-wrong, exact, input-codes, some-old,
 use Rattle.sections_fit.specs.declared.Totals.{Totals}
 use Rattle.sections_fit.specs.Walks.{sums_right}
 use Rattle.segment.specs.Records.{records_of}
-use Rattle.segment.specs.Lent.{lent_input}
+use Rattle.segment.specs.Lent.{input_in}
 use Rattle.segment.proofs.Walk.{records-long}
 use Rattle.definitions.specs.Answer.{too_many_segments}
 use Rattle.lists.proofs.Tests.{taken, other}
@@ -37,7 +37,7 @@ returns-then-not-lengths_fit c =
 
 pub returns-then-not-known_codes : goal.returns-then-not-known_codes
 returns-then-not-known_codes c =
-    let i = lent_input c.args.mode c.args.required c.args.records.now c.args.ids.now c.args.offsets.now c.args.values.now c.args.lengths.now c.args.bytes.now c.args.alive.now [] 0 in
+    let i = input_in c.args.mode c.args.required c.args.records.now c.args.sections.now [] 0 in
     let x = exact _ _ (sym c.lengths_fit.ensures ∙ c.if-not-lengths_fit.false) in
     let one = few c.args.records.now c.if-records-gt256.false in
     let two = lengths-wrong _ _ ∙ ap not (sym c.lengths_fit.ensures) ∙ (ap not c.if-not-lengths_fit.false) in
@@ -45,7 +45,7 @@ returns-then-not-known_codes c =
 
 pub returns-then-not-none_old : goal.returns-then-not-none_old
 returns-then-not-none_old c =
-    let i = lent_input c.args.mode c.args.required c.args.records.now c.args.ids.now c.args.offsets.now c.args.values.now c.args.lengths.now c.args.bytes.now c.args.alive.now [] 0 in
+    let i = input_in c.args.mode c.args.required c.args.records.now c.args.sections.now [] 0 in
     let x = exact _ _ (sym c.lengths_fit.ensures ∙ c.if-not-lengths_fit.false) in
     let one = few c.args.records.now c.if-records-gt256.false in
     let two = lengths-wrong _ _ ∙ ap not (sym c.lengths_fit.ensures) ∙ (ap not c.if-not-lengths_fit.false) in
@@ -59,7 +59,7 @@ all_lists_fit-requires c =
 
 pub returns-then-not-all_lists_fit : goal.returns-then-not-all_lists_fit
 returns-then-not-all_lists_fit c =
-    let i = lent_input c.args.mode c.args.required c.args.records.now c.args.ids.now c.args.offsets.now c.args.values.now c.args.lengths.now c.args.bytes.now c.args.alive.now [] 0 in
+    let i = input_in c.args.mode c.args.required c.args.records.now c.args.sections.now [] 0 in
     let x = exact _ _ (sym c.lengths_fit.ensures ∙ c.if-not-lengths_fit.false) in
     let one = few c.args.records.now c.if-records-gt256.false in
     let two = lengths-wrong _ _ ∙ ap not (sym c.lengths_fit.ensures) ∙ (ap not c.if-not-lengths_fit.false) in
@@ -74,7 +74,7 @@ all_values_fit-requires c =
 
 pub returns-then-not-all_values_fit : goal.returns-then-not-all_values_fit
 returns-then-not-all_values_fit c =
-    let i = lent_input c.args.mode c.args.required c.args.records.now c.args.ids.now c.args.offsets.now c.args.values.now c.args.lengths.now c.args.bytes.now c.args.alive.now [] 0 in
+    let i = input_in c.args.mode c.args.required c.args.records.now c.args.sections.now [] 0 in
     let x = exact _ _ (sym c.lengths_fit.ensures ∙ c.if-not-lengths_fit.false) in
     let one = few c.args.records.now c.if-records-gt256.false in
     let two = lengths-wrong _ _ ∙ ap not (sym c.lengths_fit.ensures) ∙ (ap not c.if-not-lengths_fit.false) in
@@ -89,7 +89,7 @@ all_alive_fit-requires c =
 
 pub returns-then-not-all_alive_fit : goal.returns-then-not-all_alive_fit
 returns-then-not-all_alive_fit c =
-    let i = lent_input c.args.mode c.args.required c.args.records.now c.args.ids.now c.args.offsets.now c.args.values.now c.args.lengths.now c.args.bytes.now c.args.alive.now [] 0 in
+    let i = input_in c.args.mode c.args.required c.args.records.now c.args.sections.now [] 0 in
     let x = exact _ _ (sym c.lengths_fit.ensures ∙ c.if-not-lengths_fit.false) in
     let one = few c.args.records.now c.if-records-gt256.false in
     let two = lengths-wrong _ _ ∙ ap not (sym c.lengths_fit.ensures) ∙ (ap not c.if-not-lengths_fit.false) in
@@ -101,7 +101,7 @@ returns-then-not-all_alive_fit c =
 
 pub returns-then-not-sums_fit : goal.returns-then-not-sums_fit
 returns-then-not-sums_fit c =
-    let i = lent_input c.args.mode c.args.required c.args.records.now c.args.ids.now c.args.offsets.now c.args.values.now c.args.lengths.now c.args.bytes.now c.args.alive.now [] 0 in
+    let i = input_in c.args.mode c.args.required c.args.records.now c.args.sections.now [] 0 in
     let x = exact _ _ (sym c.lengths_fit.ensures ∙ c.if-not-lengths_fit.false) in
     let one = few c.args.records.now c.if-records-gt256.false in
     let two = lengths-wrong _ _ ∙ ap not (sym c.lengths_fit.ensures) ∙ (ap not c.if-not-lengths_fit.false) in
@@ -114,7 +114,7 @@ returns-then-not-sums_fit c =
 
 pub returns : goal.returns
 returns c =
-    let i = lent_input c.args.mode c.args.required c.args.records.now c.args.ids.now c.args.offsets.now c.args.values.now c.args.lengths.now c.args.bytes.now c.args.alive.now [] 0 in
+    let i = input_in c.args.mode c.args.required c.args.records.now c.args.sections.now [] 0 in
     let x = exact _ _ (sym c.lengths_fit.ensures ∙ c.if-not-lengths_fit.false) in
     let one = few c.args.records.now c.if-records-gt256.false in
     let two = lengths-wrong _ _ ∙ ap not (sym c.lengths_fit.ensures) ∙ (ap not c.if-not-lengths_fit.false) in

@@ -13,7 +13,7 @@ wider b h = record { rows = omega (arith, b.rows); ids = omega (arith, b.ids); o
 
 pub loop-r-preserved : goal.loop-r-preserved
 loop-r-preserved c = (
-  ap (λ (t : Totals). totals_from t (records_of (drop (c.loop-r.r-index + 1) c.args.records.now))) c.plus-t.ensures.value ∙ totals_step _ _ c.loop-r-test.true c.record_of.ensures c.loop-r.t ∙ c.loop-r.invariant.0,
+  ap (λ (t : Totals). totals_from t (records_of (drop (c.loop-r.r-index + 1) c.args.records.now))) c.plus-t.ensures.value ∙ totals_step _ _ c.loop-r-test.true c.from.ensures c.loop-r.t ∙ c.loop-r.invariant.0,
   wider (c.plus-t.ensures.grown (c.loop-r.r-index * 8589934592) c.loop-r.invariant.1) (omega arith),
 )
 

@@ -1,28 +1,13 @@
-use mathlib.Core.Path.{◌≡◌, sym, ◌∙◌}
-use mathlib.Core.List.{List}
-use Prim.Native.Nat.{ℕ}
-use lib.Dec.{ltb}
-use Rattle.lists.proofs.Tests.{denied, granted}
-use Rattle.segment_fit.proofs.Laws.{ids-below, below_none}
-use Rattle.segment_fit.specs.Fits.{fits_ids, last_of}
-use mathlib.Core.Path.{ap}
-use mathlib.Core.Bool.{not}
+use Rattle.std.proofs.Common.{◌≡◌, true, ltb, sym, ◌∙◌, rules, tests}
+use Rattle.std.specs.Option.{MatchOption}
+use Rattle.lists.proofs.Tests.{past}
+use Rattle.segment_fit.specs.Fits.{fits_ids}
+use Rattle.segment_fit.proofs.Laws.{last-below}
 use Rattle.segment_fit.proofs.ids_fit.Goals as goal
 
-last-below : (a b rows : ℕ) (xs : List ℕ) → a ≡ last_of xs → b ≡ rows → ltb a b ≡ ltb (last_of xs) rows
-last-below a b rows xs p q = rw (p, q)
-
-pub returns-then-not-rises : goal.returns-then-not-rises
+pub returns-then-rises : goal.returns-then-rises
 unfolding fits_ids
-returns-then-not-rises c =
-    denied _ c.rises.ensures (ap not c.if-not-rises.true)
-
-pub returns-then-ids-eq0 : goal.returns-then-ids-eq0
-unfolding fits_ids
-returns-then-ids-eq0 c =
-    granted c.rises.ensures (ap not c.if-not-rises.false) (below_none _ _ c.if-ids-eq0.true)
-
-pub returns : goal.returns
-unfolding fits_ids
-returns c =
-    granted c.rises.ensures (ap not c.if-not-rises.false) (last-below _ _ _ _ c.last_of.ensures c.wide.ensures.value ∙ ids-below _ _ (sym c.rises.ensures ∙ c.if-not-rises.false) c.if-ids-eq0.false)
+returns-then-rises c =
+    let r = sym c.rises.ensures ∙ c.if-rises.true in
+    let l : MatchOption c.last.result (c.is_none_or.result ≡ true) (λ x. c.is_none_or.result ≡ ltb x.now c.args.rows) = search (rules, tests) in
+    past r (last-below c.args.rows c.args.ids.now c.last.result c.is_none_or.result c.last.ensures.value l r)

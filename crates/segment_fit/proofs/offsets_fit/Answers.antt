@@ -1,14 +1,11 @@
-use Rattle.segment_fit.proofs.Laws.{offsets-none, offsets-first, offsets-last}
+use Rattle.std.proofs.Common.{ℕ, eqb, ◌∙◌, ap, Option, Some}
+use Rattle.std.specs.Option.{option_eq}
+use Rattle.segment_fit.proofs.Laws.{told, offsets-ends}
 use Rattle.segment_fit.proofs.offsets_fit.Goals as goal
 
-pub returns-then-offsets-eq0 : goal.returns-then-offsets-eq0
-returns-then-offsets-eq0 c =
-    offsets-none _ _ c.if-offsets-eq0.true
-
-pub returns-then-offsets-ne0 : goal.returns-then-offsets-ne0
-returns-then-offsets-ne0 c =
-    offsets-first _ _ c.if-offsets-eq0.false c.if-offsets-ne0.true
-
-pub returns : goal.returns
-returns c =
-    offsets-last _ _ c.if-offsets-eq0.false _ _ c.if-offsets-ne0.false c.last_of.ensures c.wide.ensures.value
+pub returns-then-eq : goal.returns-then-eq
+returns-then-eq c =
+    offsets-ends c.args.values c.args.offsets.now c.eq.result c.eq-then-eq.result
+    (c.eq.ensures ∙ told c.first.result _ ∙ ap (λ (o : Option ℕ). option_eq eqb o (Some 0)) c.first.ensures.value)
+    (c.eq-then-eq.ensures ∙ told c.last.result _ ∙ ap (λ (o : Option ℕ). option_eq eqb o (Some c.args.values)) c.last.ensures.value)
+    c.if-eq.true

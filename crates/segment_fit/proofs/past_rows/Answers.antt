@@ -1,20 +1,11 @@
-use mathlib.Core.Path.{◌∙◌}
-use native.Mathlib.Omega.{arith}
-use Rattle.segment_fit.proofs.Laws.{past_start, past_found, past_next, past_end}
+use Rattle.std.proofs.Common.{refl, ◌∙◌, rules, tests}
+use Rattle.std.proofs.lemmas.Iterator.{YieldsList-from_range}
+use Rattle.std.proofs.lemmas.Iterator.Search.{any_from_yields_List}
+use Rattle.definitions.specs.Row.{bit_at}
+use Rattle.segment_fit.proofs.Laws.{past-bits}
 use Rattle.segment_fit.proofs.past_rows.Goals as goal
-
-pub loop-row-init : goal.loop-row-init
-loop-row-init c =
-    (omega arith, omega arith, past_start _ _ _ c.wide-row.ensures.value)
-
-pub returns-then-is_alive : goal.returns-then-is_alive
-returns-then-is_alive c =
-    past_found _ _ _ c.loop-row.invariant.0 (omega arith) c.is_alive.ensures c.if-is_alive.true ∙ c.loop-row.invariant.2
-
-pub loop-row-preserved : goal.loop-row-preserved
-loop-row-preserved c =
-    (omega arith, omega arith, past_next _ _ _ c.loop-row.invariant.0 (omega arith) c.is_alive.ensures c.if-is_alive.false ∙ c.loop-row.invariant.2)
 
 pub returns : goal.returns
 returns c =
-    past_end _ _ _ (omega arith) ∙ c.loop-row.invariant.2
+    any_from_yields_List (bit_at c.args.alive.now) _ _ _ c.any.ensures.ran (YieldsList-from_range c.args.rows _ _ refl refl) (λ x b q k. search (rules, tests))
+    ∙ past-bits c.args.rows c.args.alive.now _ refl

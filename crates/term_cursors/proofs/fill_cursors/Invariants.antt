@@ -1,10 +1,5 @@
-use Prim.Native.Nat.{◌-◌}
-use lib.ListN.{length}
 use Rattle.term_cursors.proofs.Begin.{Filling}
 use Rattle.term_cursors.proofs.fill_cursors.Given as goal
 
 abbrev pub invariant-loop-s : goal.invariant-loop-s
 invariant-loop-s l = Filling l.stands l.lengths l.bytes l.marks l.all l.cursors l.s
-
-abbrev pub decreases-loop-s : goal.decreases-loop-s
-decreases-loop-s l = length l.stands - l.s

@@ -1,18 +1,15 @@
-use Rattle.term_cursors.proofs.Cursors.{unmarked-all, unmarked-none, unmarked-some}
+use mathlib.Core.Bool.{Bool, true, false, cond}
+use mathlib.Core.Path.{◌≡◌, refl}
+use mir.Val.{bool_byte}
+use Rattle.term_cursors.specs.Cursors.{unmarked_at}
 use Rattle.term_cursors.proofs.unmarked_at.Goals as goal
+use Rattle.term_cursors.proofs.unmarked_at.Goals.{then-not-all, else-not-all}
 
-pub returns-then-all : goal.returns-then-all
-returns-then-all c =
-    unmarked-all _ _ _ c.if-all.true
-
-pub bounds-marks-at : goal.bounds-marks-at
-bounds-marks-at c =
-    c.requires c.if-all.false
-
-pub returns-then-marks-at-eq0 : goal.returns-then-marks-at-eq0
-returns-then-marks-at-eq0 c =
-    unmarked-none _ _ _ c.if-all.false c.if-marks-at-eq0.true
+byte-is : (b : Bool) → bool_byte b ≡ cond b 1 0
+byte-is true = refl
+byte-is false = refl
 
 pub returns : goal.returns
+unfolding unmarked_at
 returns c =
-    unmarked-some _ _ _ c.if-all.false c.if-marks-at-eq0.false
+    elim c.if-not-all.branch [ then-not-all w ↦ rw (w.result-is, w.if-not-all.true) (byte-is _) | else-not-all w ↦ rw (w.result-is, w.if-not-all.false) ]

@@ -1,21 +1,18 @@
-use mathlib.Core.Path.{subst}
-use Prim.Native.Nat.{ℕ, ◌≤◌, ◌<◌}
-use Rattle.term_merger.specs.Order.{cell}
 use Rattle.term_merger.proofs.Laws.{top_stays, top_leaves}
 use Rattle.term_merger.proofs.keep_top.Goals as goal
 
 pub returns-then-top-clause-value : goal.returns-then-top-clause-value
 returns-then-top-clause-value c =
-    (top_stays c.args.cursors.now c.args.seg.now c.args.len (subst (λ (x : ℕ). cell c.args.cursors.now x 3 < cell c.args.cursors.now x 4) c.byte-s.ensures.0 c.if-top.true)).0
+    (top_stays c.args.cursors.now c.args.seg.now c.args.len c.if-top.true).0
 
 pub returns-then-top-clause-seg_after : goal.returns-then-top-clause-seg_after
 returns-then-top-clause-seg_after c =
-    (top_stays c.args.cursors.now c.args.seg.now c.args.len (subst (λ (x : ℕ). cell c.args.cursors.now x 3 < cell c.args.cursors.now x 4) c.byte-s.ensures.0 c.if-top.true)).1
+    (top_stays c.args.cursors.now c.args.seg.now c.args.len c.if-top.true).1
 
 pub returns-clause-value : goal.returns-clause-value
 returns-clause-value c =
-    (top_leaves c.args.cursors.now c.args.seg.now c.args.len (subst (λ (x : ℕ). cell c.args.cursors.now x 4 ≤ cell c.args.cursors.now x 3) c.byte-s.ensures.0 c.if-top.false)).0
+    (top_leaves c.args.cursors.now c.args.seg.now c.args.len c.if-top.false).0
 
 pub returns-clause-seg_after : goal.returns-clause-seg_after
 returns-clause-seg_after c =
-    (top_leaves c.args.cursors.now c.args.seg.now c.args.len (subst (λ (x : ℕ). cell c.args.cursors.now x 4 ≤ cell c.args.cursors.now x 3) c.byte-s.ensures.0 c.if-top.false)).1
+    (top_leaves c.args.cursors.now c.args.seg.now c.args.len c.if-top.false).1

@@ -25,10 +25,10 @@ push-h-requires-clause-ordered c =
 pub loop-s-preserved : goal.loop-s-preserved
 loop-s-preserved c =
     elim c.if-cursor.branch [
-      | then-cursor w ↦ subst (λ (h : Heap). Begun c.args.bytes.now c.args.cursors.now h (c.loop-s.s + 1)) (sym w.h-is) (begun_push c.loop-s.invariant c.loop-s-test.true (w.push-h.ensures.room (omega (arith, c.loop-s.invariant.len, c.loop-s-test.true))) (omega (arith, w.if-cursor.true)))
-      | else-cursor w ↦ subst (λ (h : Heap). Begun c.args.bytes.now c.args.cursors.now h (c.loop-s.s + 1)) (sym w.h-is) (begun_pass c.loop-s.invariant c.loop-s-test.true (omega (arith, w.if-cursor.false)))
+      | then-cursor w ↦ subst (λ (h : Heap). Begun c.args.bytes.now c.args.cursors.now h (c.loop-s.s + 1)) (sym w.h-is) (begun_push c.loop-s.invariant (omega (arith, c.loop-s-test.true, c.requires.0)) (w.push-h.ensures.room (omega (arith, c.loop-s.invariant.len, c.loop-s-test.true, c.requires.0))) (omega (arith, w.if-cursor.true)))
+      | else-cursor w ↦ subst (λ (h : Heap). Begun c.args.bytes.now c.args.cursors.now h (c.loop-s.s + 1)) (sym w.h-is) (begun_pass c.loop-s.invariant (omega (arith, c.loop-s-test.true, c.requires.0)) (omega (arith, w.if-cursor.false)))
     ]
 
 pub returns : goal.returns
 returns c =
-    begun_end _ _ _ _ c.loop-s.invariant c.loop-s-test.false c.requires.0
+    begun_end _ _ _ _ c.loop-s.invariant (omega (arith, c.loop-s-test.false, c.requires.0)) c.requires.0

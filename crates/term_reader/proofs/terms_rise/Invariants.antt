@@ -7,4 +7,4 @@ abbrev pub invariant-loop-reader : goal.invariant-loop-reader
 invariant-loop-reader l = Stands l.lengths l.bytes l.reader
 
 abbrev pub decreases-loop-reader : goal.decreases-loop-reader
-decreases-loop-reader l = length l.lengths - l.reader.ordinal
+decreases-loop-reader l = length l.lengths - l.reader.place.ordinal

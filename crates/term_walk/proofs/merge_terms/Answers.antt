@@ -2,8 +2,9 @@ use borrow.Author.Rules.{rules}
 use mathlib.Core.Path.{refl}
 use mathlib.Core.List.{[]}
 use native.Mathlib.Omega.{arith}
+use lib.ListN.{get_or}
 use Rattle.term_merger.proofs.Walk.{sinking_new}
-use Rattle.term_walk.proofs.Going.{going_start, going_more, cursor_in, terms-room, texts-room, place_in, end-s, fits-s, stepped, small-ordinal, size-new, readable-new, fewer}
+use Rattle.term_walk.proofs.Going.{going_start, going_more, term-inside, s_range, terms-room, texts-room, place_in, end-s, fits-s, stepped, small-ordinal, size-new, readable-new, fewer}
 use Rattle.term_walk.proofs.Ends.{walked, cursors_passed}
 use Rattle.term_walk.proofs.merge_terms.Goals as goal
 
@@ -17,11 +18,11 @@ bounds-h-0 c =
 
 pub slice_copy_out-cursor : goal.slice_copy_out-cursor
 slice_copy_out-cursor c =
-    omega (arith, c.byte-s.ensures.1, c.loop-h.invariant.2.size)
+    omega (arith, s_range c.requires.ready c.loop-h.invariant.2 c.loop-h-test.true refl, c.loop-h.invariant.2.size)
 
 pub take_term-t-requires-clause-inside : goal.take_term-t-requires-clause-inside
 take_term-t-requires-clause-inside c =
-    cursor_in c.requires.ready c.loop-h.invariant.2 c.loop-h-test.true c.byte-s.ensures.0
+    term-inside c.requires.ready c.loop-h.invariant.2 c.loop-h-test.true refl
 
 pub take_term-t-requires-clause-inside_2 : goal.take_term-t-requires-clause-inside_2
 take_term-t-requires-clause-inside_2 c =
@@ -29,52 +30,52 @@ take_term-t-requires-clause-inside_2 c =
 
 pub take_term-t-requires-clause-terms_in_bounds : goal.take_term-t-requires-clause-terms_in_bounds
 take_term-t-requires-clause-terms_in_bounds c =
-    (terms-room c.requires.ready c.loop-h.invariant.2 c.loop-h-test.true c.byte-s.ensures.0, texts-room c.requires.ready c.loop-h.invariant.2 c.loop-h-test.true c.byte-s.ensures.0)
+    (terms-room c.requires.ready c.loop-h.invariant.2 c.loop-h-test.true refl, texts-room c.requires.ready c.loop-h.invariant.2 c.loop-h-test.true refl)
 
 pub overflow_cast-map : goal.overflow_cast-map
 overflow_cast-map c =
-    omega (arith, small-ordinal c.requires.ready c.loop-h.invariant.2 c.loop-h-test.true c.byte-s.ensures.0 _ _ _ (stepped c.requires.ready c.loop-h.invariant.2 c.loop-h-test.true c.byte-s.ensures.0 _ _ _ c.take_term-t.ensures).1)
+    omega (arith, small-ordinal c.requires.ready c.loop-h.invariant.2 c.loop-h-test.true refl _ _ _ (stepped c.requires.ready c.loop-h.invariant.2 c.loop-h-test.true refl _ _ _ c.take_term-t.ensures).1)
 
-pub bounds-map-to : goal.bounds-map-to
-bounds-map-to c =
-    omega (arith, place_in c.requires.ready c.loop-h.invariant.2 c.loop-h-test.true c.byte-s.ensures.0)
+pub bounds-map-cursor : goal.bounds-map-cursor
+bounds-map-cursor c =
+    omega (arith, place_in c.requires.ready c.loop-h.invariant.2 c.loop-h-test.true refl)
 
 pub overflow_add-at : goal.overflow_add-at
 overflow_add-at c =
-    omega (arith, (cursor_in c.requires.ready c.loop-h.invariant.2 c.loop-h-test.true c.byte-s.ensures.0).1)
+    omega (arith, (term-inside c.requires.ready c.loop-h.invariant.2 c.loop-h-test.true refl).1)
 
 pub overflow_add-at-in-loop-h : goal.overflow_add-at-in-loop-h
 overflow_add-at-in-loop-h c =
-    omega (arith, place_in c.requires.ready c.loop-h.invariant.2 c.loop-h-test.true c.byte-s.ensures.0, c.loop-h.invariant.2.size-map)
+    omega (arith, place_in c.requires.ready c.loop-h.invariant.2 c.loop-h-test.true refl, c.loop-h.invariant.2.size-map)
 
 pub put_cursor-requires-clause-standing : goal.put_cursor-requires-clause-standing
 put_cursor-requires-clause-standing c =
     record {
-      inside = omega (arith, end-s c.requires.ready c.loop-h.invariant.2 c.loop-h-test.true c.byte-s.ensures.0, c.requires.ready.inside c.byte-s.result);
-      marked = λ e. omega (arith, end-s c.requires.ready c.loop-h.invariant.2 c.loop-h-test.true c.byte-s.ensures.0, c.requires.ready.marked c.byte-s.result e);
-      text = fits-s c.requires.ready c.loop-h.invariant.2 c.loop-h-test.true c.byte-s.ensures.0;
+      inside = omega (arith, end-s c.requires.ready c.loop-h.invariant.2 c.loop-h-test.true refl, c.requires.ready.inside (get_or c.loop-h.h.seg 0 0));
+      marked = λ e. omega (arith, end-s c.requires.ready c.loop-h.invariant.2 c.loop-h-test.true refl, c.requires.ready.marked (get_or c.loop-h.h.seg 0 0) e);
+      text = fits-s c.requires.ready c.loop-h.invariant.2 c.loop-h-test.true refl;
     }
 
 pub put_cursor-requires-clause-s_in_bounds : goal.put_cursor-requires-clause-s_in_bounds
 put_cursor-requires-clause-s_in_bounds c =
-    omega (arith, c.byte-s.ensures.1, c.loop-h.invariant.2.size)
+    omega (arith, s_range c.requires.ready c.loop-h.invariant.2 c.loop-h-test.true refl, c.loop-h.invariant.2.size)
 
 pub settle_top-requires-clause-in_bounds : goal.settle_top-requires-clause-in_bounds
 settle_top-requires-clause-in_bounds c =
-    (omega (arith, size-new c.requires.ready c.loop-h.invariant.2 c.loop-h-test.true c.byte-s.ensures.0 c.put_cursor.ensures), readable-new c.requires.ready c.loop-h.invariant.2 c.loop-h-test.true c.byte-s.ensures.0 c.put_cursor.ensures)
+    (omega (arith, size-new c.requires.ready c.loop-h.invariant.2 c.loop-h-test.true refl c.put_cursor.ensures), readable-new c.requires.ready c.loop-h.invariant.2 c.loop-h-test.true refl c.put_cursor.ensures)
 
 pub settle_top-requires-clause-seg_len : goal.settle_top-requires-clause-seg_len
 settle_top-requires-clause-seg_len c =
-    (c.loop-h.invariant.2.heap.full, c.loop-h-test.true, c.loop-h.invariant.2.heap.len, sinking_new c.loop-h.invariant.2.heap c.loop-h-test.true c.byte-s.ensures.0 _ c.put_cursor.ensures)
+    (c.loop-h.invariant.2.heap.full, c.loop-h-test.true, c.loop-h.invariant.2.heap.len, sinking_new c.loop-h.invariant.2.heap c.loop-h-test.true refl _ c.put_cursor.ensures)
 
 pub loop-h-smaller : goal.loop-h-smaller
 loop-h-smaller c =
-    fewer c.requires.ready c.loop-h.invariant.2 c.loop-h-test.true c.byte-s.ensures.0 c.put_cursor.ensures
+    fewer c.requires.ready c.loop-h.invariant.2 c.loop-h-test.true refl c.put_cursor.ensures
 
 pub loop-h-preserved : goal.loop-h-preserved
 loop-h-preserved c =
-    let st = stepped c.requires.ready c.loop-h.invariant.2 c.loop-h-test.true c.byte-s.ensures.0 _ _ _ c.take_term-t.ensures in
-    (_, st.0, going_more c.requires.ready c.loop-h.invariant.2 c.loop-h-test.true c.byte-s.ensures.0 c.put_cursor.ensures _ _ _ _ st.1 _ refl c.settle_top.ensures)
+    let st = stepped c.requires.ready c.loop-h.invariant.2 c.loop-h-test.true refl _ _ _ c.take_term-t.ensures in
+    (_, st.0, going_more c.requires.ready c.loop-h.invariant.2 c.loop-h-test.true refl c.put_cursor.ensures _ _ _ _ st.1 _ refl c.settle_top.ensures)
 
 pub shape_of-cursors : goal.shape_of-cursors
 shape_of-cursors c =
@@ -100,6 +101,6 @@ pub returns-clause-cursors_after : goal.returns-clause-cursors_after
 returns-clause-cursors_after c =
     cursors_passed c.requires.ready c.loop-h.invariant.2 c.loop-h-test.false
 
-pub offset_bounds-map-to : goal.offset_bounds-map-to
-offset_bounds-map-to c =
-    omega (arith, place_in c.requires.ready c.loop-h.invariant.2 c.loop-h-test.true c.byte-s.ensures.0, c.loop-h.invariant.2.size-map, c.well_formed)
+pub offset_bounds-map-cursor : goal.offset_bounds-map-cursor
+offset_bounds-map-cursor c =
+    omega (arith, place_in c.requires.ready c.loop-h.invariant.2 c.loop-h-test.true refl, c.loop-h.invariant.2.size-map, c.well_formed)

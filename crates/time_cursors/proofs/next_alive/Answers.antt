@@ -1,28 +1,26 @@
-use mathlib.Core.Path.{refl, sym, ◌∙◌}
+use mathlib.Core.Path.{◌≡◌, refl, sym, ap, ◌∙◌}
+use native.Mathlib.Nat.{le_refl}
 use native.Mathlib.Omega.{arith}
+use Rattle.time_cursors.specs.Cursors.{next_row}
 use Rattle.time_cursors.proofs.Laws.{next-plain, next_here, next_later, next-none}
 use Rattle.time_cursors.proofs.next_alive.Goals as goal
 
 pub returns-then-flag-ne1 : goal.returns-then-flag-ne1
-returns-then-flag-ne1 c =
-    next-plain _ _ _ _ c.if-flag-ne1.true
+returns-then-flag-ne1 c = next-plain _ _ _ _ c.if-flag-ne1.true
 
 pub loop-n-init : goal.loop-n-init
-loop-n-init c =
-    (c.requires.from_le_rows, refl)
+loop-n-init c = refl
 
 pub is_alive-requires : goal.is_alive-requires
-is_alive-requires c =
-    omega (arith, c.requires.rows_bound c.if-flag-ne1.false, c.loop-n-test.true)
+is_alive-requires c = omega (arith, c.requires.rows_bound c.if-flag-ne1.false, c.loop-n-test.true)
 
 pub returns-then-is_alive : goal.returns-then-is_alive
-returns-then-is_alive c =
-    next_here _ _ _ _ c.if-flag-ne1.false c.loop-n-test.true (sym c.is_alive.ensures ∙ c.if-is_alive.true) ∙ c.loop-n.invariant.1
+returns-then-is_alive c = next_here _ _ _ _ c.if-flag-ne1.false c.loop-n-test.true (sym c.is_alive.ensures ∙ c.if-is_alive.true) ∙ c.loop-n.invariant
 
 pub loop-n-preserved : goal.loop-n-preserved
-loop-n-preserved c =
-    (omega (arith, c.loop-n-test.true), next_later _ _ _ _ c.if-flag-ne1.false c.loop-n-test.true (sym c.is_alive.ensures ∙ c.if-is_alive.false) ∙ c.loop-n.invariant.1)
+loop-n-preserved c = next_later _ _ _ _ c.if-flag-ne1.false c.loop-n-test.true (sym c.is_alive.ensures ∙ c.if-is_alive.false) ∙ c.loop-n.invariant
 
 pub returns : goal.returns
 returns c =
-    next-none _ _ _ _ c.loop-n-test.false ∙ c.loop-n.invariant.1
+    let e : c.args.rows ≡ c.loop-n.n = omega (arith, c.loop-n.auto.n-end c.requires.from_le_rows) in
+    next-none _ _ _ _ (le_refl c.args.rows) ∙ ap (next_row c.args.flag c.args.alive.now c.args.rows) e ∙ c.loop-n.invariant

@@ -1,10 +1,6 @@
 use mathlib.Core.Path.{◌≡◌}
-use Prim.Native.Nat.{◌-◌, ◌≤◌}
 use Rattle.time_cursors.specs.Cursors.{next_row}
 use Rattle.time_cursors.proofs.next_alive.Given as goal
 
 abbrev pub invariant-loop-n : goal.invariant-loop-n
-invariant-loop-n l = (l.n ≤ l.rows) × (next_row l.flag l.alive l.rows l.n ≡ next_row l.flag l.alive l.rows l.from)
-
-abbrev pub decreases-loop-n : goal.decreases-loop-n
-decreases-loop-n l = l.rows - l.n
+invariant-loop-n l = next_row l.flag l.alive l.rows l.n ≡ next_row l.flag l.alive l.rows l.from

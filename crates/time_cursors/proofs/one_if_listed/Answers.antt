@@ -11,8 +11,8 @@ byte-is false = (refl, omega arith)
 
 pub returns-clause-value : goal.returns-clause-value
 returns-clause-value c =
-    (byte-is c.is_listed-b.result).0 ∙ ap (λ (b : Bool). cond b 1 0) c.is_listed-b.ensures
+    (byte-is c.is_listed.result).0 ∙ ap (λ (b : Bool). cond b 1 0) c.is_listed.ensures
 
 pub returns-clause-upper_bound : goal.returns-clause-upper_bound
 returns-clause-upper_bound c =
-    (byte-is c.is_listed-b.result).1
+    (byte-is c.is_listed.result).1

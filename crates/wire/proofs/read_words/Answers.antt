@@ -1,17 +1,13 @@
-use borrow.Author.Rules.{rules}
-use mathlib.Core.Path.{refl, sym, ◌∙◌}
-use mathlib.Core.List.{List}
-use Prim.Native.Nat.{ℕ}
+use Rattle.wire.proofs.Filled.{one_more, all_put}
+use Rattle.runs.proofs.Laws.{putting-none}
 use native.Mathlib.Omega.{arith}
-use lib.ListN.{length-set}
-use Rattle.definitions.specs.Wire.{words_of}
-use Rattle.runs.proofs.Laws.{putting-none, putting-first, putting-all}
+use mathlib.Core.Path.{sym, ◌∙◌}
 use Rattle.wire.proofs.Words as laws
 use Rattle.wire.proofs.read_words.Goals as goal
 
 pub loop-i-init : goal.loop-i-init
 loop-i-init c =
-    (search rules, putting-none _ _ _, refl)
+    putting-none _ _ _
 
 pub bounds-words-i : goal.bounds-words-i
 bounds-words-i c =
@@ -19,16 +15,12 @@ bounds-words-i c =
 
 pub loop-i-preserved : goal.loop-i-preserved
 loop-i-preserved c =
-    let input : List ℕ = c.args.input.now in
-    let e = laws.words-length input in
-    (omega (arith, c.loop-i-test.true), rw (c.loop-i.invariant.1, c.word_at.ensures, ← laws.words-at input c.loop-i.i c.loop-i-test.true) (putting-first {A = ℕ} (words_of input) _ c.loop-i.i 0 c.requires (omega (arith, c.loop-i-test.true))), simp length-set c.loop-i.invariant.2)
+    one_more _ _ c.loop-i.invariant (laws.words-length c.args.input.now) 0 _ (omega (arith, c.requires, laws.words-length c.args.input.now)) c.loop-i-test.true (laws.words-at c.args.input.now c.loop-i.i c.loop-i-test.true ∙ sym c.word_at.ensures)
 
 pub returns-clause-value : goal.returns-clause-value
 returns-clause-value c =
-    let e = laws.words-length c.args.input.now in
-    sym e
+    sym (laws.words-length c.args.input.now)
 
 pub returns-clause-words_after : goal.returns-clause-words_after
 returns-clause-words_after c =
-    let e = laws.words-length c.args.input.now in
-    c.loop-i.invariant.1 ∙ putting-all _ _ _ _ _ refl (omega (arith, c.loop-i.invariant.0)) (omega (arith, c.loop-i-test.false))
+    all_put _ _ c.loop-i.invariant (laws.words-length c.args.input.now) (omega arith) c.loop-i-test.false

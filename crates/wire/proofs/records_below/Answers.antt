@@ -5,4 +5,4 @@ use Rattle.wire.proofs.records_below.Goals as goal
 
 pub returns : goal.returns
 returns c =
-    c.records_narrow.ensures ∙ ap records_narrow (groups_are (word_sections c.args.words.now) c.section-s.ensures)
+    c.records_narrow.ensures ∙ ap records_narrow (groups_are (word_sections c.args.words.now) c.section.ensures)

@@ -1,4 +1,4 @@
-use Prim.Native.Nat.{◌+◌, ◌-◌, ◌≤◌}
+use Prim.Native.Nat.{◌+◌, ◌≤◌}
 use lib.ListN.{length}
 use Rattle.definitions.specs.Wire.{word_sections, ends_from}
 use Rattle.runs.proofs.Laws.{Filling}
@@ -6,7 +6,4 @@ use Rattle.wire.proofs.Sections as laws
 use Rattle.wire.proofs.section_bounds.Given as goal
 
 abbrev pub invariant-loop-k : goal.invariant-loop-k
-invariant-loop-k l = (l.k ≤ 9) × (l.at ≤ length l.words) × Filling 1 (ends_from 0 (word_sections l.words)) l.initial.bounds (laws.ends_left l.words l.k l.at) l.bounds (l.k + 1)
-
-abbrev pub decreases-loop-k : goal.decreases-loop-k
-decreases-loop-k l = 9 - l.k
+invariant-loop-k l = (l.at ≤ length l.words) × Filling 1 (ends_from 0 (word_sections l.words)) l.initial.bounds (laws.ends_left l.words l.k l.at) l.bounds (l.k + 1)

@@ -1,27 +1,39 @@
-use mathlib.Core.Path.{sym, ◌∙◌}
-use Rattle.withdraw.proofs.Answers.{two, three, six, fifteen, sixteen, none}
+use Rattle.std.proofs.Common.{arith}
+use Rattle.definitions.specs.Withdraw.{alive_words_wrong, row_absent, mark_checks, mark_number}
+use Rattle.segment.specs.Records.{record_in}
+use Rattle.segment_fit.proofs.Own.{set_is}
 use Rattle.withdraw.proofs.first_wrong.Goals as goal
 
 pub returns-then-words-alive_words : goal.returns-then-words-alive_words
+unfolding mark_number mark_checks alive_words_wrong
 returns-then-words-alive_words c =
-    two c.args.r c.args.words.now c.args.rows.now (λ e. c.if-words-alive_words.true (e ∙ sym c.alive_words.ensures.value))
+    grind arith
 
 pub returns-then-r-ge2 : goal.returns-then-r-ge2
+unfolding mark_number mark_checks alive_words_wrong
 returns-then-r-ge2 c =
-    three c.args.r c.args.words.now c.args.rows.now (c.if-words-alive_words.false ∙ c.alive_words.ensures.value) c.if-r-ge2.true
+    grind arith
 
 pub returns-then-not-set_fits : goal.returns-then-not-set_fits
+unfolding mark_number mark_checks alive_words_wrong
 returns-then-not-set_fits c =
-    six c.args.r c.args.words.now c.args.rows.now (c.if-words-alive_words.false ∙ c.alive_words.ensures.value) c.if-r-ge2.false c.set_fits.ensures c.if-not-set_fits.true
+    let is = set_is (record_in c.args.r) c.args.words.now in
+    grind arith
 
 pub returns-then-not-rows_there : goal.returns-then-not-rows_there
+unfolding mark_number mark_checks alive_words_wrong row_absent
 returns-then-not-rows_there c =
-    fifteen c.args.r c.args.words.now c.args.rows.now (c.if-words-alive_words.false ∙ c.alive_words.ensures.value) c.if-r-ge2.false c.set_fits.ensures c.if-not-set_fits.false c.rows_there.ensures c.if-not-rows_there.true
+    let is = set_is (record_in c.args.r) c.args.words.now in
+    grind arith
 
 pub returns-then-r-eq0 : goal.returns-then-r-eq0
+unfolding mark_number mark_checks alive_words_wrong row_absent
 returns-then-r-eq0 c =
-    sixteen c.args.r c.args.words.now c.args.rows.now (c.if-words-alive_words.false ∙ c.alive_words.ensures.value) c.if-r-ge2.false c.set_fits.ensures c.if-not-set_fits.false c.rows_there.ensures c.if-not-rows_there.false c.if-r-eq0.true
+    let is = set_is (record_in c.args.r) c.args.words.now in
+    grind arith
 
 pub returns : goal.returns
+unfolding mark_number mark_checks alive_words_wrong row_absent
 returns c =
-    none c.args.r c.args.words.now c.args.rows.now (c.if-words-alive_words.false ∙ c.alive_words.ensures.value) c.if-r-ge2.false c.set_fits.ensures c.if-not-set_fits.false c.rows_there.ensures c.if-not-rows_there.false c.if-r-eq0.false
+    let is = set_is (record_in c.args.r) c.args.words.now in
+    grind arith
