@@ -165,7 +165,7 @@ fn class_by(p: Stand, c: Census) -> u32
 fn is_held(typ: usize, values: usize) -> bool
     ensures { result ≡ held_by typ values }
 {
-    typ != 255 && values != 0
+    typ != column_type::ABSENT as usize && values != 0
 }
 
 // A held segment, its part of the map from an index on.

@@ -19,7 +19,7 @@ next-p-requires c =
 pub loop-s-preserved : goal.loop-s-preserved
 loop-s-preserved c =
     let e = c.next-p.ensures.value ∙ ap (λ (x : Record). next_stand c.loop-s.p (record_in x)) c.from.ensures ∙ next-is c.loop-s.invariant.0 in
-    (ends_next _ e, low-next _ c.loop-s.invariant.1 c.next-p.ensures.grown, rw c.loop-s.invariant.2 (table_more (λ k. numbers_of (stand_in c.args.records.now k)) _ _ _ _ c.requires.records_in_bounds c.loop-s-test.true (c.from.ensures ∙ ap numbers_of e)))
+    (ends_next _ e, low-next _ c.loop-s.invariant.1 c.next-p.ensures.grown, rw c.loop-s.invariant.2 (table_more (λ k. numbers_of (stand_in c.args.records.now k)) _ _ _ _ c.requires.records_in_bounds c.loop-s-test.true (c.from-in-loop-s.ensures ∙ ap numbers_of e)))
 
 pub returns : goal.returns
 returns c =
