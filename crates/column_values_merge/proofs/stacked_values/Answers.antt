@@ -4,11 +4,11 @@ use Rattle.column_values_merge.proofs.stacked_values.Goals as goal
 
 pub append_words-requires-clause-vs_in_bounds : goal.append_words-requires-clause-vs_in_bounds
 append_words-requires-clause-vs_in_bounds c =
-    words-room c.args.to c.args.stands.now c.args.values.now c.args.map.now c.loop-row-test.true c.stand_of-p.ensures c.loop-row.invariant
+    words-room c.args.to c.args.stands.now c.args.values.now c.args.map.now c.loop-row-test.true c.from-p.ensures c.loop-row.invariant
 
 pub loop-row-preserved : goal.loop-row-preserved
 loop-row-preserved c =
-    words_more c.args.to c.args.stands.now c.args.values.now c.args.map.now c.loop-row-test.true c.stand_of-p.ensures c.loop-row.invariant c.append_words.ensures
+    words_more c.args.to c.args.stands.now c.args.values.now c.args.map.now c.loop-row-test.true c.from-p.ensures c.loop-row.invariant c.append_words.ensures
 
 pub returns-clause-value : goal.returns-clause-value
 returns-clause-value c =
