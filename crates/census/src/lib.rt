@@ -165,7 +165,7 @@ fn class_by(p: Stand, c: Census) -> u32
 fn is_held(typ: usize, values: usize) -> bool
     ensures { result ≡ held_by typ values }
 {
-    typ != 255 && values != 0
+    typ != column_type::ABSENT as usize && values != 0
 }
 
 // A held segment, its part of the map from an index on.
@@ -191,22 +191,10 @@ fn dropped_at(p: Stand, map: usize, text: Span) -> Stand
         held: 0,
         count: 0,
         unit: 1,
-        ids: Span {
-            to: p.ids.from,
-            ..p.ids
-        },
-        offsets: Span {
-            to: p.offsets.from,
-            ..p.offsets
-        },
-        values: Span {
-            to: p.values.from,
-            ..p.values
-        },
-        terms: Span {
-            to: p.terms.from,
-            ..p.terms
-        },
+        ids: p.ids.emptied(),
+        offsets: p.offsets.emptied(),
+        values: p.values.emptied(),
+        terms: p.terms.emptied(),
         text: Span {
             from: text.to,
             ..text

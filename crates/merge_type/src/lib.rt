@@ -11,6 +11,7 @@ ghost use Rattle.merge_type.specs.Parts.{is_part, types_in, Coded, held_in, one_
 ghost use Rattle.merge_type.specs.Only.{types_from};
 ghost use Rattle.merge_type.specs.Found.{found_with};
 
+use column_type::ABSENT;
 use min_max::Range;
 use stands::{Stand, StandNumbers};
 
@@ -18,14 +19,14 @@ use stands::{Stand, StandNumbers};
 fn fits_first(first: u32, t: u32) -> bool
     ensures { result ≡ fits_first first t }
 {
-    first == 255 || t == 255 || column_type::category_of(first) == column_type::category_of(t)
+    first == ABSENT || t == ABSENT || column_type::category_of(first) == column_type::category_of(t)
 }
 
 #[tactic(auto, unfolding(crate::specs::Parts::is_part))]
 fn is_part(p: Stand) -> bool
     ensures { result ≡ is_part p }
 {
-    p.held == 1 && p.typ != 255
+    p.held == 1 && p.typ != ABSENT as usize
 }
 
 // The least and the greatest of a column's values.
@@ -92,12 +93,12 @@ impl Columns<'_> {
     fn only_type(&self) -> Option<u32>
         ensures { result ≡ types_from 255 self.now.stands.now }
     {
-        let mut first = 255;
+        let mut first = ABSENT;
         for &row in self.stands {
             let p = Stand::from(row);
             if is_part(p) {
                 let t = p.typ as u32;
-                if first != 255 && first != t {
+                if first != ABSENT && first != t {
                     return None;
                 }
                 first = t;
@@ -110,7 +111,7 @@ impl Columns<'_> {
     fn joined_type(&self, required: u32) -> u32
         ensures { result ≡ type_of required (held_in self.now.stands.now) }
     {
-        if required != 255 {
+        if required != ABSENT {
             return required;
         }
         match self.only_type() {

@@ -5,7 +5,7 @@ ghost use Rattle.std.specs.Prelude.{◌≡◌, [], ◌<◌, ◌≤◌, ◌+◌, 
 ghost use Rattle.runs.specs.Put.{put};
 ghost use Rattle.segment.specs.Records.{record_in};
 ghost use Rattle.stands.specs.Width.{id_part};
-ghost use Rattle.stands.specs.Stand.{table, stand_of, numbers_of, many, span, nowhere, next_stand, Low, Grown, stand_in};
+ghost use Rattle.stands.specs.Stand.{table, stand_of, numbers_of, many, span, none_of, nowhere, next_stand, Low, Grown, stand_in};
 ghost use Rattle.stands.specs.Look.{start_in, end_in, Within};
 
 use std::ops::Range;
@@ -33,6 +33,16 @@ impl Span {
         ensures { result.now ≡ take (self.to - self.from) (drop self.from list.now) }
     {
         &list[self.from..self.to]
+    }
+
+    // None of it, where it begins.
+    pub fn emptied(self) -> Span
+        ensures { result ≡ none_of self }
+    {
+        Span {
+            to: self.from,
+            ..self
+        }
     }
 }
 
