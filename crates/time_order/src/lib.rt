@@ -9,6 +9,8 @@ ghost use Rattle.stands.specs.Stand.{stands_in};
 ghost use Rattle.time_merge.specs.Order.{placed_segments, time_written, Ready, Rising};
 ghost use Rattle.time_order.specs.Outcome.{outcome_of, output_of};
 
+use term_merger::{Cursor, Heap};
+
 #[derive(Clone, Copy)]
 pub enum TimeAnswer {
     Sorted(usize),
@@ -31,7 +33,7 @@ fn order_rows(
     let n = records.len();
     let mut stands = [[0usize; stands::NUMBERS]; 256];
     stands::fill_stands(records, &mut stands);
-    let mut cursors = [[0usize; 8]; term_merger::Heap::CAP];
+    let mut cursors = [Cursor::NONE; Heap::CAP];
     time_merge::fill_cursors(&stands[..n], ids, values, alive, &mut cursors);
     // all terms are empty: nothing is read of the term bytes
     let bytes = [0u8; 1];
