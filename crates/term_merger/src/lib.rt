@@ -64,6 +64,8 @@ impl Heap {
     }
 }
 
+// Stays: bytes and cursors go with their fact in each contract. The docs name `push`, `start_heap` and `settle_top`, so that no type may ask it of their callers.
+
 // Whether segment a comes before segment b: by their keys, then marked terms first, then by number.
 pub fn comes_before(bytes: &[u8], cursors: &[Cursor], a: u8, b: u8) -> bool
     requires { (256 ≤ length cursors.now) × TermsInside bytes.now cursors.now }

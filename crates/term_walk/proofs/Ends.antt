@@ -191,7 +191,7 @@ module _ {lengths bytes marks : List ℕ} {all : Bool} {cursors₀ : List Cursor
 
   -- ---- the whole
 
-  pub walked : (n m k : ℕ) → n ≡ l.terms → m ≡ l.bytes → k ≡ l.copied → Merged (walked_terms lengths bytes marks all cursors₀) (walked_map lengths bytes marks all cursors₀) lens₀ outs₀ ords₀ n m k lens outs ords
+  pub walked : (n m k : ℕ) → n ≡ l.kept.terms → m ≡ l.kept.bytes → k ≡ l.kept.copied → Merged (walked_terms lengths bytes marks all cursors₀) (walked_map lengths bytes marks all cursors₀) lens₀ outs₀ ords₀ n m k lens outs ords
   unfolding walked_map
   walked n m k e f c =
       merged-same terms_are (ap (λ (o : List (List ℕ)). map_to o dict (length cursors₀)) terms_are)

@@ -44,31 +44,31 @@ pub record Going (lengths bytes marks : List ℕ) (all : Bool) (cursors₀ : Lis
   pub mapped : Mapped (term_at lengths bytes cursors₀) (left_of cursors₀) (mark_at marks all cursors₀) (λ s. (cursor_in cursors₀ s).to) P out ords
   pub others : (j : ℕ) → ((s i : ℕ) → i < left_of cursors₀ s → j ≡ (cursor_in cursors₀ s).to + i → ⊥) → get_or ords j 0 ≡ get_or ords₀ j 0
   pub size-map : length ords ≡ length ords₀
-  pub last : LastIs out l.terms (last_of bytes l)
+  pub last : LastIs out l.kept.terms (last_of bytes l)
   pub last-key : l.key ≡ key_at bytes l.key.from l.key.till
   pub last_in : Inside bytes l.key
-  pub used : l.bytes ≡ length (concat out)
-  pub counted : l.copied ≡ length (concat out)
+  pub used : l.kept.bytes ≡ length (concat out)
+  pub counted : l.kept.copied ≡ length (concat out)
   pub lens_is : lens ≡ written (map length out) lens₀
   pub outs_is : outs ≡ written (concat out) outs₀
   pub size_lens : length lens ≡ length lens₀
   pub size_outs : length outs ≡ length outs₀
-  pub room : l.terms + sum_over terms_in cursors ≤ sum_over terms_in cursors₀
-  pub space : l.bytes + sum_over (bytes_in lengths) cursors ≤ sum_over (bytes_in lengths) cursors₀
+  pub room : l.kept.terms + sum_over terms_in cursors ≤ sum_over terms_in cursors₀
+  pub space : l.kept.bytes + sum_over (bytes_in lengths) cursors ≤ sum_over (bytes_in lengths) cursors₀
 
 -- what taking one term leaves
 pub record Stepped (lengths bytes marks : List ℕ) (all : Bool) (cursors₀ : List Cursor) (lens₀ outs₀ ords : List ℕ) (l : Last) (P : ℕ → ℕ) (s : ℕ) (t : Taken) (lens' outs' : List ℕ) (out : List (List ℕ)) : Type 0 where
   pub merging : Merging (term_at lengths bytes cursors₀) (left_of cursors₀) (mark_at marks all cursors₀) (bump P s) out
   pub mapped : Mapped (term_at lengths bytes cursors₀) (left_of cursors₀) (mark_at marks all cursors₀) (λ x. (cursor_in cursors₀ x).to) (bump P s) out (set ords ((cursor_in cursors₀ s).to + P s) t.ordinal)
-  pub last : LastIs out t.last.terms (last_of bytes t.last)
+  pub last : LastIs out t.last.kept.terms (last_of bytes t.last)
   pub last-key : t.last.key ≡ key_at bytes t.last.key.from t.last.key.till
   pub last_in : Inside bytes t.last.key
-  pub used : t.last.bytes ≡ length (concat out)
-  pub counted : t.last.copied ≡ length (concat out)
+  pub used : t.last.kept.bytes ≡ length (concat out)
+  pub counted : t.last.kept.copied ≡ length (concat out)
   pub lens_is : lens' ≡ written (map length out) lens₀
   pub outs_is : outs' ≡ written (concat out) outs₀
-  pub terms : t.last.terms ≤ l.terms + 1
-  pub texts : t.last.bytes ≤ l.bytes + length (term_at lengths bytes cursors₀ s (P s))
+  pub terms : t.last.kept.terms ≤ l.kept.terms + 1
+  pub texts : t.last.kept.bytes ≤ l.kept.bytes + length (term_at lengths bytes cursors₀ s (P s))
   pub small : t.ordinal ≤ length (concat out)
 
 module _ {lengths bytes marks : List ℕ} {all : Bool} {cursors₀ : List Cursor} {lens₀ outs₀ ords₀ : List ℕ} (y : Ready lengths bytes marks all cursors₀ lens₀ outs₀ ords₀)
@@ -171,7 +171,7 @@ module _ {lengths bytes marks : List ℕ} {all : Bool} {cursors₀ : List Cursor
         length-take-le ((cursor_in cursors s).key.till - (cursor_in cursors s).key.from) (drop (cursor_in cursors s).key.from bytes) (omega (arith, term-inside.0.low, term-inside.0.high)) in
         omega arith
 
-    pub terms-room : l.terms < length lens
+    pub terms-room : l.kept.terms < length lens
     terms-room =
         omega
         (arith, sum-at terms_in cursors s no_cursor (rw g.size s_range), pos-s, end-s, live, g.room, y.terms, g.size_lens, y.low s)
@@ -179,7 +179,7 @@ module _ {lengths bytes marks : List ℕ} {all : Bool} {cursors₀ : List Cursor
     left-s : bytes_in lengths (cursor_in cursors s) ≡ length (D s (P s)) + bytes_in lengths (cursor_of lengths bytes marks all cursors₀ s (P s + 1))
     left-s = ap (bytes_in lengths) cursor-s ∙ left-bytes lengths bytes marks all cursors₀ s (y.low s) (y.inside s) (y.fits s) (P s) live
 
-    pub texts-room : l.bytes + ((cursor_in cursors s).key.till - (cursor_in cursors s).key.from) ≤ length outs
+    pub texts-room : l.kept.bytes + ((cursor_in cursors s).key.till - (cursor_in cursors s).key.from) ≤ length outs
     texts-room = omega (arith, sum-at (bytes_in lengths) cursors s no_cursor (rw g.size s_range), left-s, span-s, g.space, y.texts, g.size_outs)
 
     pub fits-s : (cursor_in cursors s).key.till + length_at lengths ((cursor_in cursors s).pos + 1) (cursor_in cursors s).end ≤ length bytes
@@ -210,15 +210,15 @@ module _ {lengths bytes marks : List ℕ} {all : Bool} {cursors₀ : List Cursor
           record {
             merging = keep D N K P out s g.merging live next least m;
             mapped = mapped_keep D N K M P out ords s t.ordinal inside-map apart-s v g.mapped;
-            last = subst (λ (z : Last). LastIs out z.terms (last_of bytes z)) (sym e) g.last;
+            last = subst (λ (z : Last). LastIs out z.kept.terms (last_of bytes z)) (sym e) g.last;
             last-key = subst (λ (z : Last). z.key ≡ key_at bytes z.key.from z.key.till) (sym e) g.last-key;
             last_in = subst (λ (z : Last). Inside bytes z.key) (sym e) g.last_in;
-            used = ap (λ (z : Last). z.bytes) e ∙ g.used;
-            counted = ap (λ (z : Last). z.copied) e ∙ g.counted;
+            used = ap (λ (z : Last). z.kept.bytes) e ∙ g.used;
+            counted = ap (λ (z : Last). z.kept.copied) e ∙ g.counted;
             lens_is = f ∙ g.lens_is;
             outs_is = o ∙ g.outs_is;
-            terms = omega (arith, ap (λ (z : Last). z.terms) e);
-            texts = omega (arith, ap (λ (z : Last). z.bytes) e);
+            terms = omega (arith, ap (λ (z : Last). z.kept.terms) e);
+            texts = omega (arith, ap (λ (z : Last). z.kept.bytes) e);
             small = k;
           }
 
@@ -228,11 +228,11 @@ module _ {lengths bytes marks : List ℕ} {all : Bool} {cursors₀ : List Cursor
       step_again : Again bytes (cursor_in cursors s) l lens outs t lens' outs' → Here out
       step_again a =
           let e : D s (P s) ≡ last_of bytes l = packed-same (D s (P s)) (last_of bytes l) (bytes-is s live) (bytes-in bytes l.key.from l.key.till g.are_bytes) (sym (key-is s live) ∙ a.same ∙ last-packed) in
-          let hit = last_hit out l.terms (last_of bytes l) (D s (P s)) g.last a.some e in
+          let hit = last_hit out l.kept.terms (last_of bytes l) (D s (P s)) g.last a.some e in
           step_same a.last a.lengths a.texts (λ k. hit.0) (omega (arith, hit.1, a.ordinal)) (omega (arith, a.ordinal, g.last.size, asc-count out g.merging.asc))
 
-      missed : (0 < l.terms → keyed bytes (cursor_in cursors s).key ≡ keyed bytes l.key → ⊥) → has_term (D s (P s)) out ≡ false
-      missed d = last_miss out l.terms (last_of bytes l) (D s (P s)) g.last (λ u k. g.merging.below u k s live) (λ p e. d p (key-is s live ∙ ap packed e ∙ sym last-packed))
+      missed : (0 < l.kept.terms → keyed bytes (cursor_in cursors s).key ≡ keyed bytes l.key → ⊥) → has_term (D s (P s)) out ≡ false
+      missed d = last_miss out l.kept.terms (last_of bytes l) (D s (P s)) g.last (λ u k. g.merging.below u k s live) (λ p e. d p (key-is s live ∙ ap packed e ∙ sym last-packed))
 
       step_skip : Skipped bytes (cursor_in cursors s) l lens outs t lens' outs' → Here out
       step_skip a =
@@ -244,27 +244,27 @@ module _ {lengths bytes marks : List ℕ} {all : Bool} {cursors₀ : List Cursor
           let mk : K s (P s) ≡ 0 = sym unmarked-s ∙ a.marked in
           let g₂ : Merging D N K P (out ++ (D s (P s) ∷ [])) = add D N K P out s g.merging live next least mk new in
           let lp : last_of bytes t.last ≡ D s (P s) = ap (λ (k : Key). term_in bytes k.from k.till) a.key ∙ term_s in
-          let la : LastIs (out ++ (D s (P s) ∷ [])) (l.terms + 1) (D s (P s)) = last_added out l.terms (last_of bytes l) (D s (P s)) g.last new (strictly D N K P out s g.merging live next least mk new) in
+          let la : LastIs (out ++ (D s (P s) ∷ [])) (l.kept.terms + 1) (D s (P s)) = last_added out l.kept.terms (last_of bytes l) (D s (P s)) g.last new (strictly D N K P out s g.merging live next least mk new) in
           let us : length (concat (out ++ (D s (P s) ∷ []))) ≡ length (concat out) + length (D s (P s)) = ap length (concat_snoc out (D s (P s))) ∙ length-append (concat out) (D s (P s)) in
           record {
             merging = keep D N K P (out ++ (D s (P s) ∷ [])) s g₂ live next least (λ k. has_self (D s (P s)) out);
             mapped = mapped_keep D N K M P (out ++ (D s (P s) ∷ [])) ords s t.ordinal inside-map apart-s (a.ordinal ∙ g.last.size ∙ sym (ordinal-new (D s (P s)) out new))
                 (mapped_add D N K M P out ords (D s (P s)) (unlike D N K P out s g.merging live next least mk new) g.mapped);
             last = subst (λ (z : ℕ). LastIs (out ++ (D s (P s) ∷ [])) z (last_of bytes t.last)) (sym a.terms)
-                (subst (λ (z : List ℕ). LastIs (out ++ (D s (P s) ∷ [])) (l.terms + 1) z) (sym lp) la);
+                (subst (λ (z : List ℕ). LastIs (out ++ (D s (P s) ∷ [])) (l.kept.terms + 1) z) (sym lp) la);
             last-key = subst (λ (k : Key). k ≡ key_at bytes k.from k.till) (sym a.key) (key-held s s_range);
             last_in = subst (Inside bytes) (sym a.key) term-inside.0;
             used = omega (arith, a.used, g.used, us, span-s);
             counted = omega (arith, a.copied, g.counted, us, ap length term_s);
             lens_is =
                 a.lengths
-                ∙ ap₂ (λ (z : List ℕ) (v : ℕ). set z l.terms v) g.lens_is length-s
-                ∙ written_one (map length out) lens₀ (length (D s (P s))) l.terms (g.last.size ∙ sym (length-map out length)) (omega (arith, terms-room, g.size_lens))
+                ∙ ap₂ (λ (z : List ℕ) (v : ℕ). set z l.kept.terms v) g.lens_is length-s
+                ∙ written_one (map length out) lens₀ (length (D s (P s))) l.kept.terms (g.last.size ∙ sym (length-map out length)) (omega (arith, terms-room, g.size_lens))
                 ∙ ap (λ (z : List ℕ). written z lens₀) (sym (map-append length out (D s (P s) ∷ [])));
             outs_is =
                 a.texts
-                ∙ ap₂ (λ (v z : List ℕ). put l.bytes v z) term_s g.outs_is
-                ∙ written-more (concat out) (D s (P s)) outs₀ l.bytes g.used
+                ∙ ap₂ (λ (v z : List ℕ). put l.kept.bytes v z) term_s g.outs_is
+                ∙ written-more (concat out) (D s (P s)) outs₀ l.kept.bytes g.used
                 ∙ ap (λ (z : List ℕ). written z outs₀) (sym (concat_snoc out (D s (P s))));
             terms = omega (arith, a.terms);
             texts = omega (arith, a.used, span-s);
@@ -343,8 +343,8 @@ module _ {lengths bytes marks : List ℕ} {all : Bool} {cursors₀ : List Cursor
             → Going lengths bytes marks all cursors₀ lens₀ outs₀ ords₀ (set cursors s nr) lens' outs' (set ords to t.ordinal) (record { seg = seg; len = n }) t.last (bump P s) o'
         going_set to te st' =
             let e : to ≡ M s + P s = te ∙ place-s in
-            let rm : t.last.terms + sum_over terms_in (set cursors s nr) ≤ sum_over terms_in cursors₀ = omega (arith, st.terms, left-new, g.room) in
-            let sp : t.last.bytes + sum_over (bytes_in lengths) (set cursors s nr) ≤ sum_over (bytes_in lengths) cursors₀ = omega (arith, st.texts, bytes-new, g.space) in
+            let rm : t.last.kept.terms + sum_over terms_in (set cursors s nr) ≤ sum_over terms_in cursors₀ = omega (arith, st.terms, left-new, g.room) in
+            let sp : t.last.kept.bytes + sum_over (bytes_in lengths) (set cursors s nr) ≤ sum_over (bytes_in lengths) cursors₀ = omega (arith, st.texts, bytes-new, g.space) in
             record {
               size = length-set cursors s nr ∙ g.size;
               are_bytes = g.are_bytes;
@@ -375,7 +375,7 @@ module _ {lengths bytes marks : List ℕ} {all : Bool} {cursors₀ : List Cursor
             (going_set to te (subst (λ (z : List Cursor). Settled bytes z h.seg h.len seg n) ce st'))
 
 pub going_start : (lengths bytes marks : List ℕ) (all : Bool) (cursors : List Cursor) (lens outs ords : List ℕ) (h : Heap) (l : Last) → Ready lengths bytes marks all cursors lens outs ords → Started bytes cursors h
-    → length h.seg ≡ 256 → AllBytes bytes → l.terms ≡ 0 → l.bytes ≡ 0 → l.copied ≡ 0 → l.key ≡ record { from = 0; till = 0; first = 0; second = 0 } → Going lengths bytes marks all cursors lens outs ords cursors lens outs ords h l (λ x. 0) []
+    → length h.seg ≡ 256 → AllBytes bytes → l.kept.terms ≡ 0 → l.kept.bytes ≡ 0 → l.kept.copied ≡ 0 → l.key ≡ record { from = 0; till = 0; first = 0; second = 0 } → Going lengths bytes marks all cursors lens outs ords cursors lens outs ords h l (λ x. 0) []
 going_start lengths bytes marks all cursors lens outs ords h l y st full ab a b c k =
     record {
       size = y.size;

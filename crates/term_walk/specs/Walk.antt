@@ -22,16 +22,16 @@ last_of bytes l = term_in bytes l.key.from l.key.till
 
 -- the term is the last one written
 pub record Again (bytes : List ℕ) (cursor : Cursor) (l : Last) (lens outs : List ℕ) (t : Taken) (lens' outs' : List ℕ) : Type 0 where
-  pub some : 0 < l.terms
+  pub some : 0 < l.kept.terms
   pub same : keyed bytes cursor.key ≡ keyed bytes l.key
-  pub ordinal : t.ordinal + 1 ≡ l.terms
+  pub ordinal : t.ordinal + 1 ≡ l.kept.terms
   pub last : t.last ≡ l
   pub lengths : lens' ≡ lens
   pub texts : outs' ≡ outs
 
 -- it is another, and not marked
 pub record Skipped (bytes : List ℕ) (cursor : Cursor) (l : Last) (lens outs : List ℕ) (t : Taken) (lens' outs' : List ℕ) : Type 0 where
-  pub other : 0 < l.terms → keyed bytes cursor.key ≡ keyed bytes l.key → ⊥
+  pub other : 0 < l.kept.terms → keyed bytes cursor.key ≡ keyed bytes l.key → ⊥
   pub unmarked : cursor.unmarked ≡ 0 → ⊥
   pub ordinal : t.ordinal ≡ 0
   pub last : t.last ≡ l
@@ -40,15 +40,15 @@ pub record Skipped (bytes : List ℕ) (cursor : Cursor) (l : Last) (lens outs : 
 
 -- it is another, and marked: it is written
 pub record Added (bytes : List ℕ) (cursor : Cursor) (given : List ℕ) (l : Last) (lens outs : List ℕ) (t : Taken) (lens' outs' : List ℕ) : Type 0 where
-  pub other : 0 < l.terms → keyed bytes cursor.key ≡ keyed bytes l.key → ⊥
+  pub other : 0 < l.kept.terms → keyed bytes cursor.key ≡ keyed bytes l.key → ⊥
   pub marked : cursor.unmarked ≡ 0
-  pub ordinal : t.ordinal ≡ l.terms
-  pub terms : t.last.terms ≡ l.terms + 1
-  pub used : t.last.bytes ≡ l.bytes + (cursor.key.till - cursor.key.from)
-  pub copied : t.last.copied ≡ l.copied + length (term_of bytes cursor)
+  pub ordinal : t.ordinal ≡ l.kept.terms
+  pub terms : t.last.kept.terms ≡ l.kept.terms + 1
+  pub used : t.last.kept.bytes ≡ l.kept.bytes + (cursor.key.till - cursor.key.from)
+  pub copied : t.last.kept.copied ≡ l.kept.copied + length (term_of bytes cursor)
   pub key : t.last.key ≡ cursor.key
-  pub lengths : lens' ≡ set lens l.terms (get_or given (cursor.pos) 0)
-  pub texts : outs' ≡ put l.bytes (term_of bytes cursor) outs
+  pub lengths : lens' ≡ set lens l.kept.terms (get_or given cursor.pos 0)
+  pub texts : outs' ≡ put l.kept.bytes (term_of bytes cursor) outs
 
 abbrev pub Took : List ℕ → Cursor → List ℕ → Last → List ℕ → List ℕ → Taken → List ℕ → List ℕ → Type 0
 Took bytes cursor given l lens outs t lens' outs' =

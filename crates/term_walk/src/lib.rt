@@ -21,12 +21,10 @@ pub struct Kept {
     pub copied: usize,
 }
 
-// The last term written: how many there are, how many bytes they have and how many were copied, and its key.
+// What is kept up to the last term written, and that term's key.
 #[derive(Clone, Copy)]
 struct Last {
-    terms: usize,
-    bytes: usize,
-    copied: usize,
+    kept: Kept,
     key: Key,
 }
 
@@ -66,11 +64,11 @@ fn take_term(
     last: Last,
 ) -> Taken
     requires inside { Inside bytes.now cursor.key × (cursor.pos < length lengths.now) }
-    requires inside_2 { Inside bytes.now last.key × (last.copied ≤ last.bytes) }
-    requires terms_in_bounds { (last.terms < length out_lengths.old) × (last.bytes + (cursor.key.till - cursor.key.from) ≤ length out_bytes.old) }
+    requires inside_2 { Inside bytes.now last.key × (last.kept.copied ≤ last.kept.bytes) }
+    requires terms_in_bounds { (last.kept.terms < length out_lengths.old) × (last.kept.bytes + (cursor.key.till - cursor.key.from) ≤ length out_bytes.old) }
     ensures { Took bytes.now cursor lengths.now last out_lengths.old out_bytes.old result out_lengths.new out_bytes.new }
 {
-    let n = last.terms;
+    let n = last.kept.terms;
     if 0 < n && same_term(bytes, cursor.key, last.key) {
         return Taken {
             last,
@@ -81,17 +79,19 @@ fn take_term(
         return Taken { last, ordinal: 0 };
     }
     out_lengths[n] = lengths[cursor.pos];
-    let from = cursor.key.from;
-    let till = cursor.key.till;
-    let copied = copy_term(&bytes[from..till], out_bytes, last.bytes, last.copied);
-    let next = Last {
+    let term = &bytes[cursor.key.from..cursor.key.till];
+    let at = last.kept.bytes;
+    let copied = copy_term(term, out_bytes, at, last.kept.copied);
+    let kept = Kept {
         terms: n + 1,
-        bytes: last.bytes + (till - from),
+        bytes: at + term.len(),
         copied,
-        key: cursor.key,
     };
     Taken {
-        last: next,
+        last: Last {
+            kept,
+            key: cursor.key,
+        },
         ordinal: n,
     }
 }
@@ -115,15 +115,12 @@ pub fn merge_terms(
 {
     let mut h = heap;
     let mut last = Last {
-        terms: 0,
-        bytes: 0,
-        copied: 0,
-        key: Key {
-            from: 0,
-            till: 0,
-            first: 0,
-            second: 0,
+        kept: Kept {
+            terms: 0,
+            bytes: 0,
+            copied: 0,
         },
+        key: Cursor::NONE.key,
     };
     while 0 < h.len {
         let s = h.seg[0] as usize;
@@ -141,9 +138,5 @@ pub fn merge_terms(
         h.len = term_merger::settle_top(&mut h.seg, n, bytes, cursors);
         last = t.last;
     }
-    Kept {
-        terms: last.terms,
-        bytes: last.bytes,
-        copied: last.copied,
-    }
+    last.kept
 }

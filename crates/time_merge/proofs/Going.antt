@@ -23,7 +23,8 @@ use Rattle.stands.specs.Look.{ids_at, values_at, alive_set_at}
 use Rattle.term_merger.specs.declared.Heap.{Heap}
 use Rattle.term_order.specs.Key.{Inside}
 use Rattle.term_merger.specs.Order as heap
-use Rattle.term_merger.specs.Order.{cell, key_in, tie_of, TermsInside}
+use Rattle.term_merger.specs.declared.Cursor.{Cursor}
+use Rattle.term_merger.specs.Order.{cursor_in, no_cursor, tie_of, TermsInside}
 use Rattle.term_merger.specs.Heap.{one}
 use Rattle.term_merger.specs.Live.{left_of, Settled, Started}
 use Rattle.time_cursors.specs.Cursors.{alive_bit, times_before, last_key, key_cursor, cursor_at, first_from, segment_in, Timed, Left}
@@ -32,7 +33,7 @@ use Rattle.time_merge.specs.declared.Bound.{Bound}
 use Rattle.time_merge.specs.declared.Run.{Run}
 use Rattle.time_merge.specs.Runs.{alive_up_to, addresses, within, Bounds, RunTo}
 use Rattle.time_merge.proofs.Standing.{bump, bump-here, bump-there, next, alive_rows, Standing, standing_start, standing-end, standing-room, standing-run}
-use Rattle.time_merge.proofs.Keyed.{times_to, key_at, cursor-left, cursor_3, cursor_4, cursor_5, cursor-inside, cursors_order, within-key, segment-there, segment-none, timed-at, there, key-is, keys_grow}
+use Rattle.time_merge.proofs.Keyed.{times_to, key_at, cursor-left, at-pos, at-end, at-to, cursor-inside, cursors_order, within-key, segment-there, segment-none, timed-at, there, key-is, keys_grow}
 use Rattle.time_merge.proofs.Rows.{rest_some}
 use Rattle.time_merge.proofs.Reaching.{run_fits}
 use Rattle.time_cursors.proofs.Laws.{times-kind}
@@ -54,9 +55,9 @@ left-live p n h = go (le-lt p n)
 
 -- ---- the state: P x is the row at which segment x stands
 
-pub record Going (ss : List Segment) (bytes : List ℕ) (out₀ cursors out : List (List ℕ)) (h : Heap) (k : ℕ) (P : ℕ → ℕ) (done : List Address) : Type 0 where
+pub record Going (ss : List Segment) (bytes : List ℕ) (out₀ : List (List ℕ)) (cursors : List Cursor) (out : List (List ℕ)) (h : Heap) (k : ℕ) (P : ℕ → ℕ) (done : List Address) : Type 0 where
   pub size : length cursors ≡ 256
-  pub cursor : (x : ℕ) → x < 256 → get_or cursors x [] ≡ cursor_at (get_or ss x absent) (P x)
+  pub cursor : (x : ℕ) → x < 256 → cursor_in cursors x ≡ cursor_at (get_or ss x absent) (P x)
   pub heap : Holding bytes cursors P (λ x. (get_or ss x absent).rows) h
   pub standing : Standing ss P done
   pub number : k ≡ length done
@@ -73,7 +74,7 @@ module _ {stands : List (List ℕ)} {ids values alive : List ℕ} (y : Ready sta
   near : (x : ℕ) → 0 < (get_or ss x absent).rows → x < 256
   near x h = omega (arith, there y x h, y.few)
 
-  pub going_start : {bytes : List ℕ} {cursors : List (List ℕ)} {h : Heap} (out₀ : List (List ℕ)) → Begins ss cursors → Started bytes cursors h → length h.seg ≡ 256 → Going ss bytes out₀ cursors out₀ h 0 (λ x. next ss x 0) []
+  pub going_start : {bytes : List ℕ} {cursors : List Cursor} {h : Heap} (out₀ : List (List ℕ)) → Begins ss cursors → Started bytes cursors h → length h.seg ≡ 256 → Going ss bytes out₀ cursors out₀ h 0 (λ x. next ss x 0) []
   unfolding first_from
   going_start {cursors = cursors} out₀ b st full =
       record {
@@ -90,17 +91,17 @@ module _ {stands : List (List ℕ)} {ids values alive : List ℕ} (y : Ready sta
       live x (inl l) =
           let s = get_or ss x absent in
           let p = (standing_start ss).place x in
-          ap (λ (r : List ℕ). ltb 0 (get_or r 4 0 - get_or r 3 0)) (b.cursor x l)
-          ∙ ap₂ (λ (m n : ℕ). ltb 0 (m - n)) (cursor_4 s (next ss x 0)) (cursor_3 s (next ss x 0) p)
+          ap (λ (r : Cursor). ltb 0 (r.end - r.pos)) (b.cursor x l)
+          ∙ ap₂ (λ (m n : ℕ). ltb 0 (m - n)) (at-end s (next ss x 0)) (at-pos s (next ss x 0) p)
           ∙ left-live (next ss x 0) s.rows p
       live x (inr l) =
-          let e : get_or cursors x [] ≡ [] = get_or-eq_default cursors [] (omega (arith, b.size)) in
-          ap (λ (r : List ℕ). ltb 0 (get_or r 4 0 - get_or r 3 0)) e ∙ sym (le-ltb (next ss x 0) (get_or ss x absent).rows (omega (arith, far x l)))
+          let e : cursor_in cursors x ≡ no_cursor = get_or-eq_default cursors no_cursor (omega (arith, b.size)) in
+          ap (λ (r : Cursor). ltb 0 (r.end - r.pos)) e ∙ sym (le-ltb (next ss x 0) (get_or ss x absent).rows (omega (arith, far x l)))
 
-  module _ {out₀ : List (List ℕ)} (z : Rising stands ids values alive out₀) {bytes : List ℕ} {cursors out : List (List ℕ)} {h : Heap} {k : ℕ} {P : ℕ → ℕ} {done : List Address} (g : Going ss bytes out₀ cursors out h k P done) where
+  module _ {out₀ : List (List ℕ)} (z : Rising stands ids values alive out₀) {bytes : List ℕ} {cursors : List Cursor} {out : List (List ℕ)} {h : Heap} {k : ℕ} {P : ℕ → ℕ} {done : List Address} (g : Going ss bytes out₀ cursors out h k P done) where
     pub going_readable : TermsInside bytes cursors
     unfolding TermsInside
-    going_readable x l = subst (λ (r : List ℕ). Inside bytes (key_in r)) (sym (g.cursor x l)) (cursor-inside (get_or ss x absent) (P x) bytes)
+    going_readable x l = subst (λ (r : Cursor). Inside bytes r.key) (sym (g.cursor x l)) (cursor-inside (get_or ss x absent) (P x) bytes)
 
     pub going_end : h.len ≤ 0 → (k ≡ length (time_order ss)) × ((out ≡ time_written ss out₀) × Ends ss cursors)
     unfolding time_written
@@ -128,14 +129,14 @@ module _ {stands : List (List ℕ)} {ids values alive : List ℕ} (y : Ready sta
       pub live : P s < (get_or ss s absent).rows
       live = top_left g.heap some top
 
-      s_near : s < 256
+      pub s_near : s < 256
       s_near = omega (arith, s-there some top, y.few)
 
-      cursor-s : get_or cursors s [] ≡ cursor_at (get_or ss s absent) (P s)
+      cursor-s : cursor_in cursors s ≡ cursor_at (get_or ss s absent) (P s)
       cursor-s = g.cursor s s_near
 
-      pub here_3 : cell cursors s 3 ≡ P s
-      here_3 = ap (λ (l : List ℕ). get_or l 3 0) cursor-s ∙ cursor_3 (get_or ss s absent) (P s) (g.standing.place s)
+      pub here-pos : (cursor_in cursors s).pos ≡ P s
+      here-pos = ap (λ (l : Cursor). l.pos) cursor-s ∙ at-pos (get_or ss s absent) (P s) (g.standing.place s)
 
       -- its rows
       abbrev vs : List ℕ
@@ -163,22 +164,22 @@ module _ {stands : List (List ℕ)} {ids values alive : List ℕ} (y : Ready sta
       row-key : (q : ℕ) → q < (get_or ss s absent).rows → key_of ss (at s q) ≡ last_key vs (times_before p.kind (ids_at p ids) (suc q))
       row-key q l = sym (key-is y z s q l) ∙ ap₂ last_key values-s (times-s (suc q))
 
-      pub rest-left : Left p ids (cell cursors s 3 + 1) (cell cursors s 5)
+      pub rest-left : Left p ids ((cursor_in cursors s).pos + 1) (cursor_in cursors s).to
       rest-left =
           record {
-            row = omega (arith, here_3, live, rows-s);
+            row = omega (arith, here-pos, live, rows-s);
             times =
-                ap (λ (l : List ℕ). get_or l 5 0) cursor-s
-                ∙ cursor_5 (get_or ss s absent) (P s) live
+                ap (λ (l : Cursor). l.to) cursor-s
+                ∙ at-to (get_or ss s absent) (P s) live
                 ∙ times-s (suc (P s))
-                ∙ ap (times_before p.kind (ids_at p ids)) (sym (ap (λ (n : ℕ). n + 1) here_3 ∙ add-one (P s)));
+                ∙ ap (times_before p.kind (ids_at p ids)) (sym (ap (λ (n : ℕ). n + 1) here-pos ∙ add-one (P s)));
           }
 
       -- a key that comes before the row of segment x
       abbrev Ahead : ℕ → ℕ → Type 0
       Ahead n x = (n < key_of ss (at x (P x))) ⊎ ((n ≡ key_of ss (at x (P x))) × (s ≤ x))
 
-      cursor-of : (x : ℕ) → P x < (get_or ss x absent).rows → get_or cursors x [] ≡ key_cursor (key_at (get_or ss x absent) (P x)) (P x) (get_or ss x absent).rows (times_to (get_or ss x absent) (P x))
+      cursor-of : (x : ℕ) → P x < (get_or ss x absent).rows → cursor_in cursors x ≡ key_cursor (key_at (get_or ss x absent) (P x)) (P x) (get_or ss x absent).rows (times_to (get_or ss x absent) (P x))
       cursor-of x l = g.cursor x (near x (omega arith)) ∙ cursor-left (get_or ss x absent) (P x) l
 
       -- the heap's order of two segments is that of their keys, then of their numbers
@@ -203,7 +204,7 @@ module _ {stands : List (List ℕ)} {ids values alive : List ℕ} (y : Ready sta
         run-left = record { row = t.high; times = t.times }
 
         end_after : P s < end
-        end_after = omega (arith, t.low, here_3)
+        end_after = omega (arith, t.low, here-pos)
 
         -- the key of the run's last row
         last-key : key_of ss (at s (end - 1)) ≡ last_key vs r.times
@@ -220,10 +221,10 @@ module _ {stands : List (List ℕ)} {ids values alive : List ℕ} (y : Ready sta
         last_ahead : (x : ℕ) → (x ≡ s → ⊥) → P x < (get_or ss x absent).rows → Ahead (last_key vs r.times) x
         last_ahead x d l = go t.before
           where
-            go : (r.times ≡ cell cursors s 5) ⊎ ((0 < r.times) × (b : Bound) × Bounds bytes cursors h.seg h.len s b × (within b (get_or vs (r.times - 1) 0) ≡ true)) → Ahead (last_key vs r.times) x
+            go : (r.times ≡ (cursor_in cursors s).to) ⊎ ((0 < r.times) × (b : Bound) × Bounds bytes cursors h.seg h.len s b × (within b (get_or vs (r.times - 1) 0) ≡ true)) → Ahead (last_key vs r.times) x
             go (inl e) =
                 subst (λ (n : ℕ). Ahead n x)
-                (row-key (P s) live ∙ ap (last_key vs) (ap (times_before p.kind (ids_at p ids)) (sym (ap (λ (n : ℕ). n + 1) here_3 ∙ add-one (P s))) ∙ sym rest-left.times ∙ sym e)) (least x l)
+                (row-key (P s) live ∙ ap (last_key vs) (ap (times_before p.kind (ids_at p ids)) (sym (ap (λ (n : ℕ). n + 1) here-pos ∙ add-one (P s))) ∙ sym rest-left.times ∙ sym e)) (least x l)
             go (inr (pos, b, inl few, w)) = absurd (alone g.heap some top few x l d)
             go (inr (pos, b, inr (c, child, is), w)) =
                 let c' = get_or h.seg c 0 in
@@ -263,12 +264,12 @@ module _ {stands : List (List ℕ)} {ids values alive : List ℕ} (y : Ready sta
 
         -- what is written
         abbrev written-rows : List ℕ
-        written-rows = alive_up_to p.flag (alive_set_at p alive) (cell cursors s 3) end
+        written-rows = alive_up_to p.flag (alive_set_at p alive) (cursor_in cursors s).pos end
 
         rows_are : written-rows ≡ rows
         unfolding alive_up_to is_alive segment_in
         rows_are =
-            ap (λ (n : ℕ). filter (alive_bit p.flag (alive_set_at p alive)) (up_from n (end - n))) here_3
+            ap (λ (n : ℕ). filter (alive_bit p.flag (alive_set_at p alive)) (up_from n (end - n))) here-pos
             ∙ ap (λ (x : Segment). filter (is_alive x) (up_from (P s) (end - P s))) (sym segment-s)
 
         pairs : (l : List ℕ) → addresses s l ≡ map pair_of (map (at s) l)
@@ -282,14 +283,14 @@ module _ {stands : List (List ℕ)} {ids values alive : List ℕ} (y : Ready sta
         pub room : k + length written-rows ≤ length out
         room = omega (arith, number-new, standing-room ss P' done' standing-new, z.room, g.out_size)
 
-        first-alive : alive_bit p.flag (alive_set_at p alive) (cell cursors s 3) ≡ true
+        first-alive : alive_bit p.flag (alive_set_at p alive) (cursor_in cursors s).pos ≡ true
         unfolding is_alive segment_in
-        first-alive = ap (alive_bit p.flag (alive_set_at p alive)) here_3 ∙ ap (λ (x : Segment). is_alive x (P s)) (sym segment-s) ∙ g.standing.alive s live
+        first-alive = ap (alive_bit p.flag (alive_set_at p alive)) here-pos ∙ ap (λ (x : Segment). is_alive x (P s)) (sym segment-s) ∙ g.standing.alive s live
 
         pub one_written : 0 < length written-rows
-        one_written = rest_some s p.flag (alive_set_at p alive) end (cell cursors s 3) t.low first-alive
+        one_written = rest_some s p.flag (alive_set_at p alive) end (cursor_in cursors s).pos t.low first-alive
 
-        pub rows-given : ((s < 256) × (cell cursors s 3 ≤ r.end) × (r.end < 4294967296)) × ((p.flag ≡ 1 → r.end ≤ 64 * length (alive_set_at p alive)) × (k + length written-rows ≤ length out))
+        pub rows-given : ((s < 256) × ((cursor_in cursors s).pos ≤ r.end) × (r.end < 4294967296)) × ((p.flag ≡ 1 → r.end ≤ 64 * length (alive_set_at p alive)) × (k + length written-rows ≤ length out))
         rows-given = (
           (s_near, omega (arith, t.low), omega (arith, t.high, timed-s.times.small)),
           (λ e. le_trans t.high (words-there timed-s run-left e), room),
@@ -297,34 +298,34 @@ module _ {stands : List (List ℕ)} {ids values alive : List ℕ} (y : Ready sta
 
         -- ---- the turn
 
-        module _ {new : List ℕ} (e : new ≡ first_from (segment_in p ids values alive) r.end) where
+        module _ {new : Cursor} (e : new ≡ first_from (segment_in p ids values alive) r.end) where
           cursor-new : new ≡ cursor_at (get_or ss s absent) (next ss s end)
           unfolding first_from
           cursor-new = e ∙ ap (λ (x : Segment). first_from x end) (sym segment-s)
 
-          cursors_new : (x : ℕ) → x < 256 → get_or (set cursors s new) x [] ≡ cursor_at (get_or ss x absent) (P' x)
+          cursors_new : (x : ℕ) → x < 256 → cursor_in (set cursors s new) x ≡ cursor_at (get_or ss x absent) (P' x)
           cursors_new x l = go (same? x s)
             where
-              go : (x ≡ s) ⊎ (x ≡ s → ⊥) → get_or (set cursors s new) x [] ≡ cursor_at (get_or ss x absent) (P' x)
+              go : (x ≡ s) ⊎ (x ≡ s → ⊥) → cursor_in (set cursors s new) x ≡ cursor_at (get_or ss x absent) (P' x)
               go (inl q) =
-                  ap (λ (n : ℕ). get_or (set cursors s new) n []) q
-                  ∙ get_or-set_same cursors s new [] (omega (arith, s_near, g.size))
+                  ap (λ (n : ℕ). cursor_in (set cursors s new) n) q
+                  ∙ get_or-set_same cursors s new no_cursor (omega (arith, s_near, g.size))
                   ∙ cursor-new
                   ∙ ap₂ (λ (n m : ℕ). cursor_at (get_or ss n absent) m) (sym q) (sym (bump-here P s (next ss s end) x q))
-              go (inr d) = get_or-set_other cursors s x new [] d ∙ g.cursor x l ∙ ap (cursor_at (get_or ss x absent)) (sym (bump-there P s (next ss s end) x d))
+              go (inr d) = get_or-set_other cursors s x new no_cursor d ∙ g.cursor x l ∙ ap (cursor_at (get_or ss x absent)) (sym (bump-there P s (next ss s end) x d))
 
           pub readable-new : TermsInside bytes (set cursors s new)
           unfolding TermsInside
-          readable-new x l = subst (λ (r : List ℕ). Inside bytes (key_in r)) (sym (cursors_new x l)) (cursor-inside (get_or ss x absent) (P' x) bytes)
+          readable-new x l = subst (λ (r : Cursor). Inside bytes r.key) (sym (cursors_new x l)) (cursor-inside (get_or ss x absent) (P' x) bytes)
 
-          new_3 : cell (set cursors s new) s 3 ≡ next ss s end
-          new_3 =
-              ap (λ (l : List ℕ). get_or l 3 0) (cursors_new s s_near)
-              ∙ cursor_3 (get_or ss s absent) (P' s) (standing-new.place s)
+          new-pos : (cursor_in (set cursors s new) s).pos ≡ next ss s end
+          new-pos =
+              ap (λ (l : Cursor). l.pos) (cursors_new s s_near)
+              ∙ at-pos (get_or ss s absent) (P' s) (standing-new.place s)
               ∙ bump-here P s (next ss s end) s refl
 
-          new_4 : cell (set cursors s new) s 4 ≡ (get_or ss s absent).rows
-          new_4 = ap (λ (l : List ℕ). get_or l 4 0) (cursors_new s s_near) ∙ cursor_4 (get_or ss s absent) (P' s)
+          new-end : (cursor_in (set cursors s new) s).end ≡ (get_or ss s absent).rows
+          new-end = ap (λ (l : Cursor). l.end) (cursors_new s s_near) ∙ at-end (get_or ss s absent) (P' s)
 
           pub going_more : {seg : List ℕ} {n k' : ℕ} {out' : List (List ℕ)} → k' ≡ k + length written-rows → out' ≡ put k (addresses s written-rows) out
               → Settled bytes (set cursors s new) h.seg h.len seg n
@@ -335,7 +336,7 @@ module _ {stands : List (List ℕ)} {ids values alive : List ℕ} (y : Ready sta
               record {
                 size = length-set cursors s new ∙ g.size;
                 cursor = cursors_new;
-                heap = holding_new g.heap some top new P' (bump-there P s (next ss s end)) (λ l. omega (arith, new_3, new_4, here)) (λ l. omega (arith, new_3, new_4, here)) st;
+                heap = holding_new g.heap some top new P' (bump-there P s (next ss s end)) (λ l. omega (arith, new-pos, new-end, here)) (λ l. omega (arith, new-pos, new-end, here)) st;
                 standing = standing-new;
                 number = ke ∙ sym number-new;
                 out_is =

@@ -21,7 +21,8 @@ use Rattle.stands.specs.Stand.{table, stand_at}
 use Rattle.stands.specs.Look.{ids_at}
 use Rattle.stands.proofs.Fill.{table-length, table_at}
 use Rattle.term_order.specs.Key.{rest_of, keyed, Inside}
-use Rattle.term_merger.specs.Order.{tie_of}
+use Rattle.term_merger.specs.declared.Cursor.{Cursor}
+use Rattle.term_merger.specs.Order.{cursor_in, tie_of}
 use Rattle.term_merger.specs.Order as heap
 use Rattle.term_merger.proofs.Laws.{Le}
 use Rattle.time_cursors.specs.Cursors.{last_key, times_before, key_cursor, cursor_at, segment_in, Timed}
@@ -31,24 +32,24 @@ use Rattle.time_merge.specs.Order.{placed, placed_segments, Ready, Rising}
 use Rattle.time_merge.specs.Runs.{within, bound_at}
 use Rattle.lists.proofs.Numbers.{le-lt}
 
--- ---- the cursor's numbers
+-- ---- the cursor's fields
 
-key_3 : (key n rows k : ℕ) → get_or (key_cursor key n rows k) 3 0 ≡ n
+key-pos : (key n rows k : ℕ) → (key_cursor key n rows k).pos ≡ n
 unfolding key_cursor
-key_3 zero n rows k = refl
-key_3 (suc t) n rows k = refl
+key-pos zero n rows k = refl
+key-pos (suc t) n rows k = refl
 
-key_4 : (key n rows k : ℕ) → get_or (key_cursor key n rows k) 4 0 ≡ rows
+key-end : (key n rows k : ℕ) → (key_cursor key n rows k).end ≡ rows
 unfolding key_cursor
-key_4 zero n rows k = refl
-key_4 (suc t) n rows k = refl
+key-end zero n rows k = refl
+key-end (suc t) n rows k = refl
 
-key_5 : (key n rows k : ℕ) → get_or (key_cursor key n rows k) 5 0 ≡ k
+key-to : (key n rows k : ℕ) → (key_cursor key n rows k).to ≡ k
 unfolding key_cursor
-key_5 zero n rows k = refl
-key_5 (suc t) n rows k = refl
+key-to zero n rows k = refl
+key-to (suc t) n rows k = refl
 
-key-inside : (bytes : List ℕ) (key n rows k : ℕ) → Inside bytes (heap.key_in (key_cursor key n rows k))
+key-inside : (bytes : List ℕ) (key n rows k : ℕ) → Inside bytes (key_cursor key n rows k).key
 unfolding key_cursor
 key-inside bytes zero n rows k = record { low = zero-le; high = zero-le }
 key-inside bytes (suc t) n rows k = record { low = zero-le; high = zero-le }
@@ -69,29 +70,29 @@ module _ (s : Segment) (n : ℕ) where
   unfolding cursor_at
   cursor-over h = rw (le-ltb n s.rows h)
 
-  pub cursor_3 : n ≤ s.rows → get_or (cursor_at s n) 3 0 ≡ n
-  cursor_3 l = go (le-lt n s.rows)
+  pub at-pos : n ≤ s.rows → (cursor_at s n).pos ≡ n
+  at-pos l = go (le-lt n s.rows)
     where
-      go : (n < s.rows) ⊎ (s.rows ≤ n) → get_or (cursor_at s n) 3 0 ≡ n
-      go (inl h) = ap (λ (r : List ℕ). get_or r 3 0) (cursor-left h) ∙ key_3 (key_at s n) n s.rows (times_to s n)
-      go (inr h) = ap (λ (r : List ℕ). get_or r 3 0) (cursor-over h) ∙ key_3 0 s.rows s.rows 0 ∙ (let e : s.rows ≡ n = omega arith in e)
+      go : (n < s.rows) ⊎ (s.rows ≤ n) → (cursor_at s n).pos ≡ n
+      go (inl h) = ap (λ (r : Cursor). r.pos) (cursor-left h) ∙ key-pos (key_at s n) n s.rows (times_to s n)
+      go (inr h) = ap (λ (r : Cursor). r.pos) (cursor-over h) ∙ key-pos 0 s.rows s.rows 0 ∙ (let e : s.rows ≡ n = omega arith in e)
 
-  pub cursor_4 : get_or (cursor_at s n) 4 0 ≡ s.rows
-  cursor_4 = go (le-lt n s.rows)
+  pub at-end : (cursor_at s n).end ≡ s.rows
+  at-end = go (le-lt n s.rows)
     where
-      go : (n < s.rows) ⊎ (s.rows ≤ n) → get_or (cursor_at s n) 4 0 ≡ s.rows
-      go (inl h) = ap (λ (r : List ℕ). get_or r 4 0) (cursor-left h) ∙ key_4 (key_at s n) n s.rows (times_to s n)
-      go (inr h) = ap (λ (r : List ℕ). get_or r 4 0) (cursor-over h) ∙ key_4 0 s.rows s.rows 0
+      go : (n < s.rows) ⊎ (s.rows ≤ n) → (cursor_at s n).end ≡ s.rows
+      go (inl h) = ap (λ (r : Cursor). r.end) (cursor-left h) ∙ key-end (key_at s n) n s.rows (times_to s n)
+      go (inr h) = ap (λ (r : Cursor). r.end) (cursor-over h) ∙ key-end 0 s.rows s.rows 0
 
-  pub cursor_5 : n < s.rows → get_or (cursor_at s n) 5 0 ≡ times_to s n
-  cursor_5 h = ap (λ (r : List ℕ). get_or r 5 0) (cursor-left h) ∙ key_5 (key_at s n) n s.rows (times_to s n)
+  pub at-to : n < s.rows → (cursor_at s n).to ≡ times_to s n
+  at-to h = ap (λ (r : Cursor). r.to) (cursor-left h) ∙ key-to (key_at s n) n s.rows (times_to s n)
 
-  pub cursor-inside : (bytes : List ℕ) → Inside bytes (heap.key_in (cursor_at s n))
+  pub cursor-inside : (bytes : List ℕ) → Inside bytes (cursor_at s n).key
   cursor-inside bytes = go (le-lt n s.rows)
     where
-      go : (n < s.rows) ⊎ (s.rows ≤ n) → Inside bytes (heap.key_in (cursor_at s n))
-      go (inl h) = subst (λ (r : List ℕ). Inside bytes (heap.key_in r)) (sym (cursor-left h)) (key-inside bytes (key_at s n) n s.rows (times_to s n))
-      go (inr h) = subst (λ (r : List ℕ). Inside bytes (heap.key_in r)) (sym (cursor-over h)) (key-inside bytes 0 s.rows s.rows 0)
+      go : (n < s.rows) ⊎ (s.rows ≤ n) → Inside bytes (cursor_at s n).key
+      go (inl h) = subst (λ (r : Cursor). Inside bytes r.key) (sym (cursor-left h)) (key-inside bytes (key_at s n) n s.rows (times_to s n))
+      go (inr h) = subst (λ (r : Cursor). Inside bytes r.key) (sym (cursor-over h)) (key-inside bytes 0 s.rows s.rows 0)
 
 -- ---- the heap's order is that of the keys, then of the segments' numbers
 
@@ -136,11 +137,11 @@ words-order a b t u h = go (before_head a b (t ∷ 0 ∷ []) (u ∷ 0 ∷ []) h)
     go (inr (e, b)) = inr (e, second (before_head t u (0 ∷ []) (0 ∷ []) b))
 
 -- what a cursor is compared by
-abbrev compared : List ℕ → List ℕ → List ℕ
-compared bytes r = keyed bytes (heap.key_in r)
+abbrev compared : List ℕ → Cursor → List ℕ
+compared bytes r = keyed bytes r.key
 
 key-order : (bytes : List ℕ) (k l x y n m : ℕ) (p q i j : ℕ)
-    → Le (compared bytes (key_cursor k n p i)) (get_or (key_cursor k n p i) 2 0 ∷ x ∷ []) (compared bytes (key_cursor l m q j)) (get_or (key_cursor l m q j) 2 0 ∷ y ∷ []) → (k < l) ⊎ ((k ≡ l) × (x ≤ y))
+    → Le (compared bytes (key_cursor k n p i)) ((key_cursor k n p i).unmarked ∷ x ∷ []) (compared bytes (key_cursor l m q j)) ((key_cursor l m q j).unmarked ∷ y ∷ []) → (k < l) ⊎ ((k ≡ l) × (x ≤ y))
 unfolding key_cursor keyed rest_of
 key-order bytes zero zero x y n m p q i j (inl b) = absurd (go (words-order 0 0 0 0 b))
   where
@@ -162,21 +163,21 @@ key-order bytes (suc t) (suc u) x y n m p q i j (inl b) = inl (go (words-order 1
     go (inr (e, h)) = suc-le-suc h
 key-order bytes (suc t) (suc u) x y n m p q i j (inr (e, b)) = inr (ap suc (ap (λ (r : List ℕ). get_or r 1 0) e), tie_number x y b)
 
-pub cursors_order : (bytes : List ℕ) (cursors : List (List ℕ)) (s y : ℕ) (k l n m p q i j : ℕ) → get_or cursors s [] ≡ key_cursor k n p i → get_or cursors y [] ≡ key_cursor l m q j
+pub cursors_order : (bytes : List ℕ) (cursors : List Cursor) (s y : ℕ) (k l n m p q i j : ℕ) → cursor_in cursors s ≡ key_cursor k n p i → cursor_in cursors y ≡ key_cursor l m q j
     → Le (heap.key_of bytes cursors s) (tie_of cursors s) (heap.key_of bytes cursors y) (tie_of cursors y) → (k < l) ⊎ ((k ≡ l) × (s ≤ y))
 unfolding heap.key_of
 cursors_order bytes cursors s y k l n m p q i j e f h =
     key-order bytes k l s y n m p q i j
-    (subst (λ (r : List ℕ). Le (compared bytes (key_cursor k n p i)) (get_or (key_cursor k n p i) 2 0 ∷ s ∷ []) (compared bytes r) (get_or r 2 0 ∷ y ∷ [])) f
-    (subst (λ (r : List ℕ). Le (compared bytes r) (get_or r 2 0 ∷ s ∷ []) (compared bytes (get_or cursors y [])) (get_or (get_or cursors y []) 2 0 ∷ y ∷ [])) e h))
+    (subst (λ (r : Cursor). Le (compared bytes (key_cursor k n p i)) ((key_cursor k n p i).unmarked ∷ s ∷ []) (compared bytes r) (r.unmarked ∷ y ∷ [])) f
+    (subst (λ (r : Cursor). Le (compared bytes r) (r.unmarked ∷ s ∷ []) (compared bytes (cursor_in cursors y)) ((cursor_in cursors y).unmarked ∷ y ∷ [])) e h))
 
 -- a time that comes within the bound of a cursor comes before its key
-pub within-key : (cursors : List (List ℕ)) (s c k n p i w : ℕ) → get_or cursors c [] ≡ key_cursor k n p i → within (bound_at cursors s c) w ≡ true
+pub within-key : (cursors : List Cursor) (s c k n p i w : ℕ) → cursor_in cursors c ≡ key_cursor k n p i → within (bound_at cursors s c) w ≡ true
     → (suc (time_of w) < k) ⊎ ((suc (time_of w) ≡ k) × (s < c))
 unfolding key_cursor within
-within-key cursors s c zero n p i w e h = absurd (false≢true (ap (λ (r : List ℕ). cond (eqb (get_or r 6 0) 0) false (cond (eqb (time_of w) (get_or r 7 0)) (ltb s c) (ltb (time_of w) (get_or r 7 0)))) (sym e) ∙ h))
+within-key cursors s c zero n p i w e h = absurd (false≢true (ap (λ (r : Cursor). cond (eqb r.key.first 0) false (cond (eqb (time_of w) r.key.second) (ltb s c) (ltb (time_of w) r.key.second))) (sym e) ∙ h))
 within-key cursors s c (suc t) n p i w e h =
-    go (eqb (time_of w) t) refl (ap (λ (r : List ℕ). cond (eqb (get_or r 6 0) 0) false (cond (eqb (time_of w) (get_or r 7 0)) (ltb s c) (ltb (time_of w) (get_or r 7 0)))) (sym e) ∙ h)
+    go (eqb (time_of w) t) refl (ap (λ (r : Cursor). cond (eqb r.key.first 0) false (cond (eqb (time_of w) r.key.second) (ltb s c) (ltb (time_of w) r.key.second))) (sym e) ∙ h)
   where
     go : (b : Bool) → eqb (time_of w) t ≡ b → cond b (ltb s c) (ltb (time_of w) t) ≡ true → (suc (time_of w) < suc t) ⊎ ((suc (time_of w) ≡ suc t) × (s < c))
     go true f h = inr (ap suc (eqb-true (time_of w) t f), ltb-true s c h)

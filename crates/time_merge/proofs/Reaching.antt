@@ -23,7 +23,8 @@ use Rattle.time_cursors.proofs.Laws.{rank_grows, by-ids, times-listed}
 use Rattle.time_cursors.proofs.Parts.{times_fit}
 use Rattle.stands.specs.declared.Stand.{Stand}
 use Rattle.stands.specs.Look.{ids_at, values_at}
-use Rattle.term_merger.specs.Order.{cell}
+use Rattle.term_merger.specs.declared.Cursor.{Cursor}
+use Rattle.term_merger.specs.Order.{cursor_in}
 use Rattle.time_merge.specs.declared.Bound.{Bound}
 use Rattle.time_merge.specs.Runs.{within, steps_within, Bounds, Reach, row_of_time, RunTo}
 
@@ -195,17 +196,17 @@ module _ (kind rows : ℕ) (ids values : List ℕ) (so : Sound (time_kind kind) 
 pub run_fits : {p : Stand} {ids values : List ℕ} {from k : ℕ} → Left p ids from k → TimesAt p ids values → k ≤ length (values_at p values)
 run_fits {from = from} l t = rw l.times (times_fit t from l.row)
 
-module _ {bytes : List ℕ} {cursors : List (List ℕ)} {seg : List ℕ} {len s : ℕ} {p : Stand} {ids values : List ℕ} (l : Left p ids (cell cursors s 3 + 1) (cell cursors s 5)) where
-  pub run-one : RunTo bytes cursors seg len s p ids values (record { end = cell cursors s 3 + 1; times = cell cursors s 5 })
+module _ {bytes : List ℕ} {cursors : List Cursor} {seg : List ℕ} {len s : ℕ} {p : Stand} {ids values : List ℕ} (l : Left p ids ((cursor_in cursors s).pos + 1) (cursor_in cursors s).to) where
+  pub run-one : RunTo bytes cursors seg len s p ids values (record { end = (cursor_in cursors s).pos + 1; times = (cursor_in cursors s).to })
   run-one = record { low = omega arith; high = l.row; times = l.times; before = inl refl }
 
-  pub run_more : TimesAt p ids values → (b : Bound) → Bounds bytes cursors seg len s b → (m : ℕ) → Reach (values_at p values) b (cell cursors s 5) m
+  pub run_more : TimesAt p ids values → (b : Bound) → Bounds bytes cursors seg len s b → (m : ℕ) → Reach (values_at p values) b (cursor_in cursors s).to m
       → (e : ℕ) → e ≡ row_of_time p.kind (ids_at p ids) p.rows m → RunTo bytes cursors seg len s p ids values (record { end = e; times = m })
   run_more t b bs m r e is =
-      let q = leads p.kind p.rows (ids_at p ids) (values_at p values) t.sound (cell cursors s 3) m l.row (rw (← l.times) r.low) r.high in
-      record { low = rw is q.0; high = rw is q.1; times = rw is q.2; before = go (le-lt (cell cursors s 5) m) }
+      let q = leads p.kind p.rows (ids_at p ids) (values_at p values) t.sound (cursor_in cursors s).pos m l.row (rw (← l.times) r.low) r.high in
+      record { low = rw is q.0; high = rw is q.1; times = rw is q.2; before = go (le-lt (cursor_in cursors s).to m) }
     where
-      go : (cell cursors s 5 < m) ⊎ (m ≤ cell cursors s 5)
-          → (m ≡ cell cursors s 5) ⊎ ((0 < m) × (b : Bound) × Bounds bytes cursors seg len s b × (within b (get_or (values_at p values) (m - 1) 0) ≡ true))
+      go : ((cursor_in cursors s).to < m) ⊎ (m ≤ (cursor_in cursors s).to)
+          → (m ≡ (cursor_in cursors s).to) ⊎ ((0 < m) × (b : Bound) × Bounds bytes cursors seg len s b × (within b (get_or (values_at p values) (m - 1) 0) ≡ true))
       go (inl h) = inr ((omega arith), b, bs, r.last h)
       go (inr h) = inl (omega (arith, r.low))

@@ -32,6 +32,11 @@ module _ (flag : ℕ) (alive : List ℕ) where
       go true h = suc-le-suc zero-le
       go false h = h
 
+  -- up to its own place there is no row
+  pub none-from : (from row : ℕ) → row ≤ from → alive_up_to flag alive from from ≡ alive_up_to flag alive from row
+  unfolding alive_up_to
+  none-from from row h = ap (λ (n : ℕ). filter (alive_bit flag alive) (up_from from n)) (let e : from - from ≡ row - from = omega arith in e)
+
   -- a withdrawn row at the end is passed over
   pub shorter : (from n : ℕ) → from < n → alive_bit flag alive (n - 1) ≡ false → alive_up_to flag alive from (n - 1) ≡ alive_up_to flag alive from n
   unfolding alive_up_to

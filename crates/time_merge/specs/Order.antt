@@ -6,6 +6,8 @@ use Rattle.definitions.specs.Join.{absent}
 use Rattle.definitions.specs.TimeOrder.{time_of, time_order}
 use Rattle.definitions.specs.Outcome.{written}
 use Rattle.stands.specs.Stand.{table, stand_at}
+use Rattle.term_merger.specs.declared.Cursor.{Cursor}
+use Rattle.term_merger.specs.Order.{cursor_in}
 use Rattle.time_cursors.specs.Cursors.{cursor_at, first_from, segment_in, Timed}
 
 -- an address as its two numbers
@@ -35,11 +37,11 @@ pub record Rising (stands : List (List ℕ)) (ids values alive : List ℕ) (out 
   pub room : length (time_order (placed_segments stands ids values alive)) ≤ length out
 
 -- each segment's first cursor; places without a segment have none left
-pub record Begins (ss : List Segment) (cursors : List (List ℕ)) : Type 0 where
+pub record Begins (ss : List Segment) (cursors : List Cursor) : Type 0 where
   pub size : length cursors ≡ 256
-  pub cursor : (x : ℕ) → x < 256 → get_or cursors x [] ≡ first_from (get_or ss x absent) 0
+  pub cursor : (x : ℕ) → x < 256 → cursor_in cursors x ≡ first_from (get_or ss x absent) 0
 
 -- the same where every row is written
-pub record Ends (ss : List Segment) (cursors : List (List ℕ)) : Type 0 where
+pub record Ends (ss : List Segment) (cursors : List Cursor) : Type 0 where
   pub size : length cursors ≡ 256
-  pub cursor : (x : ℕ) → x < 256 → get_or cursors x [] ≡ cursor_at (get_or ss x absent) (get_or ss x absent).rows
+  pub cursor : (x : ℕ) → x < 256 → cursor_in cursors x ≡ cursor_at (get_or ss x absent) (get_or ss x absent).rows

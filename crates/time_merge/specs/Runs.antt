@@ -5,7 +5,8 @@ use Rattle.definitions.specs.TimeOrder.{time_of}
 use Rattle.segment.specs.Kind.{by_index}
 use Rattle.stands.specs.declared.Stand.{Stand}
 use Rattle.stands.specs.Look.{ids_at, values_at}
-use Rattle.term_merger.specs.Order.{cell}
+use Rattle.term_merger.specs.declared.Cursor.{Cursor}
+use Rattle.term_merger.specs.Order.{cursor_in}
 use Rattle.term_merger.specs.Heap.{FirstChild}
 use Rattle.time_cursors.specs.Cursors.{alive_bit, times_before}
 use Rattle.time_merge.specs.declared.Bound.{Bound}
@@ -35,11 +36,11 @@ unfoldable pub within : Bound → ℕ → Bool
 within b w = cond (eqb b.first 0) false (cond (eqb (time_of w) b.second) b.ties (ltb (time_of w) b.second))
 
 -- the first of the others: the row at which segment c stands is the bound for rows of segment s
-abbrev pub bound_at : List (List ℕ) → ℕ → ℕ → Bound
-bound_at cursors s c = record { first = cell cursors c 6; second = cell cursors c 7; ties = ltb s c }
+abbrev pub bound_at : List Cursor → ℕ → ℕ → Bound
+bound_at cursors s c = record { first = (cursor_in cursors c).key.first; second = (cursor_in cursors c).key.second; ties = ltb s c }
 
 -- the bound is the first of the top's children, if the heap has others
-abbrev pub Bounds : List ℕ → List (List ℕ) → List ℕ → ℕ → ℕ → Bound → Type 0
+abbrev pub Bounds : List ℕ → List Cursor → List ℕ → ℕ → ℕ → Bound → Type 0
 Bounds bytes cursors seg len s b = (len ≤ 1) ⊎ ((c : ℕ) × FirstChild bytes cursors seg 1 len c × (b ≡ bound_at cursors s (get_or seg c 0)))
 
 -- a step of some times from time m on ends within the bound
@@ -59,8 +60,8 @@ unfoldable pub row_of_time : ℕ → List ℕ → ℕ → ℕ → ℕ
 row_of_time kind ids rows m = by_index kind rows m (get_or ids m rows) (get_or ids m rows)
 
 -- the run goes beyond the row at which segment s stands; its last row has that row's key, or a time within the bound
-pub record RunTo (bytes : List ℕ) (cursors : List (List ℕ)) (seg : List ℕ) (len s : ℕ) (p : Stand) (ids values : List ℕ) (r : Run) : Type 0 where
-  pub low : cell cursors s 3 < r.end
+pub record RunTo (bytes : List ℕ) (cursors : List Cursor) (seg : List ℕ) (len s : ℕ) (p : Stand) (ids values : List ℕ) (r : Run) : Type 0 where
+  pub low : (cursor_in cursors s).pos < r.end
   pub high : r.end ≤ p.rows
   pub times : r.times ≡ times_before p.kind (ids_at p ids) r.end
-  pub before : (r.times ≡ cell cursors s 5) ⊎ ((0 < r.times) × (b : Bound) × Bounds bytes cursors seg len s b × (within b (get_or (values_at p values) (r.times - 1) 0) ≡ true))
+  pub before : (r.times ≡ (cursor_in cursors s).to) ⊎ ((0 < r.times) × (b : Bound) × Bounds bytes cursors seg len s b × (within b (get_or (values_at p values) (r.times - 1) 0) ≡ true))

@@ -7,7 +7,7 @@
 ghost use Rattle.std.specs.Prelude.{◌≡◌, ◌+◌, ◌*◌, ◌<◌, ◌≤◌, length, replicate};
 ghost use Rattle.definitions.specs.TimeOrder.{time_order};
 ghost use Rattle.runs.specs.Put.{put};
-ghost use Rattle.term_merger.specs.Order.{cell, TermsInside};
+ghost use Rattle.term_merger.specs.Order.{cursor_in, no_cursor, TermsInside};
 ghost use Rattle.term_merger.specs.Live.{Started};
 ghost use Rattle.time_cursors.specs.Cursors.{TimesAt, Left};
 ghost use Rattle.time_merge.specs.Order.{placed_segments, time_written, Ready, Rising, Begins, Ends};
@@ -36,14 +36,12 @@ fn last_listed(flag: usize, alive: &[u64], from: usize, end: usize) -> usize
     requires end_bound { flag ≡ 1 → end ≤ 64 * length alive.now }
     ensures { LastListed flag alive.now from end result }
 {
-    let mut n = end;
-    while from < n {
-        if time_cursors::is_listed(flag, alive, n - 1) {
-            return n;
+    for row in (from..end).rev() {
+        if time_cursors::is_listed(flag, alive, row) {
+            return row + 1;
         }
-        n -= 1;
     }
-    n
+    from
 }
 
 // The alive rows from the given one up to the end are written from place k on. Returns the place after them. Each row is written at the place of the next
@@ -65,17 +63,12 @@ fn write_rows(
 {
     let stop = last_listed(flag, alive, from, end);
     let mut n = k;
-    let mut row = from;
-    while row < stop {
+    for row in from..stop {
         out[n] = [s as u32, row as u32];
         n += time_cursors::one_if_listed(flag, alive, row);
-        row += 1;
     }
     n
 }
-
-// No time's number is above it.
-const LAST_TIME: usize = 18446744073709551615;
 
 // The bound for the rows of the heap's top. Where it is alone all times come within.
 fn bound_of(seg: &[u8; Heap::CAP], len: usize, bytes: &[u8], cursors: &[Cursor], s: usize) -> Bound
@@ -86,16 +79,16 @@ fn bound_of(seg: &[u8; Heap::CAP], len: usize, bytes: &[u8], cursors: &[Cursor],
     if len < 2 {
         return Bound {
             first: 1,
-            second: LAST_TIME,
+            second: usize::MAX,
             ties: true,
         };
     }
     let c = term_merger::first_child(seg, bytes, cursors, 1, len);
-    let other = runs::byte(seg[c]);
-    let cursor = cursors[other];
+    let other = seg[c] as usize;
+    let key = cursors[other].key;
     Bound {
-        first: cursor[6],
-        second: cursor[7],
+        first: key.first,
+        second: key.second,
         ties: s < other,
     }
 }
@@ -147,16 +140,12 @@ fn times_within(values: &[u64], bound: Bound, n: usize) -> usize
 fn row_of(kind: usize, ids: &[u32], rows: usize, m: usize) -> usize
     ensures { result ≡ row_of_time kind ids.now rows m }
 {
-    if kind == 0 {
-        return rows;
+    match kind {
+        0 => rows,
+        1 => m,
+        _ if ids.len() <= m => rows,
+        _ => ids[m] as usize,
     }
-    if kind == 1 {
-        return m;
-    }
-    if ids.len() <= m {
-        return rows;
-    }
-    segment::wide(ids[m])
 }
 
 // Where the run of the heap's top ends. A segment that has just come to the top gives one row: where segments overlap it hardly ever stays.
@@ -173,24 +162,20 @@ fn run_of(
 ) -> Run
     requires cursors_len { (length cursors.now ≡ 256) × TermsInside bytes.now cursors.now × (len ≤ 256) × (s < 256) }
     requires times_at { TimesAt p ids.now values.now }
-    requires left { Left p ids.now (cell cursors.now s 3 + 1) (cell cursors.now s 5) }
+    requires left { Left p ids.now ((cursor_in cursors.now s).pos + 1) (cursor_in cursors.now s).to }
     ensures { RunTo bytes.now cursors.now seg.now len s p ids.now values.now result }
 {
     let cursor = cursors[s];
     if !stays {
         return Run {
-            end: cursor[3] + 1,
-            times: cursor[5],
+            end: cursor.pos + 1,
+            times: cursor.to,
         };
     }
     let bound = bound_of(seg, len, bytes, cursors, s);
-    let a = p.values.from;
-    let b = p.values.to;
-    let m = times_within(&values[a..b], bound, cursor[5]);
-    let c = p.ids.from;
-    let d = p.ids.to;
+    let m = times_within(&values[p.values.from..p.values.to], bound, cursor.to);
     Run {
-        end: row_of(p.kind, &ids[c..d], p.rows, m),
+        end: row_of(p.kind, &ids[p.ids.from..p.ids.to], p.rows, m),
         times: m,
     }
 }
@@ -204,14 +189,12 @@ pub fn fill_cursors(
     cursors: &mut [Cursor],
 )
     requires ready { Ready stands.now ids.now values.now alive.now }
-    requires cursors_value { cursors.old ≡ replicate 256 (replicate 8 0) }
+    requires cursors_value { cursors.old ≡ replicate 256 no_cursor }
     ensures { Begins (placed_segments stands.now ids.now values.now alive.now) cursors.new }
 {
-    let mut s: usize = 0;
-    while s < stands.len() {
+    for s in 0..stands.len() {
         let p = stands::stand_at(stands, s);
         cursors[s] = time_cursors::first_from(p, ids, values, alive, 0, 0);
-        s += 1;
     }
 }
 
@@ -237,19 +220,27 @@ pub fn merge(
 {
     let mut h = heap;
     let mut k: usize = 0;
-    let mut last: usize = Heap::CAP;
+    let mut last = None;
     while 0 < h.len {
-        let s = runs::byte(h.seg[0]);
+        let s = h.seg[0] as usize;
         let n = h.len;
         let p = stands::stand_at(stands, s);
-        let run = run_of(&h.seg, n, bytes, cursors, s, s == last, p, ids, values);
-        let a = p.alive.from;
-        let b = p.alive.to;
-        let from = cursors[s][3];
-        k = write_rows(s, p.flag, &alive[a..b], from, run.end, out, k);
+        let run = run_of(
+            &h.seg,
+            n,
+            bytes,
+            cursors,
+            s,
+            last == Some(s),
+            p,
+            ids,
+            values,
+        );
+        let set = &alive[p.alive.from..p.alive.to];
+        k = write_rows(s, p.flag, set, cursors[s].pos, run.end, out, k);
         cursors[s] = time_cursors::first_from(p, ids, values, alive, run.end, run.times);
         h.len = term_merger::settle_top(&mut h.seg, n, bytes, cursors);
-        last = s;
+        last = Some(s);
     }
     k
 }

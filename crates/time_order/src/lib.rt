@@ -10,6 +10,7 @@ ghost use Rattle.time_merge.specs.Order.{placed_segments, time_written, Ready, R
 ghost use Rattle.time_order.specs.Outcome.{outcome_of, output_of};
 
 use refusal::Refusal;
+use term_merger::{Cursor, Heap};
 
 // The time order of segments that have passed the checks.
 fn order_rows(
@@ -27,7 +28,7 @@ fn order_rows(
     let n = records.len();
     let mut stands = [[0usize; stands::NUMBERS]; 256];
     stands::fill_stands(records, &mut stands);
-    let mut cursors = [[0usize; 8]; term_merger::Heap::CAP];
+    let mut cursors = [Cursor::NONE; Heap::CAP];
     time_merge::fill_cursors(&stands[..n], ids, values, alive, &mut cursors);
     // all terms are empty: nothing is read of the term bytes
     let bytes = [0u8; 1];

@@ -1,5 +1,7 @@
+use Prim.Native.Nat.{ℕ, ◌+◌}
+use Rattle.lists.proofs.Parts.{run_length}
 use Rattle.term_walk.proofs.Merge.{same-eq, differ}
-use mathlib.Core.Path.{refl, sym, ◌∙◌}
+use mathlib.Core.Path.{refl, sym, ap, ◌∙◌}
 use mathlib.Core.Logic.{inl, inr}
 use native.Mathlib.Omega.{arith}
 use Rattle.term_walk.proofs.take_term.Goals as goal
@@ -23,4 +25,4 @@ returns-then-cursor-ne0 c =
 
 pub returns : goal.returns
 returns c =
-    inr (inr (record { other = λ p e. elim c.else-n-gt0.branch [ else-n-gt0-via-then-n-gt0+else-same_term w ↦ differ _ _ (sym w.same_term.ensures ∙ w.if-same_term.false) e | else-n-gt0-via-else-n-gt0 w ↦ omega arith ]; marked = c.if-cursor-ne0.false; ordinal = refl; terms = refl; used = refl; copied = c.copy_term-copied.ensures.value; key = refl; lengths = refl; texts = c.copy_term-copied.ensures.out_after }))
+    inr (inr (record { other = λ p e. elim c.else-n-gt0.branch [ else-n-gt0-via-then-n-gt0+else-same_term w ↦ differ _ _ (sym w.same_term.ensures ∙ w.if-same_term.false) e | else-n-gt0-via-else-n-gt0 w ↦ omega arith ]; marked = c.if-cursor-ne0.false; ordinal = refl; terms = refl; used = ap (λ (n : ℕ). c.args.last.kept.bytes + n) (run_length _ _ _ c.requires.inside.0.high); copied = c.copy_term-copied.ensures.value; key = refl; lengths = refl; texts = c.copy_term-copied.ensures.out_after }))

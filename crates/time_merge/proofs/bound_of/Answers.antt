@@ -1,7 +1,6 @@
 use native.Mathlib.Omega.{arith}
-use mathlib.Core.Path.{ap}
+use mathlib.Core.Path.{refl}
 use mathlib.Core.Logic.{inl, inr}
-use Rattle.time_merge.specs.Runs.{bound_at}
 use Rattle.time_merge.proofs.bound_of.Goals as goal
 
 pub returns-then-len-lt2 : goal.returns-then-len-lt2
@@ -10,4 +9,4 @@ returns-then-len-lt2 c =
 
 pub returns : goal.returns
 returns c =
-    inr (_, c.first_child-c.ensures, ap (bound_at c.args.cursors.now c.args.s) c.byte-other.ensures.0)
+    inr (_, c.first_child-c.ensures, refl)

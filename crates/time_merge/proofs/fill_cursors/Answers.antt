@@ -1,5 +1,4 @@
 use mathlib.Core.Path.{ap}
-use Prim.Native.Nat.{zero-le}
 use native.Mathlib.Omega.{arith}
 use lib.ListN.{length}
 use Rattle.time_merge.proofs.Keyed.{timed-at}
@@ -8,7 +7,7 @@ use Rattle.time_merge.proofs.fill_cursors.Goals as goal
 
 pub loop-s-init : goal.loop-s-init
 loop-s-init c =
-    (zero-le, filled_start c.requires.ready _ c.requires.cursors_value)
+    filled_start c.requires.ready _ c.requires.cursors_value
 
 pub stand_at-p-requires : goal.stand_at-p-requires
 stand_at-p-requires c =
@@ -24,16 +23,16 @@ first_from-requires-clause-left c =
 
 pub bounds-cursors-s : goal.bounds-cursors-s
 bounds-cursors-s c =
-    omega (arith, c.loop-s.invariant.1.size, c.loop-s-test.true, c.requires.ready.few)
+    omega (arith, c.loop-s.invariant.size, c.loop-s-test.true, c.requires.ready.few)
 
 pub loop-s-preserved : goal.loop-s-preserved
 loop-s-preserved c =
-    (omega (arith, c.loop-s-test.true), filled_more c.requires.ready c.loop-s.invariant.1 c.loop-s-test.true c.stand_at-p.ensures _ c.first_from.ensures)
+    filled_more c.requires.ready c.loop-s.invariant c.loop-s-test.true c.stand_at-p.ensures _ c.first_from.ensures
 
 pub shape_of-cursors : goal.shape_of-cursors
 shape_of-cursors c =
-    omega (arith, c.loop-s.invariant.1.size, ap length c.requires.cursors_value)
+    omega (arith, c.loop-s.invariant.size, ap length c.requires.cursors_value)
 
 pub returns : goal.returns
 returns c =
-    filled-end c.requires.ready c.loop-s.invariant.1 c.loop-s-test.false c.loop-s.invariant.0
+    filled-end c.requires.ready c.loop-s.invariant c.loop-s-test.false (omega arith)

@@ -1,19 +1,15 @@
-use mathlib.Core.Path.{◌∙◌}
+use native.Mathlib.Omega.{arith}
 use Rattle.time_merge.proofs.Reaching.{row-none, row-full, row-end, row_listed}
 use Rattle.time_merge.proofs.row_of.Goals as goal
 
-pub returns-then-kind-eq0 : goal.returns-then-kind-eq0
-returns-then-kind-eq0 c =
-    row-none _ _ _ _ c.if-kind-eq0.true
+pub returns-in-0 : goal.returns-in-0
+returns-in-0 c = row-none _ _ _ _ c.in-0.is
 
-pub returns-then-kind-eq1 : goal.returns-then-kind-eq1
-returns-then-kind-eq1 c =
-    row-full _ _ _ _ c.if-kind-eq1.true
+pub returns-in-1 : goal.returns-in-1
+returns-in-1 c = row-full _ _ _ _ c.in-1.is
 
-pub returns-then-ids-m : goal.returns-then-ids-m
-returns-then-ids-m c =
-    row-end _ _ _ _ c.if-kind-eq0.false c.if-kind-eq1.false c.if-ids-m.true
+pub returns-in_default : goal.returns-in_default
+returns-in_default c = row-end _ _ _ _ (λ e. omega arith) (λ e. omega arith) c.if-ids-m.true
 
-pub returns : goal.returns
-returns c =
-    c.wide.ensures.value ∙ row_listed _ _ _ _ c.if-kind-eq0.false c.if-kind-eq1.false c.if-ids-m.false
+pub returns-in_default-2 : goal.returns-in_default-2
+returns-in_default-2 c = row_listed _ _ _ _ (λ e. omega arith) (λ e. omega arith) c.if-ids-m.false
