@@ -229,13 +229,7 @@ pub fn fill_stands(records: &[segment::RecordNumbers], stands: &mut [StandNumber
 // ---- a row
 
 // Where the values of a row stand among the segment's values; `near` is a guess at the row's rank.
-pub fn range_in(
-    p: Stand,
-    ids: &[u32],
-    offsets: &[u32],
-    row: u32,
-    near: usize,
-) -> Range<usize>
+pub fn range_in(p: Stand, ids: &[u32], offsets: &[u32], row: u32, near: usize) -> Range<usize>
     requires { Within p ids.now offsets.now row }
     ensures start_value { result.start ≡ start_in p ids.now offsets.now row }
     ensures end_value { result.end ≡ end_in p ids.now offsets.now row }
