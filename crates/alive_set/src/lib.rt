@@ -6,6 +6,7 @@ ghost use Rattle.definitions.specs.Row.{bit_at, set_bits};
 ghost use Rattle.definitions.specs.Lists.{with_bit, without_bit};
 
 // Whether the row's bit is set; row 0 is the lowest bit of the first word.
+#[tactic(auto, using(std::proofs::lemmas::Nat::Bits::shr_and_one), unfolding(definitions::specs::Row::bit_at))]
 pub fn is_alive(words: &[u64], row: usize) -> bool
     requires { row < 64 * length words.now }
     ensures { result ≡ bit_at words.now row }

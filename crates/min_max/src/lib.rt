@@ -19,6 +19,7 @@ pub struct Range {
 // ---- keys
 
 // I64 is signed: half of all words are moved behind the others.
+#[tactic(auto, unfolding(crate::specs::Keys::shift_of))]
 fn shift_of(t: u32) -> u64
     ensures { result ≡ shift_of t }
 {
@@ -120,6 +121,7 @@ pub fn is_less(t: u32, v: u64, w: u64) -> bool
 }
 
 // Two pairs put together: the lower of the least values and the higher of the greatest.
+#[tactic(auto, unfolding(crate::specs::Pairs::both_pairs))]
 pub fn together(t: u32, p: Range, q: Range) -> Range
     ensures { pair_in result ≡ both_pairs t (pair_in p) (pair_in q) }
 {

@@ -149,6 +149,7 @@ pub fn wide(x: u32) -> usize
 }
 
 // How many alive words the segment has: one per 64 rows or part of it, where the flag is 1.
+#[tactic(auto, unfolding(definitions::specs::Segment::alive_words))]
 pub fn alive_words(r: Record) -> usize
     ensures value { result ≡ alive_words (record_in r) }
     ensures upper_bound { result ≤ 67108864 }
@@ -161,6 +162,7 @@ pub fn alive_words(r: Record) -> usize
 }
 
 // How many words the segment's values have.
+#[tactic(auto, unfolding(definitions::specs::Segment::record_words))]
 pub fn value_words(r: Record) -> usize
     ensures value { result ≡ record_words (record_in r) }
     ensures upper_bound { result ≤ 8589934592 }
