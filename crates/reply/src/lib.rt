@@ -2,7 +2,7 @@
 #![tactic(auto)]
 
 ghost use Rattle.std.specs.Prelude.{◌≡◌, suc, ◌≤◌, length, take};
-ghost use Rattle.definitions.specs.Outcome.{accepted, join_outcome, lent_of};
+ghost use Rattle.definitions.specs.Outcome.{accepted, join_outcome};
 ghost use Rattle.segment.specs.Records.{records_of};
 ghost use Rattle.definitions.specs.Wire.{most_bytes, word_sections, lent_from, program_buffers};
 ghost use Rattle.definitions.specs.Listing.{answer_text, listing, reply as Listing·reply};
@@ -10,8 +10,10 @@ ghost use Rattle.io.specs.Counts.{IsPrefixLen};
 ghost use Rattle.runs.specs.Put.{put};
 ghost use Rattle.wire.specs.Bounds.{Fitted};
 ghost use Rattle.listing.specs.Shown.{outputs, Announced, AnnouncedBy, Short};
-ghost use Rattle.merge.specs.Whole.{numbers_in, answer_of};
+ghost use Rattle.merge.specs.Whole.{numbers_in, answer_of, lent_in};
 ghost use Rattle.reply.specs.Input.{zeros, Answers};
+
+use refusal::Refusal;
 
 // An accepted column, out of the output lists.
 fn put_column(
@@ -52,7 +54,7 @@ fn put_column(
 
 // An answer, with what the call left in the output lists.
 fn put_answer(
-    a: merge::Answer,
+    answer: Result<merge::Numbers, Refusal>,
     ids: &[u32],
     offsets: &[u32],
     values: &[u64],
@@ -61,16 +63,19 @@ fn put_answer(
     map: &[u32],
     out: &mut [u8],
 ) -> usize
-    requires announced_by { AnnouncedBy (answer_of a) (outputs ids.now offsets.now values.now lengths.now bytes.now map.now) }
+    requires announced_by { AnnouncedBy (answer_of answer) (outputs ids.now offsets.now values.now lengths.now bytes.now map.now) }
     requires short { Short (outputs ids.now offsets.now values.now lengths.now bytes.now map.now) }
     requires in_bounds { 786432 ≤ length out.old }
     ensures upper_bound { result ≤ 786432 }
-    ensures value { result ≡ length (answer_text (outputs ids.now offsets.now values.now lengths.now bytes.now map.now) (answer_of a)) }
-    ensures out_after { out.new ≡ put 0 (answer_text (outputs ids.now offsets.now values.now lengths.now bytes.now map.now) (answer_of a)) out.old }
+    ensures value { result ≡ length (answer_text (outputs ids.now offsets.now values.now lengths.now bytes.now map.now) (answer_of answer)) }
+    ensures out_after { out.new ≡ put 0 (answer_text (outputs ids.now offsets.now values.now lengths.now bytes.now map.now) (answer_of answer)) out.old }
 {
-    match a {
-        merge::Answer::Accepted(n) => put_column(n, ids, offsets, values, lengths, bytes, map, out),
-        merge::Answer::Refused(k) => listing::put_refusal(k as u64, out),
+    match answer {
+        Ok(n) => put_column(n, ids, offsets, values, lengths, bytes, map, out),
+        Err(refusal) => {
+            let number = u32::from(refusal);
+            listing::put_refusal(u64::from(number), out)
+        }
     }
 }
 
@@ -79,19 +84,14 @@ fn answer_lists(
     mode: u32,
     required: u32,
     records: &[segment::RecordNumbers],
-    ids: &[u32],
-    offsets: &[u32],
-    values: &[u64],
-    lengths: &[u32],
-    bytes: &[u8],
-    alive: &[u64],
+    sections: &segment::Sections,
     addresses: &[[u32; 2]],
     out: &mut [u8],
 ) -> usize
     requires { 786432 ≤ length out.old }
     ensures upper_bound { result ≤ 786432 }
-    ensures value { result ≡ length (listing (join_outcome (lent_of mode required (records_of records.now) ids.now offsets.now values.now lengths.now bytes.now alive.now addresses.now program_buffers))) }
-    ensures out_after { out.new ≡ put 0 (listing (join_outcome (lent_of mode required (records_of records.now) ids.now offsets.now values.now lengths.now bytes.now alive.now addresses.now program_buffers))) out.old }
+    ensures value { result ≡ length (listing (join_outcome (lent_in mode required (records_of records.now) sections.now addresses.now program_buffers))) }
+    ensures out_after { out.new ≡ put 0 (listing (join_outcome (lent_in mode required (records_of records.now) sections.now addresses.now program_buffers))) out.old }
 {
     let mut i = [0u32; 8192];
     let mut o = [0u32; 8192];
@@ -100,11 +100,11 @@ fn answer_lists(
     let mut b = [0u8; 8192];
     let mut m = [0u32; 8192];
     let mut work = [0u8; 65536];
-    let a = merge::join(
-        mode, required, records, ids, offsets, values, lengths, bytes, alive, addresses, &mut work,
-        &mut i, &mut o, &mut v, &mut l, &mut b, &mut m,
+    let answer = merge::join(
+        mode, required, records, sections, addresses, &mut work, &mut i, &mut o, &mut v, &mut l,
+        &mut b, &mut m,
     );
-    put_answer(a, &i, &o, &v, &l, &b, &m, out)
+    put_answer(answer, &i, &o, &v, &l, &b, &m, out)
 }
 
 // Reads the lists out of the words of an input that fits, and answers them.
@@ -131,16 +131,19 @@ fn answer_words(words: &[u64], bounds: &[usize], out: &mut [u8]) -> usize
     let b = wire::read_bytes(words, bounds, 6, &mut bytes);
     let alive = wire::section(words, bounds, 7);
     let a = wire::read_addresses(words, bounds, &mut addresses);
+    let sections = segment::Sections {
+        ids: &ids[..i],
+        offsets: &offsets[..o],
+        values,
+        lengths: &lengths[..l],
+        bytes: &bytes[..b],
+        alive,
+    };
     answer_lists(
         mode,
         required,
         &records[..r],
-        &ids[..i],
-        &offsets[..o],
-        values,
-        &lengths[..l],
-        &bytes[..b],
-        alive,
+        &sections,
         &addresses[..a],
         out,
     )

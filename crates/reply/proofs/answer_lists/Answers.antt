@@ -12,11 +12,11 @@ use Rattle.reply.proofs.answer_lists.Goals as goal
 
 pub put_answer-requires-clause-announced_by : goal.put_answer-requires-clause-announced_by
 put_answer-requires-clause-announced_by c =
-    outcome.left-readable _ _ _ c.join-a.ensures
+    outcome.left-readable _ _ _ c.join-answer.ensures
 
 pub put_answer-requires-clause-short : goal.put_answer-requires-clause-short
 put_answer-requires-clause-short c =
-    record { ids = omega (arith, c.join-a.auto.out_ids); offsets = omega (arith, c.join-a.auto.out_offsets); values = omega (arith, c.join-a.auto.out_values); terms = omega (arith, c.join-a.auto.out_lengths); bytes = omega (arith, c.join-a.auto.out_bytes); maps = omega (arith, c.join-a.auto.out_map) }
+    record { ids = omega (arith, c.join-answer.auto.out_ids); offsets = omega (arith, c.join-answer.auto.out_offsets); values = omega (arith, c.join-answer.auto.out_values); terms = omega (arith, c.join-answer.auto.out_lengths); bytes = omega (arith, c.join-answer.auto.out_bytes); maps = omega (arith, c.join-answer.auto.out_map) }
 
 pub put_answer-requires-clause-in_bounds : goal.put_answer-requires-clause-in_bounds
 put_answer-requires-clause-in_bounds c =
@@ -28,14 +28,14 @@ returns-clause-upper_bound c =
 
 pub returns-clause-value : goal.returns-clause-value
 returns-clause-value c =
-    let t = outcome.left-text _ _ _ c.join-a.ensures in
-    let p = laws.lent_program c.args.mode c.args.required c.args.records.now c.args.ids.now c.args.offsets.now c.args.values.now c.args.lengths.now c.args.bytes.now c.args.alive.now c.args.addresses.now in
+    let t = outcome.left-text _ _ _ c.join-answer.ensures in
+    let p = laws.lent_program c.args.mode c.args.required c.args.records.now c.args.sections.now.ids.now c.args.sections.now.offsets.now c.args.sections.now.values.now c.args.sections.now.lengths.now c.args.sections.now.bytes.now c.args.sections.now.alive.now c.args.addresses.now in
     let e = t ∙ ap (λ (x : Lent). listing (join_outcome x)) p in
     c.put_answer.ensures.value ∙ ap length e
 
 pub returns-clause-out_after : goal.returns-clause-out_after
 returns-clause-out_after c =
-    let t = outcome.left-text _ _ _ c.join-a.ensures in
-    let p = laws.lent_program c.args.mode c.args.required c.args.records.now c.args.ids.now c.args.offsets.now c.args.values.now c.args.lengths.now c.args.bytes.now c.args.alive.now c.args.addresses.now in
+    let t = outcome.left-text _ _ _ c.join-answer.ensures in
+    let p = laws.lent_program c.args.mode c.args.required c.args.records.now c.args.sections.now.ids.now c.args.sections.now.offsets.now c.args.sections.now.values.now c.args.sections.now.lengths.now c.args.sections.now.bytes.now c.args.sections.now.alive.now c.args.addresses.now in
     let e = t ∙ ap (λ (x : Lent). listing (join_outcome x)) p in
     c.put_answer.ensures.out_after ∙ ap (λ (x : List ℕ). put 0 x c.args.out.now) e
