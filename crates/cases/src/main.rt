@@ -9,10 +9,36 @@ ghost use Rattle.case_text.specs.Counts.{Counts};
 
 use case_text::{Element, Reader};
 
-// Which entry is called: 0 join, 1 time order, 2 converter, 3 withdraw, 4 reinstate, 5 and 6 the same of a run of rows; and the numbers that only a join takes.
+// Which entry is called, as the number that a case begins with.
+#[derive(Clone, Copy)]
+enum Entry {
+    Join,
+    TimeOrder,
+    Convert,
+    Withdraw,
+    Reinstate,
+    WithdrawRows,
+    ReinstateRows,
+}
+
+impl Entry {
+    fn of(n: u64) -> Entry {
+        match n {
+            0 => Entry::Join,
+            1 => Entry::TimeOrder,
+            2 => Entry::Convert,
+            3 => Entry::Withdraw,
+            4 => Entry::Reinstate,
+            5 => Entry::WithdrawRows,
+            _ => Entry::ReinstateRows,
+        }
+    }
+}
+
+// An entry, and the numbers that only a join takes.
 #[derive(Clone, Copy)]
 struct Call {
-    entry: u64,
+    entry: Entry,
     mode: u32,
     required: u32,
 }
@@ -211,9 +237,8 @@ fn convert_case(
     let out_ids = &mut ids_memory[..ic];
     let out_offsets = &mut offsets_memory[..oc];
     if let [first, ..] = records {
-        let r = segment::record_at(records, 0);
         let a = convert::convert(
-            r,
+            segment::record_of(*first),
             ids,
             offsets,
             values,
@@ -229,47 +254,32 @@ fn convert_case(
     }
 }
 
-fn mark_one(
-    entry: u64,
-    record: &mut segment::RecordNumbers,
-    alive: &mut [u64],
-    row: u32,
-) -> withdraw::MarkAnswer {
-    if entry == 3 {
-        return withdraw::withdraw(record, alive, row);
-    }
-    withdraw::reinstate(record, alive, row)
-}
-
 // The calls of one row are for cases that name one.
 fn mark(
-    entry: u64,
+    entry: Entry,
     record: &mut segment::RecordNumbers,
     alive: &mut [u64],
     rows: &[u32],
 ) -> withdraw::MarkAnswer {
-    if entry < 5 {
-        if 0 < rows.len() {
-            return mark_one(entry, record, alive, rows[0]);
-        }
+    match (entry, rows) {
+        (Entry::Withdraw, [row, ..]) => withdraw::withdraw(record, alive, *row),
+        (Entry::Reinstate, [row, ..]) => withdraw::reinstate(record, alive, *row),
+        (Entry::WithdrawRows, _) => withdraw::withdraw_rows(record, alive, rows),
+        _ => withdraw::reinstate_rows(record, alive, rows),
     }
-    if entry == 5 {
-        return withdraw::withdraw_rows(record, alive, rows);
-    }
-    withdraw::reinstate_rows(record, alive, rows)
 }
 
 // The first record alone, where there is one.
 fn mark_case(
     reader: &mut Reader,
-    entry: u64,
+    entry: Entry,
     records: &[segment::RecordNumbers],
     alive: &mut [u64],
 ) {
     let mut rows = [0u32; 300];
     let n = reader.list(&mut rows);
     if let [first, ..] = records {
-        let mut record = records[0];
+        let mut record = *first;
         let a = mark(entry, &mut record, alive, &rows[..n]);
         put_marked(a);
         put_record(b"  record", segment::record_of(record));
@@ -291,10 +301,7 @@ fn run(
     addresses: &[[u32; 2]],
 ) {
     match call.entry {
-        1 => time_case(reader, records, ids, offsets, values, lengths, bytes, alive),
-        2 => convert_case(reader, records, ids, offsets, values, lengths, bytes, alive),
-        3.. => mark_case(reader, call.entry, records, alive),
-        _ => join_case(
+        Entry::Join => join_case(
             reader,
             call.mode,
             call.required,
@@ -307,6 +314,11 @@ fn run(
             alive,
             addresses,
         ),
+        Entry::TimeOrder => time_case(reader, records, ids, offsets, values, lengths, bytes, alive),
+        Entry::Convert => convert_case(
+            reader, records, ids, offsets, values, lengths, bytes, alive,
+        ),
+        entry => mark_case(reader, entry, records, alive),
     }
 }
 
@@ -319,7 +331,7 @@ fn show_name(reader: &mut Reader) {
 }
 
 fn read_call(reader: &mut Reader) -> Call {
-    let entry = reader.number();
+    let entry = Entry::of(reader.number());
     let mode = u32::read(reader);
     let required = u32::read(reader);
     Call {
