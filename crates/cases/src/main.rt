@@ -11,10 +11,41 @@ use case_text::{Element, Reader};
 use refusal::Refusal;
 use segment::{RecordNumbers, Sections};
 
-// Which entry is called: 0 join, 1 time order, 2 converter, 3 withdraw, 4 reinstate, 5 and 6 the same of a run of rows; and the numbers that only a join takes.
+// Which entry is called, as the number that a case begins with.
+#[derive(Clone, Copy)]
+enum Entry {
+    Join,
+    TimeOrder,
+    Convert,
+    Withdraw,
+    Reinstate,
+    WithdrawRows,
+    ReinstateRows,
+}
+
+impl Entry {
+    fn of(n: u64) -> Entry {
+        match n {
+            0 => Entry::Join,
+            1 => Entry::TimeOrder,
+            2 => Entry::Convert,
+            3 => Entry::Withdraw,
+            4 => Entry::Reinstate,
+            5 => Entry::WithdrawRows,
+            _ => Entry::ReinstateRows,
+        }
+    }
+
+    // Whether it withdraws or reinstates.
+    fn marks(self) -> bool {
+        !matches!(self, Entry::Join | Entry::TimeOrder | Entry::Convert)
+    }
+}
+
+// An entry, and the numbers that only a join takes.
 #[derive(Clone, Copy)]
 struct Call {
-    entry: u64,
+    entry: Entry,
     mode: u32,
     required: u32,
 }
@@ -198,38 +229,23 @@ fn convert_case(reader: &mut Reader, records: &[RecordNumbers], sections: &Secti
     }
 }
 
-fn mark_one(
-    entry: u64,
-    record: &mut RecordNumbers,
-    alive: &mut [u64],
-    row: u32,
-) -> Result<u32, Refusal> {
-    if entry == 3 {
-        return withdraw::withdraw(record, alive, row);
-    }
-    withdraw::reinstate(record, alive, row)
-}
-
 // The calls of one row are for cases that name one.
 fn mark(
-    entry: u64,
+    entry: Entry,
     record: &mut RecordNumbers,
     alive: &mut [u64],
     rows: &[u32],
 ) -> Result<u32, Refusal> {
-    if entry < 5 {
-        if let [row, ..] = rows {
-            return mark_one(entry, record, alive, *row);
-        }
+    match (entry, rows) {
+        (Entry::Withdraw, [row, ..]) => withdraw::withdraw(record, alive, *row),
+        (Entry::Reinstate, [row, ..]) => withdraw::reinstate(record, alive, *row),
+        (Entry::WithdrawRows, _) => withdraw::withdraw_rows(record, alive, rows),
+        _ => withdraw::reinstate_rows(record, alive, rows),
     }
-    if entry == 5 {
-        return withdraw::withdraw_rows(record, alive, rows);
-    }
-    withdraw::reinstate_rows(record, alive, rows)
 }
 
 // The first record alone, where there is one.
-fn mark_case(reader: &mut Reader, entry: u64, records: &[RecordNumbers], alive: &mut [u64]) {
+fn mark_case(reader: &mut Reader, entry: Entry, records: &[RecordNumbers], alive: &mut [u64]) {
     let mut rows = [0u32; 300];
     let n = reader.list(&mut rows);
     if let [first, ..] = records {
@@ -250,8 +266,8 @@ fn run(
     addresses: &[[u32; 2]],
 ) {
     match call.entry {
-        1 => time_case(reader, records, sections),
-        2 => convert_case(reader, records, sections),
+        Entry::TimeOrder => time_case(reader, records, sections),
+        Entry::Convert => convert_case(reader, records, sections),
         _ => join_case(
             reader,
             call.mode,
@@ -272,7 +288,7 @@ fn show_name(reader: &mut Reader) {
 }
 
 fn read_call(reader: &mut Reader) -> Call {
-    let entry = reader.number();
+    let entry = Entry::of(reader.number());
     let mode = u32::read(reader);
     let required = u32::read(reader);
     Call {
@@ -302,7 +318,7 @@ fn show_case(reader: &mut Reader) {
     let bc = reader.list(&mut bytes);
     let wc = reader.list(&mut alive);
     let ac = reader.list(&mut addresses);
-    if 3 <= call.entry {
+    if call.entry.marks() {
         mark_case(reader, call.entry, &records[..rc], &mut alive[..wc]);
         return;
     }

@@ -626,9 +626,7 @@ fn show(w: u64) {
 }
 
 fn main() {
-    let mut i: usize = 0;
-    while i < 610 {
-        show(WORDS[i]);
-        i += 1;
+    for &w in &WORDS {
+        show(w);
     }
 }

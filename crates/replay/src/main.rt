@@ -14,17 +14,17 @@ fn input_buffer() -> [u8; 262144]
 fn answer_all(inputs: &[u8], out: &mut [u8])
     requires { 786432 ≤ length out.old }
 {
-    let mut at: usize = 0;
-    while 8 <= inputs.len() - at {
-        let n = wire::word_at(inputs, at) as usize;
-        let from = at + 8;
-        if inputs.len() - from < n {
+    let mut left = inputs;
+    while left.len() >= 8 {
+        let (head, rest) = left.split_at(8);
+        let n = wire::word_at(head, 0) as usize;
+        if rest.len() < n {
             return;
         }
-        let to = from + n;
-        let k = reply::reply(&inputs[from..to], out);
+        let (input, after) = rest.split_at(n);
+        let k = reply::reply(input, out);
         io::write_all(1, &out[..k]);
-        at = to;
+        left = after;
     }
 }
 

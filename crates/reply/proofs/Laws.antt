@@ -1,13 +1,14 @@
 -- What the reply's proofs share. Assumes nothing.
 use mathlib.Core.Path.{◌≡◌, refl, sym, ap, ◌∙◌}
-use mathlib.Core.List.{List}
+use mathlib.Core.List.{List, map, map-id}
 use Prim.Native.Nat.{ℕ, suc, ◌≤◌}
-use lib.ListN.{length, take, replicate, length-replicate}
+use lib.ListN.{length, take, replicate, length-replicate, length-map}
 use lib.Seq.{length-take-le}
 use Rattle.definitions.specs.Wire.{most_bytes, words_of, word_sections, program_buffers, lent_from, lent_by}
 use Rattle.definitions.specs.Listing.{reply}
 use Rattle.definitions.proofs.Reading.{read_enough}
 use Rattle.runs.specs.Put.{put}
+use Rattle.runs.proofs.Laws.{front-lent}
 use Rattle.definitions.specs.Outcome.{lent_of}
 use Rattle.segment.specs.Records.{records_of}
 use Rattle.merge.specs.Whole.{buffers_of}
@@ -37,3 +38,7 @@ pub answers : (place : ℕ) (read : List ℕ) (r : ℕ) (old out : List ℕ) →
 answers place read r old out h c t input e =
     let k = ap reply e ∙ read_enough place h input in
     (c ∙ ap length k, t ∙ ap (λ (x : List ℕ). put 0 x old) k)
+
+-- numbers that were read to the start of a buffer, as they are lent
+pub numbers-lent : (ns old out : List ℕ) (n : ℕ) → n ≡ length ns → out ≡ put 0 (map (λ k. k) ns) old → take n out ≡ ns
+numbers-lent ns old out n e o = front-lent (map (λ k. k) ns) old out n (e ∙ sym (length-map ns (λ k. k))) o ∙ map-id ns

@@ -121,15 +121,15 @@ fn answer_words(words: &[u64], bounds: &[usize], out: &mut [u8]) -> usize
     let mut lengths = [0u32; 8192];
     let mut bytes = [0u8; 8192];
     let mut addresses = [[0u32; 2]; 4096];
-    let mode = wire::read_number(words, bounds, 0, 0);
-    let required = wire::read_number(words, bounds, 0, 1);
+    let mode = wire::read_number(words, bounds, wire::CALL, 0);
+    let required = wire::read_number(words, bounds, wire::CALL, 1);
     let r = wire::read_records(words, bounds, &mut records);
-    let i = wire::read_numbers(words, bounds, 2, &mut ids);
-    let o = wire::read_numbers(words, bounds, 3, &mut offsets);
-    let values = wire::section(words, bounds, 4);
-    let l = wire::read_numbers(words, bounds, 5, &mut lengths);
-    let b = wire::read_bytes(words, bounds, 6, &mut bytes);
-    let alive = wire::section(words, bounds, 7);
+    let i = wire::read_numbers(words, bounds, wire::IDS, &mut ids);
+    let o = wire::read_numbers(words, bounds, wire::OFFSETS, &mut offsets);
+    let values = wire::section(words, bounds, wire::VALUES);
+    let l = wire::read_numbers(words, bounds, wire::LENGTHS, &mut lengths);
+    let b = wire::read_numbers(words, bounds, wire::BYTES, &mut bytes);
+    let alive = wire::section(words, bounds, wire::ALIVE);
     let a = wire::read_addresses(words, bounds, &mut addresses);
     let sections = segment::Sections {
         ids: &ids[..i],

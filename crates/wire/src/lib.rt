@@ -32,7 +32,7 @@ pub const ADDRESSES: usize = 8;
 const SIZES: [usize; 9] = [1, segment::NUMBERS, 1, 1, 1, 1, 1, 1, 2];
 
 // A number of fewer bits than a word.
-trait Narrowed: Copy {
+pub trait Narrowed: Copy {
     ghost bound: { ℕ };
 
     ghost narrowed: { ℕ → Self };
@@ -211,6 +211,7 @@ fn fill_records(words: &[u64], out: &mut [segment::RecordNumbers])
 }
 
 // The addresses, at the start of out.
+// Stays: apart from `fill_records`, since a record keeps words whole and an address asks that each is narrow: one generic over both would state either twice.
 fn fill_addresses(words: &[u64], out: &mut [[u32; 2]])
     requires below { Below 4294967296 words.now }
     requires words_in_bounds { length words.now / 2 ≤ length out.old }
@@ -254,23 +255,11 @@ pub fn read_number(words: &[u64], bounds: &[usize], k: usize, i: usize) -> u32
 }
 
 // The numbers of section k, at the start of out; answers how many there are.
-pub fn read_numbers(words: &[u64], bounds: &[usize], k: usize, out: &mut [u32]) -> usize
-    requires narrow { Narrow words.now bounds.now k 4294967296 }
+pub fn read_numbers<T: Narrowed>(words: &[u64], bounds: &[usize], k: usize, out: &mut [T]) -> usize
+    requires narrow { Narrow words.now bounds.now k T.bound }
     requires words_in_bounds { length words.now ≤ length out.old }
     ensures value { result ≡ length (section_at (word_sections words.now) k) }
-    ensures out_after { out.new ≡ put 0 (section_at (word_sections words.now) k) out.old }
-{
-    let s = section(words, bounds, k);
-    fill(s, out);
-    s.len()
-}
-
-// The term bytes, at the start of out; answers how many there are.
-pub fn read_bytes(words: &[u64], bounds: &[usize], k: usize, out: &mut [u8]) -> usize
-    requires narrow { Narrow words.now bounds.now k 256 }
-    requires words_in_bounds { length words.now ≤ length out.old }
-    ensures value { result ≡ length (section_at (word_sections words.now) k) }
-    ensures out_after { out.new ≡ put 0 (section_at (word_sections words.now) k) out.old }
+    ensures out_after { out.new ≡ put 0 (map T.narrowed (section_at (word_sections words.now) k)) out.old }
 {
     let s = section(words, bounds, k);
     fill(s, out);

@@ -1,7 +1,6 @@
 use mathlib.Core.Path.{ap, ◌∙◌}
 use mathlib.Core.List.{List}
 use Prim.Native.Nat.{ℕ}
-use native.Mathlib.Omega.{arith}
 use lib.ListN.{length}
 use Rattle.definitions.specs.Outcome.{Lent, join_outcome}
 use Rattle.definitions.specs.Listing.{listing}
@@ -13,18 +12,6 @@ use Rattle.reply.proofs.answer_lists.Goals as goal
 pub put_answer-requires-clause-announced_by : goal.put_answer-requires-clause-announced_by
 put_answer-requires-clause-announced_by c =
     outcome.left-readable _ _ _ c.join-answer.ensures
-
-pub put_answer-requires-clause-short : goal.put_answer-requires-clause-short
-put_answer-requires-clause-short c =
-    record { ids = omega (arith, c.join-answer.auto.out_ids); offsets = omega (arith, c.join-answer.auto.out_offsets); values = omega (arith, c.join-answer.auto.out_values); terms = omega (arith, c.join-answer.auto.out_lengths); bytes = omega (arith, c.join-answer.auto.out_bytes); maps = omega (arith, c.join-answer.auto.out_map) }
-
-pub put_answer-requires-clause-in_bounds : goal.put_answer-requires-clause-in_bounds
-put_answer-requires-clause-in_bounds c =
-    c.requires
-
-pub returns-clause-upper_bound : goal.returns-clause-upper_bound
-returns-clause-upper_bound c =
-    c.put_answer.ensures.upper_bound
 
 pub returns-clause-value : goal.returns-clause-value
 returns-clause-value c =

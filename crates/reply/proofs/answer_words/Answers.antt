@@ -9,6 +9,7 @@ use Rattle.definitions.specs.Listing.{listing}
 use Rattle.runs.specs.Put.{put}
 use Rattle.runs.proofs.Laws.{front-lent}
 use Rattle.wire.proofs.Fitting as fitting
+use Rattle.reply.proofs.Laws as laws
 use Rattle.reply.proofs.answer_words.Goals as goal
 
 pub read_number-mode-requires-clause-narrow : goal.read_number-mode-requires-clause-narrow
@@ -31,29 +32,13 @@ pub read_records-r-requires-clause-narrow_records : goal.read_records-r-requires
 read_records-r-requires-clause-narrow_records c =
     fitting.narrow-records c.requires.fitted
 
-pub read_records-r-requires-clause-record_width_in_bounds : goal.read_records-r-requires-clause-record_width_in_bounds
-read_records-r-requires-clause-record_width_in_bounds c =
-    omega (arith, c.requires.fitted.short)
-
 pub read_numbers-i-requires-clause-narrow : goal.read_numbers-i-requires-clause-narrow
 read_numbers-i-requires-clause-narrow c =
     fitting.narrow-ids c.requires.fitted
 
-pub read_numbers-i-requires-clause-words_in_bounds : goal.read_numbers-i-requires-clause-words_in_bounds
-read_numbers-i-requires-clause-words_in_bounds c =
-    omega (arith, c.requires.fitted.short)
-
 pub read_numbers-o-requires-clause-narrow : goal.read_numbers-o-requires-clause-narrow
 read_numbers-o-requires-clause-narrow c =
     fitting.narrow-offsets c.requires.fitted
-
-pub read_numbers-o-requires-clause-words_in_bounds : goal.read_numbers-o-requires-clause-words_in_bounds
-read_numbers-o-requires-clause-words_in_bounds c =
-    omega (arith, c.requires.fitted.short)
-
-pub section-values-requires-clause-bounded : goal.section-values-requires-clause-bounded
-section-values-requires-clause-bounded c =
-    c.requires.fitted.bounded
 
 pub section-values-requires-clause-k_in_bounds : goal.section-values-requires-clause-k_in_bounds
 section-values-requires-clause-k_in_bounds c =
@@ -63,21 +48,9 @@ pub read_numbers-l-requires-clause-narrow : goal.read_numbers-l-requires-clause-
 read_numbers-l-requires-clause-narrow c =
     fitting.narrow-lengths c.requires.fitted
 
-pub read_numbers-l-requires-clause-words_in_bounds : goal.read_numbers-l-requires-clause-words_in_bounds
-read_numbers-l-requires-clause-words_in_bounds c =
-    omega (arith, c.requires.fitted.short)
-
-pub read_bytes-b-requires-clause-narrow : goal.read_bytes-b-requires-clause-narrow
-read_bytes-b-requires-clause-narrow c =
+pub read_numbers-b-requires-clause-narrow : goal.read_numbers-b-requires-clause-narrow
+read_numbers-b-requires-clause-narrow c =
     fitting.narrow-bytes c.requires.fitted
-
-pub read_bytes-b-requires-clause-words_in_bounds : goal.read_bytes-b-requires-clause-words_in_bounds
-read_bytes-b-requires-clause-words_in_bounds c =
-    omega (arith, c.requires.fitted.short)
-
-pub section-alive-requires-clause-bounded : goal.section-alive-requires-clause-bounded
-section-alive-requires-clause-bounded c =
-    c.requires.fitted.bounded
 
 pub section-alive-requires-clause-k_in_bounds : goal.section-alive-requires-clause-k_in_bounds
 section-alive-requires-clause-k_in_bounds c =
@@ -86,10 +59,6 @@ section-alive-requires-clause-k_in_bounds c =
 pub read_addresses-a-requires-clause-narrow : goal.read_addresses-a-requires-clause-narrow
 read_addresses-a-requires-clause-narrow c =
     fitting.narrow-addresses c.requires.fitted
-
-pub read_addresses-a-requires-clause-words_in_bounds : goal.read_addresses-a-requires-clause-words_in_bounds
-read_addresses-a-requires-clause-words_in_bounds c =
-    omega (arith, c.requires.fitted.short)
 
 pub slice_bounds-records-end : goal.slice_bounds-records-end
 slice_bounds-records-end c =
@@ -125,11 +94,11 @@ slice_bounds-answer_lists-end-4 c =
 
 pub slice_bounds-bytes-end : goal.slice_bounds-bytes-end
 slice_bounds-bytes-end c =
-    omega (arith, fitting.few c.requires.fitted 6 _ (omega arith) c.read_bytes-b.ensures.value)
+    omega (arith, fitting.few c.requires.fitted 6 _ (omega arith) c.read_numbers-b.ensures.value)
 
 pub slice_bounds-answer_lists-end-5 : goal.slice_bounds-answer_lists-end-5
 slice_bounds-answer_lists-end-5 c =
-    sym (length-take-le _ _ (omega (arith, fitting.few c.requires.fitted 6 _ (omega arith) c.read_bytes-b.ensures.value)))
+    sym (length-take-le _ _ (omega (arith, fitting.few c.requires.fitted 6 _ (omega arith) c.read_numbers-b.ensures.value)))
 
 pub slice_bounds-addresses-end : goal.slice_bounds-addresses-end
 slice_bounds-addresses-end c =
@@ -139,20 +108,12 @@ pub slice_bounds-answer_lists-end-6 : goal.slice_bounds-answer_lists-end-6
 slice_bounds-answer_lists-end-6 c =
     sym (length-take-le _ _ (omega (arith, fitting.few-addresses c.requires.fitted _ c.read_addresses-a.ensures.value)))
 
-pub answer_lists-requires : goal.answer_lists-requires
-answer_lists-requires c =
-    c.requires.in_bounds
-
-pub returns-clause-upper_bound : goal.returns-clause-upper_bound
-returns-clause-upper_bound c =
-    c.answer_lists.ensures.upper_bound
-
 pub returns-clause-value : goal.returns-clause-value
 returns-clause-value c =
-    let e = fitting.lent_is (word_sections c.args.words.now) c.read_number-mode.ensures c.read_number-required.ensures (front-lent _ _ _ _ (c.read_records-r.ensures.value ∙ sym (length-map (record_groups (word_sections c.args.words.now)) row_of)) c.read_records-r.ensures.out_after) (front-lent _ _ _ _ c.read_numbers-i.ensures.value c.read_numbers-i.ensures.out_after) (front-lent _ _ _ _ c.read_numbers-o.ensures.value c.read_numbers-o.ensures.out_after) c.section-values.ensures (front-lent _ _ _ _ c.read_numbers-l.ensures.value c.read_numbers-l.ensures.out_after) (front-lent _ _ _ _ c.read_bytes-b.ensures.value c.read_bytes-b.ensures.out_after) c.section-alive.ensures (front-lent _ _ _ _ c.read_addresses-a.ensures.value c.read_addresses-a.ensures.out_after) in
+    let e = fitting.lent_is (word_sections c.args.words.now) c.read_number-mode.ensures c.read_number-required.ensures (front-lent _ _ _ _ (c.read_records-r.ensures.value ∙ sym (length-map (record_groups (word_sections c.args.words.now)) row_of)) c.read_records-r.ensures.out_after) (laws.numbers-lent _ _ _ _ c.read_numbers-i.ensures.value c.read_numbers-i.ensures.out_after) (laws.numbers-lent _ _ _ _ c.read_numbers-o.ensures.value c.read_numbers-o.ensures.out_after) c.section-values.ensures (laws.numbers-lent _ _ _ _ c.read_numbers-l.ensures.value c.read_numbers-l.ensures.out_after) (laws.numbers-lent _ _ _ _ c.read_numbers-b.ensures.value c.read_numbers-b.ensures.out_after) c.section-alive.ensures (front-lent _ _ _ _ c.read_addresses-a.ensures.value c.read_addresses-a.ensures.out_after) in
     c.answer_lists.ensures.value ∙ ap (λ (l : Lent). length (listing (join_outcome l))) e
 
 pub returns-clause-out_after : goal.returns-clause-out_after
 returns-clause-out_after c =
-    let e = fitting.lent_is (word_sections c.args.words.now) c.read_number-mode.ensures c.read_number-required.ensures (front-lent _ _ _ _ (c.read_records-r.ensures.value ∙ sym (length-map (record_groups (word_sections c.args.words.now)) row_of)) c.read_records-r.ensures.out_after) (front-lent _ _ _ _ c.read_numbers-i.ensures.value c.read_numbers-i.ensures.out_after) (front-lent _ _ _ _ c.read_numbers-o.ensures.value c.read_numbers-o.ensures.out_after) c.section-values.ensures (front-lent _ _ _ _ c.read_numbers-l.ensures.value c.read_numbers-l.ensures.out_after) (front-lent _ _ _ _ c.read_bytes-b.ensures.value c.read_bytes-b.ensures.out_after) c.section-alive.ensures (front-lent _ _ _ _ c.read_addresses-a.ensures.value c.read_addresses-a.ensures.out_after) in
+    let e = fitting.lent_is (word_sections c.args.words.now) c.read_number-mode.ensures c.read_number-required.ensures (front-lent _ _ _ _ (c.read_records-r.ensures.value ∙ sym (length-map (record_groups (word_sections c.args.words.now)) row_of)) c.read_records-r.ensures.out_after) (laws.numbers-lent _ _ _ _ c.read_numbers-i.ensures.value c.read_numbers-i.ensures.out_after) (laws.numbers-lent _ _ _ _ c.read_numbers-o.ensures.value c.read_numbers-o.ensures.out_after) c.section-values.ensures (laws.numbers-lent _ _ _ _ c.read_numbers-l.ensures.value c.read_numbers-l.ensures.out_after) (laws.numbers-lent _ _ _ _ c.read_numbers-b.ensures.value c.read_numbers-b.ensures.out_after) c.section-alive.ensures (front-lent _ _ _ _ c.read_addresses-a.ensures.value c.read_addresses-a.ensures.out_after) in
     c.answer_lists.ensures.out_after ∙ ap (λ (l : Lent). put 0 (listing (join_outcome l)) c.args.out.now) e

@@ -1,10 +1,8 @@
-use mathlib.Core.Path.{◌≡◌, sym, ap, ◌∙◌}
+use mathlib.Core.Path.{◌≡◌, ap}
 use mathlib.Core.List.{List}
 use Prim.Native.Nat.{ℕ, ◌*◌, ◌≤◌}
 use native.Mathlib.Omega.{arith}
 use lib.ListN.{length, take}
-use lib.Seq.{length-take-le}
-use Rattle.runs.specs.Put.{put}
 use Rattle.definitions.specs.Words.{words_per_value}
 use Rattle.definitions.specs.Segment.{cut}
 use Rattle.definitions.specs.Listing.{accepted_text, answer_text}
@@ -24,51 +22,8 @@ written_is n b e = ap (written n b) e
 words : (n room : ℕ) {u w : ℕ} → u ≡ w → n * w ≤ room → n * u ≤ room
 words n room e h = rw (← e) at h
 
-pub overflow_mul-v : goal.overflow_mul-v
-overflow_mul-v c =
-    let h = words c.args.n.values _ c.words_per_value.ensures.value c.requires.announced.values in
-    omega (arith, h, c.requires.short.values)
-
-pub slice_bounds-put_accepted-end : goal.slice_bounds-put_accepted-end
-slice_bounds-put_accepted-end c =
-    sym (length-take-le _ _ c.requires.announced.ids)
-
-pub slice_bounds-put_accepted-end-2 : goal.slice_bounds-put_accepted-end-2
-slice_bounds-put_accepted-end-2 c =
-    sym (length-take-le _ _ c.requires.announced.offsets)
-
-pub slice_bounds-put_accepted-end-3 : goal.slice_bounds-put_accepted-end-3
-slice_bounds-put_accepted-end-3 c =
-    sym (length-take-le _ _ (words c.args.n.values _ c.words_per_value.ensures.value c.requires.announced.values))
-
-pub slice_bounds-put_accepted-end-4 : goal.slice_bounds-put_accepted-end-4
-slice_bounds-put_accepted-end-4 c =
-    sym (length-take-le _ _ c.requires.announced.terms)
-
-pub slice_bounds-put_accepted-end-5 : goal.slice_bounds-put_accepted-end-5
-slice_bounds-put_accepted-end-5 c =
-    sym (length-take-le _ _ c.requires.announced.maps)
-
-pub put_accepted-requires-clause-lengths_in_bounds : goal.put_accepted-requires-clause-lengths_in_bounds
-put_accepted-requires-clause-lengths_in_bounds c =
-    c.requires.announced.bytes
-
 pub put_accepted-requires-clause-map_in_bounds : goal.put_accepted-requires-clause-map_in_bounds
 put_accepted-requires-clause-map_in_bounds c =
     let n = numbers_in c.args.n in
     let b = outputs c.args.ids.now c.args.offsets.now c.args.values.now c.args.lengths.now c.args.bytes.now c.args.map.now in
     omega (arith, ap length (written_is n b c.words_per_value.ensures.value), outcome.text-room b (accepted n) c.requires.short, c.requires.in_bounds)
-
-pub returns-clause-value : goal.returns-clause-value
-returns-clause-value c =
-    let n = numbers_in c.args.n in
-    let b = outputs c.args.ids.now c.args.offsets.now c.args.values.now c.args.lengths.now c.args.bytes.now c.args.map.now in
-    let e = written_is n b c.words_per_value.ensures.value in
-    c.put_accepted.ensures.value ∙ ap length e
-
-pub returns-clause-out_after : goal.returns-clause-out_after
-returns-clause-out_after c =
-    let n = numbers_in c.args.n in
-    let b = outputs c.args.ids.now c.args.offsets.now c.args.values.now c.args.lengths.now c.args.bytes.now c.args.map.now in
-    let e = written_is n b c.words_per_value.ensures.value in
-    c.put_accepted.ensures.out_after ∙ ap (λ (x : List ℕ). put 0 x c.args.out.now) e

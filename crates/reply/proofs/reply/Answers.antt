@@ -43,14 +43,6 @@ answer_words-requires-clause-fitted c =
     let r = fitting.ready c.args.input.now _ _ _ _ _ c.read_input.ensures.value (ap not c.if-not-read_input.false) c.read_input.ensures.words_after c.read_input.ensures.bounds_after (search rules) in
     r.fitted
 
-pub answer_words-requires-clause-in_bounds : goal.answer_words-requires-clause-in_bounds
-answer_words-requires-clause-in_bounds c =
-    c.requires
-
-pub returns-clause-prefix_len : goal.returns-clause-prefix_len
-returns-clause-prefix_len c =
-    laws.counted _ _ (omega (arith, c.answer_words.ensures.upper_bound, c.requires))
-
 pub returns-clause-value : goal.returns-clause-value
 returns-clause-value c =
     let r = fitting.ready c.args.input.now _ _ _ _ _ c.read_input.ensures.value (ap not c.if-not-read_input.false) c.read_input.ensures.words_after c.read_input.ensures.bounds_after (search rules) in
