@@ -12,6 +12,7 @@ pub use sections::Sections;
 
 // `alive` is the number of alive rows: the set bits, or the rows where the flag is 0. `least` and `greatest` are those of all stored values of I64, which is signed, and U64, else
 // 0 and 0.
+// Stays: type, kind and flag are numbers, as C lends them in a record; one that is none of theirs is refused by check 3.
 #[derive(Clone, Copy, Debug, PartialEq, Eq, Hash)]
 pub struct Record {
     pub typ: u32,
