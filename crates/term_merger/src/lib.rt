@@ -8,17 +8,16 @@ ghost use Rattle.term_merger.specs.Live.{kept_len, kept_numbers, Settled, Starte
 
 use term_order::Key;
 
-// A segment's place in the walk.
+// A segment's place in the walk: its current term. The time order has rows in the place of terms (time_cursors).
 #[derive(Clone, Copy)]
 pub struct Cursor {
-    // of its current term
     pub key: Key,
     // 0 if the term is marked, else 1
     pub unmarked: usize,
-    // the term's place among the term lengths, and the place after the segment's last term
+    // the term's place among the term lengths, and the place after the segment's last term; or the row, and the number of rows
     pub pos: usize,
     pub end: usize,
-    // its place in the map
+    // the term's place in the map; or how many times stand up to the row's end
     pub to: usize,
 }
 

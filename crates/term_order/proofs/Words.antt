@@ -332,14 +332,6 @@ word-short w t h e b =
     ∙ sym (value_up (8 - length t) t)
     ∙ ap (λ (k : ℕ). value_of k t) (let z : length t + (8 - length t) ≡ 8 = omega arith in z)
 
--- the bytes after the first eight
-pub past-eight : (t : List ℕ) → drop (min (length t) 8) t ≡ drop 8 t
-past-eight t = go (le-lt 8 (length t))
-  where
-    go : (8 < length t) ⊎ (length t ≤ 8) → drop (min (length t) 8) t ≡ drop 8 t
-    go (inl h) = ap (λ (n : ℕ). drop n t) (let z : min (length t) 8 ≡ 8 = omega arith in z)
-    go (inr h) = drop_of_length-le t (let z : length t ≤ min (length t) 8 = omega arith in z) ∙ sym (drop_of_length-le t h)
-
 -- the key of no bytes at the start
 pub key-none : (bytes : List ℕ) → ◌≡◌ {A = Key} (record { from = 0; till = 0; first = 0; second = 0 }) (key_at bytes 0 0)
 key-none bytes = λ i. record { from = 0; till = 0; first = word_none [] refl i; second = word_none [] refl i }

@@ -15,7 +15,7 @@ use Rattle.term_merger.specs.Live.{left_of}
 
 -- the term at a cursor, and the last one written
 abbrev pub term_of : List ℕ → Cursor → List ℕ
-term_of bytes cursor = term_in bytes (cursor.key.from) (cursor.key.till)
+term_of bytes cursor = term_in bytes cursor.key.from cursor.key.till
 
 abbrev pub last_of : List ℕ → Last → List ℕ
 last_of bytes l = term_in bytes l.key.from l.key.till

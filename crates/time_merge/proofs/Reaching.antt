@@ -197,9 +197,6 @@ pub run_fits : {p : Stand} {ids values : List ℕ} {from k : ℕ} → Left p ids
 run_fits {from = from} l t = rw l.times (times_fit t from l.row)
 
 module _ {bytes : List ℕ} {cursors : List Cursor} {seg : List ℕ} {len s : ℕ} {p : Stand} {ids values : List ℕ} (l : Left p ids ((cursor_in cursors s).pos + 1) (cursor_in cursors s).to) where
-  pub run-one : RunTo bytes cursors seg len s p ids values (record { end = (cursor_in cursors s).pos + 1; times = (cursor_in cursors s).to })
-  run-one = record { low = omega arith; high = l.row; times = l.times; before = inl refl }
-
   pub run_more : TimesAt p ids values → (b : Bound) → Bounds bytes cursors seg len s b → (m : ℕ) → Reach (values_at p values) b (cursor_in cursors s).to m
       → (e : ℕ) → e ≡ row_of_time p.kind (ids_at p ids) p.rows m → RunTo bytes cursors seg len s p ids values (record { end = e; times = m })
   run_more t b bs m r e is =

@@ -5,10 +5,6 @@ pub returns-then-mode-eq0 : goal.returns-then-mode-eq0
 returns-then-mode-eq0 c =
     unmarked _ _ _ _ _ _ _ c.if-mode-eq0.true
 
-pub mark_terms-requires : goal.mark_terms-requires
-mark_terms-requires c =
-    c.requires.columns c.if-mode-eq0.false
-
 pub returns : goal.returns
 returns c =
     marked _ _ _ _ _ _ _ c.if-mode-eq0.false c.mark_terms.ensures

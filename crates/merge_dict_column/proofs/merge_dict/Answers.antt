@@ -10,10 +10,6 @@ pub merge_terms-requires-clause-ready : goal.merge_terms-requires-clause-ready
 merge_terms-requires-clause-ready c =
     ready c.requires.runs c.requires.texts c.fill_cursors.ensures
 
-pub merge_terms-requires-clause-started : goal.merge_terms-requires-clause-started
-merge_terms-requires-clause-started c =
-    c.start_heap-heap.ensures
-
 pub returns : goal.returns
 returns c =
     merged-same (terms-same c.requires.runs c.requires.texts c.fill_cursors.ensures) (map_same c.requires.runs c.requires.texts c.fill_cursors.ensures) c.merge_terms.ensures.merged

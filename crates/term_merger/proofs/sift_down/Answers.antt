@@ -1,35 +1,10 @@
-use borrow.Author.Rules.{rules}
-use mathlib.Core.Path.{◌≡◌, refl, sym, ◌∙◌}
+use mathlib.Core.Path.{◌≡◌, sym, ◌∙◌}
 use mathlib.Core.List.{List}
 use Prim.Native.Nat.{ℕ, ◌+◌, ◌*◌, ◌≤◌, ◌<◌}
 use native.Mathlib.Omega.{arith}
 use lib.ListN.{length, length-set, get_or}
 use Rattle.term_merger.proofs.Laws.{AtMost, at-most_trans, before-at-most, count-swap, down_swap, down_end}
 use Rattle.term_merger.proofs.sift_down.Goals as goal
-
-pub loop-i-init : goal.loop-i-init
-loop-i-init c =
-    (search rules, c.requires.seg_len.0, (λ x. refl), c.requires.seg_len.2)
-
-pub first_child-c-requires-clause-in_bounds : goal.first_child-c-requires-clause-in_bounds
-first_child-c-requires-clause-in_bounds c =
-    c.requires.in_bounds
-
-pub first_child-c-requires-clause-l_lt_n : goal.first_child-c-requires-clause-l_lt_n
-first_child-c-requires-clause-l_lt_n c =
-    (omega arith, c.requires.seg_len.1)
-
-pub bounds-seg-c : goal.bounds-seg-c
-bounds-seg-c c =
-    omega (arith, c.first_child-c.ensures.inside)
-
-pub bounds-seg-i : goal.bounds-seg-i
-bounds-seg-i c =
-    omega (arith, c.first_child-c.ensures.inside)
-
-pub comes_before-requires : goal.comes_before-requires
-comes_before-requires c =
-    c.requires.in_bounds
 
 pub returns-then-not-comes_before : goal.returns-then-not-comes_before
 returns-then-not-comes_before c =
@@ -41,18 +16,6 @@ returns-then-not-comes_before c =
           (λ j p q e. at-most_trans c.args.bytes.now c.args.cursors.now _ _ _ k (c.first_child-c.ensures.least j (omega arith) (omega arith) q));
       holds = c.loop-i.invariant.2;
     }
-
-pub bounds-seg-c-in-loop-i : goal.bounds-seg-c-in-loop-i
-bounds-seg-c-in-loop-i c =
-    omega (arith, c.first_child-c.ensures.inside)
-
-pub bounds-seg-i-in-loop-i : goal.bounds-seg-i-in-loop-i
-bounds-seg-i-in-loop-i c =
-    omega (arith, c.first_child-c.ensures.inside)
-
-pub loop-i-smaller : goal.loop-i-smaller
-loop-i-smaller c =
-    omega (arith, c.first_child-c.ensures.inside, c.first_child-c.ensures.low)
 
 pub loop-i-preserved : goal.loop-i-preserved
 loop-i-preserved c =

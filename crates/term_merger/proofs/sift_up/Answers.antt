@@ -11,10 +11,6 @@ pub loop-i-init : goal.loop-i-init
 loop-i-init c =
     (search rules, c.requires.seg_len.0, (λ x. refl), up_start _ _ _ _ c.requires.seg_len.2)
 
-pub comes_before-requires : goal.comes_before-requires
-comes_before-requires c =
-    c.requires.in_bounds
-
 pub returns-then-not-comes_before : goal.returns-then-not-comes_before
 returns-then-not-comes_before c =
     record {
@@ -22,10 +18,6 @@ returns-then-not-comes_before c =
       in_heap_order = up_end c.args.bytes.now c.args.cursors.now c.loop-i.seg c.loop-i.i (c.args.from + 1) c.loop-i.invariant.3 (λ p. sym c.comes_before.ensures ∙ c.if-not-comes_before.true);
       holds = c.loop-i.invariant.2;
     }
-
-pub bounds-seg-p-in-loop-i : goal.bounds-seg-p-in-loop-i
-bounds-seg-p-in-loop-i c =
-    omega arith
 
 pub loop-i-preserved : goal.loop-i-preserved
 loop-i-preserved c =

@@ -4,7 +4,7 @@ use mathlib.Core.List.{[]}
 use native.Mathlib.Omega.{arith}
 use lib.ListN.{get_or}
 use Rattle.term_merger.proofs.Walk.{sinking_new}
-use Rattle.term_walk.proofs.Going.{going_start, going_more, term-inside, s_range, terms-room, texts-room, place_in, end-s, fits-s, stepped, small-ordinal, size-new, readable-new, fewer}
+use Rattle.term_walk.proofs.Going.{going_start, going_more, term-inside, terms-room, texts-room, place_in, end-s, fits-s, stepped, small-ordinal, size-new, readable-new, fewer}
 use Rattle.term_walk.proofs.Ends.{walked, cursors_passed}
 use Rattle.term_walk.proofs.merge_terms.Goals as goal
 
@@ -12,21 +12,9 @@ pub loop-h-init : goal.loop-h-init
 loop-h-init c =
     ((λ x. 0), [], going_start _ _ _ _ _ _ _ _ _ _ c.requires.ready c.requires.started (search rules) (record { byte = λ i. (c.shared_slice_known-2-1.given i).fits }) refl refl refl refl)
 
-pub bounds-h-0 : goal.bounds-h-0
-bounds-h-0 c =
-    omega (arith, c.loop-h.invariant.2.heap.full)
-
-pub slice_copy_out-cursor : goal.slice_copy_out-cursor
-slice_copy_out-cursor c =
-    omega (arith, s_range c.requires.ready c.loop-h.invariant.2 c.loop-h-test.true refl, c.loop-h.invariant.2.size)
-
 pub take_term-t-requires-clause-inside : goal.take_term-t-requires-clause-inside
 take_term-t-requires-clause-inside c =
     term-inside c.requires.ready c.loop-h.invariant.2 c.loop-h-test.true refl
-
-pub take_term-t-requires-clause-inside_2 : goal.take_term-t-requires-clause-inside_2
-take_term-t-requires-clause-inside_2 c =
-    (c.loop-h.invariant.2.last_in, omega (arith, c.loop-h.invariant.2.used, c.loop-h.invariant.2.counted))
 
 pub take_term-t-requires-clause-terms_in_bounds : goal.take_term-t-requires-clause-terms_in_bounds
 take_term-t-requires-clause-terms_in_bounds c =
@@ -56,10 +44,6 @@ put_cursor-requires-clause-standing c =
       text = fits-s c.requires.ready c.loop-h.invariant.2 c.loop-h-test.true refl;
     }
 
-pub put_cursor-requires-clause-s_in_bounds : goal.put_cursor-requires-clause-s_in_bounds
-put_cursor-requires-clause-s_in_bounds c =
-    omega (arith, s_range c.requires.ready c.loop-h.invariant.2 c.loop-h-test.true refl, c.loop-h.invariant.2.size)
-
 pub settle_top-requires-clause-in_bounds : goal.settle_top-requires-clause-in_bounds
 settle_top-requires-clause-in_bounds c =
     (omega (arith, size-new c.requires.ready c.loop-h.invariant.2 c.loop-h-test.true refl c.put_cursor.ensures), readable-new c.requires.ready c.loop-h.invariant.2 c.loop-h-test.true refl c.put_cursor.ensures)
@@ -76,22 +60,6 @@ pub loop-h-preserved : goal.loop-h-preserved
 loop-h-preserved c =
     let st = stepped c.requires.ready c.loop-h.invariant.2 c.loop-h-test.true refl _ _ _ c.take_term-t.ensures in
     (_, st.0, going_more c.requires.ready c.loop-h.invariant.2 c.loop-h-test.true refl c.put_cursor.ensures _ _ _ _ st.1 _ refl c.settle_top.ensures)
-
-pub shape_of-cursors : goal.shape_of-cursors
-shape_of-cursors c =
-    omega (arith, c.loop-h.invariant.2.size, c.requires.ready.size)
-
-pub shape_of-out_lengths : goal.shape_of-out_lengths
-shape_of-out_lengths c =
-    c.loop-h.invariant.2.size_lens
-
-pub shape_of-out_bytes : goal.shape_of-out_bytes
-shape_of-out_bytes c =
-    c.loop-h.invariant.2.size_outs
-
-pub shape_of-map : goal.shape_of-map
-shape_of-map c =
-    c.loop-h.invariant.2.size-map
 
 pub returns-clause-merged : goal.returns-clause-merged
 returns-clause-merged c =

@@ -7,14 +7,6 @@ use native.Mathlib.Omega.{arith}
 use Rattle.term_walk.proofs.take_term.Goals as goal
 use Rattle.term_walk.proofs.take_term.Goals.{else-n-gt0-via-then-n-gt0+else-same_term, else-n-gt0-via-else-n-gt0}
 
-pub same_term-requires-clause-inside : goal.same_term-requires-clause-inside
-same_term-requires-clause-inside c =
-    c.requires.inside.0
-
-pub same_term-requires-clause-inside_2 : goal.same_term-requires-clause-inside_2
-same_term-requires-clause-inside_2 c =
-    c.requires.inside_2.0
-
 pub returns-then-same_term : goal.returns-then-same_term
 returns-then-same_term c =
     inl (record { some = c.if-n-gt0.true; same = same-eq _ _ (sym c.same_term.ensures ∙ c.if-same_term.true); ordinal = omega arith; last = refl; lengths = refl; texts = refl })

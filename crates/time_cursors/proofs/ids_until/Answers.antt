@@ -2,7 +2,6 @@ use native.Mathlib.Nat.{le_refl}
 use native.Mathlib.Omega.{arith}
 use lib.ListN.{length}
 use Rattle.time_cursors.proofs.Laws.{ids_start, ids-here, ids-end}
-use borrow.Author.Count.{below_more}
 use Rattle.time_cursors.proofs.ids_until.Goals as goal
 
 pub loop-n-init : goal.loop-n-init
@@ -10,9 +9,6 @@ loop-n-init c = ids_start _ _ c.requires.t _ c.requires.k_bound
 
 pub returns-then-row-ids : goal.returns-then-row-ids
 returns-then-row-ids c = ids-here _ _ c.requires.t _ c.loop-n-test.true c.loop-n.invariant c.if-row-ids.true
-
-pub loop-n-preserved : goal.loop-n-preserved
-loop-n-preserved c = below_more _ _ c.loop-n.invariant c.if-row-ids.false
 
 pub returns : goal.returns
 returns c = ids-end _ _ c.requires.t _ (le_refl (length c.args.ids.now)) (le_refl (length c.args.ids.now)) (λ j l. c.loop-n.invariant j (omega arith))

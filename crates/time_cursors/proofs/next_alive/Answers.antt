@@ -1,4 +1,4 @@
-use mathlib.Core.Path.{◌≡◌, refl, sym, ap, ◌∙◌}
+use mathlib.Core.Path.{◌≡◌, sym, ap, ◌∙◌}
 use native.Mathlib.Nat.{le_refl}
 use native.Mathlib.Omega.{arith}
 use Rattle.time_cursors.specs.Cursors.{next_row}
@@ -7,12 +7,6 @@ use Rattle.time_cursors.proofs.next_alive.Goals as goal
 
 pub returns-then-flag-ne1 : goal.returns-then-flag-ne1
 returns-then-flag-ne1 c = next-plain _ _ _ _ c.if-flag-ne1.true
-
-pub loop-n-init : goal.loop-n-init
-loop-n-init c = refl
-
-pub is_alive-requires : goal.is_alive-requires
-is_alive-requires c = omega (arith, c.requires.rows_bound c.if-flag-ne1.false, c.loop-n-test.true)
 
 pub returns-then-is_alive : goal.returns-then-is_alive
 returns-then-is_alive c = next_here _ _ _ _ c.if-flag-ne1.false c.loop-n-test.true (sym c.is_alive.ensures ∙ c.if-is_alive.true) ∙ c.loop-n.invariant

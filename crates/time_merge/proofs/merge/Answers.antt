@@ -2,17 +2,13 @@ use borrow.Author.Rules.{rules}
 use mathlib.Core.Path.{refl}
 use native.Mathlib.Omega.{arith}
 use lib.ListN.{length-set}
-use Rattle.time_merge.proofs.Going.{going_readable, going_start, going_end, s-there, s_near, timed-s, rest-left, run-left, rows-given, room, one_written, readable-new, going_more}
+use Rattle.time_merge.proofs.Going.{going_readable, going_start, going_end, s-there, s_near, timed-s, rest-left, rows-given, room, one_written, readable-new, going_more}
 use Rattle.term_merger.proofs.Walk.{sinking_new}
 use Rattle.time_merge.proofs.merge.Goals as goal
 
 pub loop-h-init : goal.loop-h-init
 loop-h-init c =
     (_, _, going_start c.requires.ready _ c.requires.begins c.requires.started (search rules))
-
-pub bounds-h-0 : goal.bounds-h-0
-bounds-h-0 c =
-    omega (arith, c.loop-h.invariant.2.heap.full)
 
 pub stand_at-p-requires : goal.stand_at-p-requires
 stand_at-p-requires c =
@@ -29,10 +25,6 @@ run_of-run-requires-clause-times_at c =
 pub run_of-run-requires-clause-left : goal.run_of-run-requires-clause-left
 run_of-run-requires-clause-left c =
     rest-left c.requires.ready c.requires.rising c.loop-h.invariant.2 c.loop-h-test.true refl c.stand_at-p.ensures
-
-pub bounds-cursors-s : goal.bounds-cursors-s
-bounds-cursors-s c =
-    omega (arith, s_near c.requires.ready c.requires.rising c.loop-h.invariant.2 c.loop-h-test.true refl c.stand_at-p.ensures, c.loop-h.invariant.2.size)
 
 pub slice_bounds-set-count : goal.slice_bounds-set-count
 slice_bounds-set-count c =
@@ -62,14 +54,6 @@ pub first_from-requires-clause-timed : goal.first_from-requires-clause-timed
 first_from-requires-clause-timed c =
     timed-s c.requires.ready c.requires.rising c.loop-h.invariant.2 c.loop-h-test.true refl c.stand_at-p.ensures
 
-pub first_from-requires-clause-left : goal.first_from-requires-clause-left
-first_from-requires-clause-left c =
-    run-left c.requires.ready c.requires.rising c.loop-h.invariant.2 c.loop-h-test.true refl c.stand_at-p.ensures c.run_of-run.ensures
-
-pub bounds-cursors-s-in-loop-h : goal.bounds-cursors-s-in-loop-h
-bounds-cursors-s-in-loop-h c =
-    omega (arith, s_near c.requires.ready c.requires.rising c.loop-h.invariant.2 c.loop-h-test.true refl c.stand_at-p.ensures, c.loop-h.invariant.2.size)
-
 pub settle_top-requires-clause-in_bounds : goal.settle_top-requires-clause-in_bounds
 settle_top-requires-clause-in_bounds c =
     (simp length-set (omega (arith, c.loop-h.invariant.2.size)), readable-new c.requires.ready c.requires.rising c.loop-h.invariant.2 c.loop-h-test.true refl c.stand_at-p.ensures c.run_of-run.ensures c.first_from.ensures)
@@ -85,14 +69,6 @@ loop-h-smaller c =
 pub loop-h-preserved : goal.loop-h-preserved
 loop-h-preserved c =
     (_, _, going_more c.requires.ready c.requires.rising c.loop-h.invariant.2 c.loop-h-test.true refl c.stand_at-p.ensures c.run_of-run.ensures c.first_from.ensures c.write_rows-k.ensures.value c.write_rows-k.ensures.out_after c.settle_top.ensures)
-
-pub shape_of-cursors : goal.shape_of-cursors
-shape_of-cursors c =
-    omega (arith, c.loop-h.invariant.2.size, c.requires.begins.size)
-
-pub shape_of-out : goal.shape_of-out
-shape_of-out c =
-    c.loop-h.invariant.2.out_size
 
 pub returns-clause-value : goal.returns-clause-value
 returns-clause-value c =

@@ -1,9 +1,5 @@
-use Rattle.time_merge.proofs.Reaching.{run_fits, run-one, run_more}
+use Rattle.time_merge.proofs.Reaching.{run_fits, run_more}
 use Rattle.time_merge.proofs.run_of.Goals as goal
-
-pub returns-then-not-stays : goal.returns-then-not-stays
-returns-then-not-stays c =
-    run-one c.requires.left
 
 pub times_within-m-requires : goal.times_within-m-requires
 times_within-m-requires c =
