@@ -72,40 +72,40 @@ pub slice_bounds-ids-end : goal.slice_bounds-ids-end
 slice_bounds-ids-end c =
     omega (arith, fitting.few c.requires.fitted 2 _ (omega arith) c.read_numbers-i.ensures.value)
 
-pub slice_bounds-answer_lists-end-2 : goal.slice_bounds-answer_lists-end-2
-slice_bounds-answer_lists-end-2 c =
+pub slice_bounds-sections-end : goal.slice_bounds-sections-end
+slice_bounds-sections-end c =
     sym (length-take-le _ _ (omega (arith, fitting.few c.requires.fitted 2 _ (omega arith) c.read_numbers-i.ensures.value)))
 
 pub slice_bounds-offsets-end : goal.slice_bounds-offsets-end
 slice_bounds-offsets-end c =
     omega (arith, fitting.few c.requires.fitted 3 _ (omega arith) c.read_numbers-o.ensures.value)
 
-pub slice_bounds-answer_lists-end-3 : goal.slice_bounds-answer_lists-end-3
-slice_bounds-answer_lists-end-3 c =
+pub slice_bounds-sections-end-2 : goal.slice_bounds-sections-end-2
+slice_bounds-sections-end-2 c =
     sym (length-take-le _ _ (omega (arith, fitting.few c.requires.fitted 3 _ (omega arith) c.read_numbers-o.ensures.value)))
 
 pub slice_bounds-lengths-end : goal.slice_bounds-lengths-end
 slice_bounds-lengths-end c =
     omega (arith, fitting.few c.requires.fitted 5 _ (omega arith) c.read_numbers-l.ensures.value)
 
-pub slice_bounds-answer_lists-end-4 : goal.slice_bounds-answer_lists-end-4
-slice_bounds-answer_lists-end-4 c =
+pub slice_bounds-sections-end-3 : goal.slice_bounds-sections-end-3
+slice_bounds-sections-end-3 c =
     sym (length-take-le _ _ (omega (arith, fitting.few c.requires.fitted 5 _ (omega arith) c.read_numbers-l.ensures.value)))
 
 pub slice_bounds-bytes-end : goal.slice_bounds-bytes-end
 slice_bounds-bytes-end c =
     omega (arith, fitting.few c.requires.fitted 6 _ (omega arith) c.read_numbers-b.ensures.value)
 
-pub slice_bounds-answer_lists-end-5 : goal.slice_bounds-answer_lists-end-5
-slice_bounds-answer_lists-end-5 c =
+pub slice_bounds-sections-end-4 : goal.slice_bounds-sections-end-4
+slice_bounds-sections-end-4 c =
     sym (length-take-le _ _ (omega (arith, fitting.few c.requires.fitted 6 _ (omega arith) c.read_numbers-b.ensures.value)))
 
 pub slice_bounds-addresses-end : goal.slice_bounds-addresses-end
 slice_bounds-addresses-end c =
     omega (arith, fitting.few-addresses c.requires.fitted _ c.read_addresses-a.ensures.value)
 
-pub slice_bounds-answer_lists-end-6 : goal.slice_bounds-answer_lists-end-6
-slice_bounds-answer_lists-end-6 c =
+pub slice_bounds-answer_lists-end-2 : goal.slice_bounds-answer_lists-end-2
+slice_bounds-answer_lists-end-2 c =
     sym (length-take-le _ _ (omega (arith, fitting.few-addresses c.requires.fitted _ c.read_addresses-a.ensures.value)))
 
 pub returns-clause-value : goal.returns-clause-value

@@ -1,5 +1,5 @@
 use Prim.Native.Nat.{ℕ}
-use mathlib.Core.Path.{sym, ap}
+use mathlib.Core.Path.{sym, ap, ◌∙◌}
 use native.Mathlib.Omega.{arith}
 use lib.ListN.{length}
 use Rattle.definitions.specs.Listing.{answer_text, answer_name, value_line}
@@ -21,5 +21,5 @@ pub returns-in-Err-clause-upper_bound : goal.returns-in-Err-clause-upper_bound
 returns-in-Err-clause-upper_bound c =
     let b = (outputs c.args.ids.now c.args.offsets.now c.args.values.now c.args.lengths.now c.args.bytes.now c.args.map.now) in
     let e = ap (λ (x : Result Numbers Refusal). answer_text b (answer_of x)) (sym c.in-Err.is) in
-    let n = ap (λ (k : ℕ). length (value_line answer_name k)) c.from.ensures in
+    let n = ap (λ (k : ℕ). length (value_line answer_name k)) (c.from.ensures ∙ c.from-number.ensures) in
     omega (arith, outcome.text-room b (answer_of c.args.answer) c.requires.short, c.put_refusal.ensures.value, n, ap length e)
