@@ -128,9 +128,7 @@ fn is_plain(to: u32, p: Stand) -> bool
 fn all_plain(to: u32, stands: &[StandNumbers]) -> bool
     ensures { result ≡ all_plain to stands.now }
 {
-    stands
-        .iter()
-        .all(|&row| is_plain(to, Stand::from(row)))
+    stands.iter().all(|&row| is_plain(to, Stand::from(row)))
 }
 
 // Each row's word: of such columns alone there is nothing else to look up.

@@ -8,9 +8,8 @@ ghost use Rattle.stands.specs.Look.{words_of};
 ghost use Rattle.column_values_merge.specs.Word.{doubles, coerced_all, words_by, Words, new_words, Worded};
 ghost use Rattle.column_values_merge.specs.Stack.{stacked_words, AllWorded};
 
-use std::ops::Range;
-
 use stands::{Span, Stand, StandNumbers};
+use std::ops::Range;
 
 // Writes the double nearest to each integer of type t.
 fn append_doubles(t: u32, vs: &[u64], out: &mut [u64], at: usize)

@@ -5,7 +5,6 @@ ghost use Rattle.segment.specs.Records.{records_of};
 ghost use Rattle.merge.specs.Whole.{JoinKept, buffers_of, lent_in};
 
 pub use merge_checked::Numbers;
-
 use refusal::Refusal;
 
 // The join of one column's segments: stacked (mode 0) or as the addresses say (mode 1), to the required type (255 for none). The answer with its numbers, and
