@@ -11,7 +11,7 @@ use Rattle.definitions.specs.Types.{has_terms, integer_of, double_of, coerced}
 use Rattle.lists.proofs.Parts.{run_length, part_at}
 use Rattle.numerical.proofs.Laws as one
 use Rattle.runs.specs.Put.{put, looked}
-use Rattle.runs.proofs.Laws.{Filling, fill_room, fill_more, looked-length, put_nil, put_one, put-put, below-part}
+use Rattle.runs.proofs.Laws.{Filling, fill_room, fill_more, looked-length, put_nil, put_one, put-put}
 use Rattle.stands.specs.declared.Span.{Span}
 use Rattle.stands.specs.declared.Stand.{Stand}
 use Rattle.stands.specs.Stand.{part, stand_at}
@@ -98,47 +98,28 @@ words_append to type u table vs ws = go (has_terms type)
     go true = map-append (λ x. get_or (part u table) x 0) vs ws
     go false = map-append (coerced type to) vs ws
 
--- each of two words is as both are
-one_of_two : {type : ℕ} {u : Span} {table : List ℕ} (x y : ℕ) → Words type u table (x ∷ y ∷ []) → Words type u table (x ∷ []) × Words type u table (y ∷ [])
-one_of_two {type} {u} {table} x y g = (
-  record { code = g.code; map_lies = g.map_lies; ordinals = λ e. below-part (length (part u table)) 0 1 (x ∷ y ∷ []) (g.ordinals e) },
-  record { code = g.code; map_lies = g.map_lies; ordinals = λ e. below-part (length (part u table)) 1 1 (x ∷ y ∷ []) (g.ordinals e) },
-)
-
 -- a row, by how many words it has
-module _ (type : ℕ) (u : Span) (table : List ℕ) where
-  pub one-worded : (vs : List ℕ) → length vs ≡ 1 → Words type u table vs → Words type u table (get_or vs 0 0 ∷ [])
-  one-worded [] h = absurd (omega arith)
-  one-worded (x ∷ []) h = λ g. g
-  one-worded (x ∷ y ∷ vs) h = absurd (omega arith)
+module _ (to type : ℕ) (u : Span) (table : List ℕ) where
+  pub none-put : (vs out : List ℕ) (at : ℕ) → length vs ≡ 0 → out ≡ put at (words_by to type u table vs) out
+  none-put [] out at h = rw words-none (sym (put_nil at out))
+  none-put (x ∷ vs) out at h = absurd (omega arith)
 
-  pub two-worded : (vs : List ℕ) → length vs ≡ 2 → Words type u table vs → Words type u table (get_or vs 0 0 ∷ []) × Words type u table (get_or vs 1 0 ∷ [])
-  two-worded [] h = absurd (omega arith)
-  two-worded (x ∷ []) h = absurd (omega arith)
-  two-worded (x ∷ y ∷ []) h = one_of_two x y
-  two-worded (x ∷ y ∷ z ∷ vs) h = absurd (omega arith)
+  pub one-put : (vs out : List ℕ) (at w : ℕ) → length vs ≡ 1 → at + length vs ≤ length out → w ∷ [] ≡ words_by to type u table (get_or vs 0 0 ∷ []) → set out at w ≡ put at (words_by to type u table vs) out
+  one-put [] out at w h r e = absurd (omega arith)
+  one-put (x ∷ []) out at w h r e = rw (← e) (put_one at w out (omega arith))
+  one-put (x ∷ y ∷ vs) out at w h r e = absurd (omega arith)
 
-  module _ (to : ℕ) where
-    pub none-put : (vs out : List ℕ) (at : ℕ) → length vs ≡ 0 → out ≡ put at (words_by to type u table vs) out
-    none-put [] out at h = rw words-none (sym (put_nil at out))
-    none-put (x ∷ vs) out at h = absurd (omega arith)
-
-    pub one-put : (vs out : List ℕ) (at w : ℕ) → length vs ≡ 1 → at + length vs ≤ length out → w ∷ [] ≡ words_by to type u table (get_or vs 0 0 ∷ []) → set out at w ≡ put at (words_by to type u table vs) out
-    one-put [] out at w h r e = absurd (omega arith)
-    one-put (x ∷ []) out at w h r e = rw (← e) (put_one at w out (omega arith))
-    one-put (x ∷ y ∷ vs) out at w h r e = absurd (omega arith)
-
-    -- one word after the other
-    pub two-put : (vs out : List ℕ) (at v w : ℕ) → length vs ≡ 2 → at + length vs ≤ length out → v ∷ [] ≡ words_by to type u table (get_or vs 0 0 ∷ []) → w ∷ [] ≡ words_by to type u table (get_or vs 1 0 ∷ [])
-        → set (set out at v) (at + 1) w ≡ put at (words_by to type u table vs) out
-    two-put [] out at v w h r e f = absurd (omega arith)
-    two-put (x ∷ []) out at v w h r e f = absurd (omega arith)
-    two-put (x ∷ y ∷ []) out at v w h r e f =
-        put_one (at + 1) w (set out at v) (simp length-set (omega arith))
-        ∙ ap (put (at + 1) (w ∷ [])) (put_one at v out (omega arith))
-        ∙ put-put at (v ∷ []) out (omega arith) (w ∷ [])
-        ∙ ap (λ (ws : List ℕ). put at ws out) (ap₂ ◌++◌ e f ∙ sym (words_append to type u table (x ∷ []) (y ∷ [])))
-    two-put (x ∷ y ∷ z ∷ vs) out at v w h r e f = absurd (omega arith)
+  -- one word after the other
+  pub two-put : (vs out : List ℕ) (at v w : ℕ) → length vs ≡ 2 → at + length vs ≤ length out → v ∷ [] ≡ words_by to type u table (get_or vs 0 0 ∷ []) → w ∷ [] ≡ words_by to type u table (get_or vs 1 0 ∷ [])
+      → set (set out at v) (at + 1) w ≡ put at (words_by to type u table vs) out
+  two-put [] out at v w h r e f = absurd (omega arith)
+  two-put (x ∷ []) out at v w h r e f = absurd (omega arith)
+  two-put (x ∷ y ∷ []) out at v w h r e f =
+      put_one (at + 1) w (set out at v) (simp length-set (omega arith))
+      ∙ ap (put (at + 1) (w ∷ [])) (put_one at v out (omega arith))
+      ∙ put-put at (v ∷ []) out (omega arith) (w ∷ [])
+      ∙ ap (λ (ws : List ℕ). put at ws out) (ap₂ ◌++◌ e f ∙ sym (words_append to type u table (x ∷ []) (y ∷ [])))
+  two-put (x ∷ y ∷ z ∷ vs) out at v w h r e f = absurd (omega arith)
 
 -- ---- a turn at the segment s
 

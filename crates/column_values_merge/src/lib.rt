@@ -68,7 +68,8 @@ fn new_word(to: u32, typ: usize, part: Span, word: u64, map: &[u32]) -> u64
     }
 }
 
-// Writes the words of a row whose values are those of the segment from g.start to g.end; returns the index after them. One word or two are not copied as a run.
+// Writes the words of a row whose values are those of the segment from g.start to g.end; returns the index after them. A value of one word or two is not
+// copied as a run.
 pub fn append_row(
     to: u32,
     p: Stand,
@@ -85,19 +86,23 @@ pub fn append_row(
     ensures value { result ≡ at + many (words_of p g.start g.end) }
     ensures out_after { out.new ≡ put at (new_words to p map.now (part (words_of p g.start g.end) values.now)) out.old }
 {
-    let start = p.values.from + g.start * p.unit;
-    let end = p.values.from + g.end * p.unit;
-    let words = &values[start..end];
-    match words {
-        [] => {}
-        [word] => out[at] = new_word(to, p.typ, p.map, *word, map),
-        [first, second] => {
-            out[at] = new_word(to, p.typ, p.map, *first, map);
-            out[at + 1] = new_word(to, p.typ, p.map, *second, map);
+    let words = &values[p.values.from + g.start * p.unit..p.values.from + g.end * p.unit];
+    match (g.end - g.start, p.unit) {
+        (0, _) => at,
+        (1, 1) => {
+            out[at] = new_word(to, p.typ, p.map, words[0], map);
+            at + 1
         }
-        _ => append_words(to, p.typ, p.map, words, map, out, at),
+        (1, 2) => {
+            out[at] = new_word(to, p.typ, p.map, words[0], map);
+            out[at + 1] = new_word(to, p.typ, p.map, words[1], map);
+            at + 2
+        }
+        _ => {
+            append_words(to, p.typ, p.map, words, map, out, at);
+            at + words.len()
+        }
     }
-    at + words.len()
 }
 
 // The segments' values, one segment after another; returns the number of their words.

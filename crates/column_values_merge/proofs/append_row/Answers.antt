@@ -1,26 +1,26 @@
-use Rattle.std.proofs.Common.{arith}
+use Rattle.std.proofs.Common.{◌≡◌, ◌∙◌, arith}
 use Rattle.lists.proofs.Parts.{run_length}
+use Rattle.stands.specs.Stand.{many}
 use Rattle.stands.specs.Look.{words_of}
-use Rattle.column_values_merge.proofs.Laws.{none-put, one-worded, one-put, two-worded, two-put}
+use Rattle.column_values_merge.proofs.Laws.{none-put, one-put, two-put}
 use Rattle.column_values_merge.proofs.append_row.Goals as goal
-use Rattle.column_values_merge.proofs.append_row.Goals.{in-empty, in-len1, in-len2, in_default}
 
-pub new_word-requires : goal.new_word-requires
-new_word-requires c = one-worded _ _ _ _ (omega arith) c.requires.worded
-
-pub new_word-requires-in-len2 : goal.new_word-requires-in-len2
-new_word-requires-in-len2 c = (two-worded _ _ _ _ (omega arith) c.requires.worded).0
-
-pub new_word-requires-in-len2-2 : goal.new_word-requires-in-len2-2
-new_word-requires-in-len2-2 c = (two-worded _ _ _ _ (omega arith) c.requires.worded).1
-
-pub returns-clause-out_after : goal.returns-clause-out_after
-returns-clause-out_after c =
+pub returns-in-0-default-clause-out_after : goal.returns-in-0-default-clause-out_after
+returns-in-0-default-clause-out_after c =
     let s = words_of c.args.p c.args.g.start c.args.g.end in
-    let n = run_length s.from s.to c.args.values.now c.requires.lies.ends in
-    elim c.if-words-lt1.branch [
-      | in-empty w ↦ rw w.out-is (none-put _ _ _ _ _ _ _ (omega arith))
-      | in-len1 w ↦ rw w.out-is (one-put _ _ _ _ _ _ _ _ (omega arith) (omega arith) w.new_word.ensures)
-      | in-len2 w ↦ rw w.out-is (two-put _ _ _ _ _ _ _ _ _ (omega arith) (omega arith) w.new_word-in-len2.ensures w.new_word-in-len2-2.ensures)
-      | in_default w ↦ rw w.out-is w.append_words.ensures
-    ]
+    let n : many s ≡ 0 = grind arith in
+    none-put _ _ _ _ _ _ _ (run_length s.from s.to c.args.values.now c.requires.lies.ends ∙ n)
+
+pub returns-in-1-eq1-clause-out_after : goal.returns-in-1-eq1-clause-out_after
+returns-in-1-eq1-clause-out_after c =
+    let s = words_of c.args.p c.args.g.start c.args.g.end in
+    let n : many s ≡ 1 = grind arith in
+    let l = run_length s.from s.to c.args.values.now c.requires.lies.ends in
+    one-put _ _ _ _ _ _ _ _ (l ∙ n) (omega arith) c.new_word.ensures
+
+pub returns-in-1-eq2-clause-out_after : goal.returns-in-1-eq2-clause-out_after
+returns-in-1-eq2-clause-out_after c =
+    let s = words_of c.args.p c.args.g.start c.args.g.end in
+    let n : many s ≡ 2 = grind arith in
+    let l = run_length s.from s.to c.args.values.now c.requires.lies.ends in
+    two-put _ _ _ _ _ _ _ _ _ (l ∙ n) (omega arith) c.new_word-in-1-eq2.ensures c.new_word-in-1-eq2-2.ensures
