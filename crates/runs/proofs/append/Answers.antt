@@ -1,8 +1,17 @@
-use Rattle.runs.specs.Put.{put}
-use Rattle.std.proofs.Common.{rules}
-use Rattle.std.proofs.lemmas.Slice.{overwrites}
+use mathlib.Core.Path.{refl, ◌∙◌}
+use Prim.Native.Nat.{◌+◌}
+use lib.ListN.{set}
+use Rattle.runs.proofs.Laws.{putting-none, putting-more, putting-all}
 use Rattle.runs.proofs.append.Goals as goal
 
+pub loop-j-init : goal.loop-j-init
+loop-j-init g c =
+    putting-none _ _ _
+
+pub loop-j-preserved : goal.loop-j-preserved
+loop-j-preserved g c =
+    (λ i. set (c.loop-j.invariant i) (c.args.at + c.loop-j.j) (c.index-vs-j.is i)) ∙ putting-more _ _ _ _ c.index-vs-j.result c.requires c.loop-j-test.true
+
 pub returns-clause-out_after : goal.returns-clause-out_after
-unfolding put
-returns-clause-out_after g c = search (rules, overwrites)
+returns-clause-out_after g c =
+    c.loop-j.invariant ∙ putting-all _ _ _ _ _ refl c.loop-j.auto.j-end c.loop-j-test.false
