@@ -2,5 +2,5 @@ use mathlib.Core.Path.{◌≡◌}
 use Rattle.runs.proofs.Laws.{putting}
 use Rattle.runs.proofs.append.Given as goal
 
-abbrev pub invariant-loop-j : goal.invariant-loop-j
-invariant-loop-j g l = l.out ≡ putting l.at l.vs l.initial.out l.j
+abbrev pub invariant-loop-v : goal.invariant-loop-v
+invariant-loop-v g l = (l.copied ≡ l.v-index) × (l.out ≡ putting l.at l.vs l.initial.out l.v-index)
