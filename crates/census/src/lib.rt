@@ -49,6 +49,18 @@ fn id_width(kind: usize, offsets: &[u32], k: usize) -> usize
     }
 }
 
+// What is counted for a row counts if it is alive. Both are at hand, so that no branch is needed that can't be foreseen.
+fn if_alive(words: &[u64], row: usize, n: usize) -> usize
+    requires { row < 64 * length words.now }
+    ensures { result ≡ cond (bit_at words.now row) n 0 }
+{
+    if alive_set::is_alive(words, row) {
+        n
+    } else {
+        0
+    }
+}
+
 // Of the alive rows of a segment of kind 2 or 4, how many have a value, and how many values they have: those that have values are ids.
 fn id_counts(kind: usize, ids: &[u32], offsets: &[u32], words: &[u64]) -> (usize, usize)
     requires { Ids kind ids.now offsets.now words.now }
@@ -58,10 +70,9 @@ fn id_counts(kind: usize, ids: &[u32], offsets: &[u32], words: &[u64]) -> (usize
     let mut listed = 0;
     let mut values = 0;
     for (k, &row) in ids.iter().enumerate() {
-        if alive_set::is_alive(words, row as usize) {
-            listed += 1;
-            values += id_width(kind, offsets, k);
-        }
+        let width = id_width(kind, offsets, k);
+        listed += if_alive(words, row as usize, 1);
+        values += if_alive(words, row as usize, width);
     }
     (listed, values)
 }
