@@ -13,6 +13,7 @@ KIT = {"io", "libc", "os", "check", "bytes"}
 
 # crates whose types a crate has by value and does not name
 BY_VALUE = {
+    "column_index_shuffled": ["column_index"],
     "merge_checked": ["term_walk"],
     "merge_records": ["merge_checked"],
     "jadmirus": ["merge_checked"],

@@ -6,7 +6,12 @@ ghost use Rattle.std.specs.Prelude.{◌≡◌, ◌<◌, ◌≤◌, ◌+◌, leng
 ghost use Rattle.definitions.specs.Lists.{ascending};
 ghost use Rattle.column_index.specs.Lookup.{rank_in, is_in, start_of, end_of, Readable};
 
-use std::ops::Range;
+// The places of a row's values among its segment's values: from start, before end. Stays: std's `Range` is not `Copy`.
+#[derive(Clone, Copy, Debug, Default, PartialEq, Eq, Hash)]
+pub struct Range {
+    pub start: usize,
+    pub end: usize,
+}
 
 // How many ids are below the row. `near` is a guess: a good one is a few below the rank, and saves the search; no guess changes the result.
 pub fn rank(ids: &[u32], row: u32, near: usize) -> usize
@@ -34,23 +39,32 @@ pub fn is_listed(ids: &[u32], row: u32, k: usize) -> bool
 }
 
 // Where the row's values stand; `near` is a guess at the row's rank.
-pub fn value_range(kind: usize, ids: &[u32], offsets: &[u32], row: u32, near: usize) -> Range<usize>
+pub fn value_range(kind: usize, ids: &[u32], offsets: &[u32], row: u32, near: usize) -> Range
     requires { Readable kind ids.now offsets.now }
     ensures start_value { result.start ≡ start_of kind ids.now offsets.now row }
     ensures end_value { result.end ≡ end_of kind ids.now offsets.now row }
 {
     let r = row as usize;
     match kind {
-        0 => 0..0,
-        1 => r..r + 1,
+        0 => Range { start: 0, end: 0 },
+        1 => Range {
+            start: r,
+            end: r + 1,
+        },
         _ => {
             let k = rank(ids, row, near);
             if !is_listed(ids, row, k) {
-                0..0
+                Range { start: 0, end: 0 }
             } else if kind == 2 {
-                k..k + 1
+                Range {
+                    start: k,
+                    end: k + 1,
+                }
             } else {
-                offsets[k] as usize..offsets[k + 1] as usize
+                Range {
+                    start: offsets[k] as usize,
+                    end: offsets[k + 1] as usize,
+                }
             }
         }
     }

@@ -9,7 +9,6 @@ ghost use Rattle.column_values_merge.specs.Word.{doubles, coerced_all, words_by,
 ghost use Rattle.column_values_merge.specs.Stack.{stacked_words, AllWorded};
 
 use stands::{Span, Stand, StandNumbers};
-use std::ops::Range;
 
 // Writes the double nearest to each integer of type t.
 fn append_doubles(t: u32, vs: &[u64], out: &mut [u64], at: usize)
@@ -73,7 +72,7 @@ fn new_word(to: u32, typ: usize, part: Span, word: u64, map: &[u32]) -> u64
 pub fn append_row(
     to: u32,
     p: Stand,
-    g: Range<usize>,
+    g: column_index::Range,
     values: &[u64],
     map: &[u32],
     out: &mut [u64],
@@ -86,9 +85,11 @@ pub fn append_row(
     ensures value { result ≡ at + many (words_of p g.start g.end) }
     ensures out_after { out.new ≡ put at (new_words to p map.now (part (words_of p g.start g.end) values.now)) out.old }
 {
+    if g.start == g.end {
+        return at;
+    }
     let words = &values[p.values.from + g.start * p.unit..p.values.from + g.end * p.unit];
     match (g.end - g.start, p.unit) {
-        (0, _) => at,
         (1, 1) => {
             out[at] = new_word(to, p.typ, p.map, words[0], map);
             at + 1

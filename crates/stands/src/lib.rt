@@ -8,7 +8,7 @@ ghost use Rattle.stands.specs.Width.{id_part};
 ghost use Rattle.stands.specs.Stand.{table, stand_of, numbers_of, many, span, none_of, nowhere, next_stand, Low, Grown, stand_in};
 ghost use Rattle.stands.specs.Look.{start_in, end_in, Within};
 
-use std::ops::Range;
+use column_index::Range;
 
 // A run's first index, and the one after its last.
 #[derive(Clone, Copy)]
@@ -229,7 +229,7 @@ pub fn fill_stands(records: &[segment::RecordNumbers], stands: &mut [StandNumber
 // ---- a row
 
 // Where the values of a row stand among the segment's values; `near` is a guess at the row's rank.
-pub fn range_in(p: Stand, ids: &[u32], offsets: &[u32], row: u32, near: usize) -> Range<usize>
+pub fn range_in(p: Stand, ids: &[u32], offsets: &[u32], row: u32, near: usize) -> Range
     requires { Within p ids.now offsets.now row }
     ensures start_value { result.start ≡ start_in p ids.now offsets.now row }
     ensures end_value { result.end ≡ end_in p ids.now offsets.now row }

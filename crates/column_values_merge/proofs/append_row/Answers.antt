@@ -5,8 +5,8 @@ use Rattle.stands.specs.Look.{words_of}
 use Rattle.column_values_merge.proofs.Laws.{none-put, one-put, two-put}
 use Rattle.column_values_merge.proofs.append_row.Goals as goal
 
-pub returns-in-0-default-clause-out_after : goal.returns-in-0-default-clause-out_after
-returns-in-0-default-clause-out_after c =
+pub returns-then-g-clause-out_after : goal.returns-then-g-clause-out_after
+returns-then-g-clause-out_after c =
     let s = words_of c.args.p c.args.g.start c.args.g.end in
     let n : many s ≡ 0 = grind arith in
     none-put _ _ _ _ _ _ _ (run_length s.from s.to c.args.values.now c.requires.lies.ends ∙ n)
