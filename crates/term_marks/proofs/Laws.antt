@@ -240,8 +240,10 @@ module _ {stands : List (List ℕ)} {ids offsets values alive old : List ℕ} (c
   turn_lies = subst (λ (q : Stand). Lies q.terms marks) (sym e) (lies_as (c.terms-lie s h) l)
 
   pub turn_more : {ys whole : List ℕ} → marked_all (drop s stands) ids offsets values alive marks ≡ whole → ys ≡ marks_over p ids offsets values alive (part p.terms marks)
-      → marked_all (drop (s + 1) stands) ids offsets values alive (take p.terms.from marks ++ (ys ++ drop (many p.terms) (drop p.terms.from marks))) ≡ whole
+      → (marked_all (drop (s + 1) stands) ids offsets values alive (take p.terms.from marks ++ (ys ++ drop (many p.terms) (drop p.terms.from marks))) ≡ whole)
+      × (length (take p.terms.from marks ++ (ys ++ drop (many p.terms) (drop p.terms.from marks))) ≡ length old)
   turn_more {ys} g o =
-      ap (marked_all (drop (s + 1) stands) ids offsets values alive) (in_lent p ids offsets values alive marks turn_lies ys o ∙ ap (λ (q : Stand). marked_in q ids offsets values alive marks) e)
-      ∙ sym (marks_step stands ids offsets values alive marks s h)
-      ∙ g
+      let z = in_lent p ids offsets values alive marks turn_lies ys o in (
+        ap (marked_all (drop (s + 1) stands) ids offsets values alive) (z ∙ ap (λ (q : Stand). marked_in q ids offsets values alive marks) e) ∙ sym (marks_step stands ids offsets values alive marks s h) ∙ g,
+        ap length z ∙ in_length p ids offsets values alive marks turn_lies ∙ l,
+      )

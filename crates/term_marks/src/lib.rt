@@ -3,7 +3,7 @@
 
 ghost use Rattle.std.specs.Prelude.{◌≡◌, length};
 ghost use Rattle.runs.specs.Put.{Below};
-ghost use Rattle.term_marks.specs.Marks.{set_all, marks_over, marked_all, Usable, Columns};
+ghost use Rattle.term_marks.specs.Marks.{set_all, used_from, marks_over, marked_all, Marking, Usable, Columns};
 
 use stands::{Stand, StandNumbers};
 
@@ -14,6 +14,27 @@ fn mark_each(ordinals: &[u64], marks: &mut [u8])
 {
     for &w in ordinals {
         marks[w as usize] = 1;
+    }
+}
+
+// Marks what the alive rows of a segment use. It takes the numbers that it needs and not the struct, which would be kept in memory for every row.
+fn mark_rows(
+    kind: usize,
+    rows: u32,
+    ids: &[u32],
+    offsets: &[u32],
+    values: &[u64],
+    alive: &[u64],
+    marks: &mut [u8],
+)
+    requires { Marking kind rows ids.now offsets.now values.now alive.now (length marks.old) }
+    ensures { marks.new ≡ set_all (used_from kind ids.now offsets.now values.now alive.now 0 rows) marks.old }
+{
+    for row in 0..rows {
+        if alive_set::is_alive(alive, row as usize) {
+            let at = column_index::value_range(kind, ids, offsets, row, ids.len());
+            mark_each(&values[at.start..at.end], marks);
+        }
     }
 }
 
@@ -31,20 +52,16 @@ fn mark_segment(
 {
     if p.flag != 1 {
         marks.fill(1);
-        return;
-    }
-    if marks.is_empty() {
-        return;
-    }
-    let own_ids = &ids[p.ids.from..p.ids.to];
-    let own_offsets = &offsets[p.offsets.from..p.offsets.to];
-    let own_values = &values[p.values.from..p.values.to];
-    let own_alive = &alive[p.alive.from..p.alive.to];
-    for row in 0..p.rows as u32 {
-        if alive_set::is_alive(own_alive, row as usize) {
-            let at = column_index::value_range(p.kind, own_ids, own_offsets, row, own_ids.len());
-            mark_each(&own_values[at.start..at.end], marks);
-        }
+    } else if !marks.is_empty() {
+        mark_rows(
+            p.kind,
+            p.rows as u32,
+            &ids[p.ids.from..p.ids.to],
+            &offsets[p.offsets.from..p.offsets.to],
+            &values[p.values.from..p.values.to],
+            &alive[p.alive.from..p.alive.to],
+            marks,
+        );
     }
 }
 
