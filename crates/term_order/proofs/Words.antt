@@ -181,12 +181,12 @@ unfolding value_of
 value-take zero n t h = refl
 value-take (suc k) n t h = ap₂ (λ (v x : ℕ). v * 256 + x) (value-take k n t (omega arith)) (get_or-take n t k 0 h)
 
--- a term in k bytes more
-pub value_up : (k : ℕ) (t : List ℕ) → value_of (length t + k) t ≡ value_of (length t) t * 2 ^ (8 * k)
-value_up k t =
-    value-add (length t) k t
-    ∙ ap (λ (w : ℕ). value_of (length t) t * 2 ^ (8 * k) + w) (ap (value_of k) (drop_of_length-le t (le_refl (length t))) ∙ value_nil k)
-    ∙ add-zero (value_of (length t) t * 2 ^ (8 * k))
+-- a term of n bytes in k more
+pub value_up : (n k : ℕ) (t : List ℕ) → value_of (n + k) (take n t) ≡ value_of n t * 2 ^ (8 * k)
+value_up n k t =
+    value-add n k (take n t)
+    ∙ ap₂ (λ (v w : ℕ). v * 2 ^ (8 * k) + w) (value-take n n t (le_refl n)) (ap (value_of k) (drop_of_length-le (take n t) (let w : length (take n t) ≤ n = omega (arith, length-take n t) in w)) ∙ value_nil k)
+    ∙ add-zero (value_of n t * 2 ^ (8 * k))
 
 -- ---- keys
 
@@ -324,13 +324,13 @@ pub word_none : (t : List ℕ) → t ≡ [] → 0 ≡ word_of t
 unfolding word_of
 word_none t e = sym (ap (value_of 8) e ∙ value_nil 8)
 
-pub word-short : (w : ℕ) (t : List ℕ) → length t < 8 → w ≡ value_of (length t) t → w < 2 ^ (8 * length t) → (w * 2 ^ (8 * (8 - length t))) % 18446744073709551616 ≡ word_of t
+pub word-short : (n w : ℕ) (l : List ℕ) → n < 8 → w ≡ value_of n l → w < 2 ^ (8 * n) → (w * 2 ^ (8 * (8 - n))) % 18446744073709551616 ≡ word_of (take n l)
 unfolding word_of
-word-short w t h e b =
-    shl_exact (8 * length t) (8 * (8 - length t)) 64 b (omega arith)
-    ∙ ap (λ (v : ℕ). v * 2 ^ (8 * (8 - length t))) e
-    ∙ sym (value_up (8 - length t) t)
-    ∙ ap (λ (k : ℕ). value_of k t) (let z : length t + (8 - length t) ≡ 8 = omega arith in z)
+word-short n w l h e b =
+    shl_exact (8 * n) (8 * (8 - n)) 64 b (omega arith)
+    ∙ ap (λ (v : ℕ). v * 2 ^ (8 * (8 - n))) e
+    ∙ sym (value_up n (8 - n) l)
+    ∙ ap (λ (k : ℕ). value_of k (take n l)) (let z : n + (8 - n) ≡ 8 = omega arith in z)
 
 -- the key of no bytes at the start
 pub key-none : (bytes : List ℕ) → ◌≡◌ {A = Key} (record { from = 0; till = 0; first = 0; second = 0 }) (key_at bytes 0 0)
