@@ -49,7 +49,7 @@ fn id_width(kind: usize, offsets: &[u32], k: usize) -> usize
     }
 }
 
-// What is counted for a row counts if it is alive. Both are at hand, so that no branch is needed that can't be foreseen.
+// n for an alive row, 0 for a withdrawn one: n is at hand either way, so that it is chosen without a branch, which could not be foreseen.
 fn if_alive(words: &[u64], row: usize, n: usize) -> usize
     requires { row < 64 * length words.now }
     ensures { result ≡ cond (bit_at words.now row) n 0 }

@@ -73,16 +73,6 @@ pub record Prepared (records : List (List ℕ)) (ids offsets lengths words : Lis
   pub stands_are : stands ≡ settled_of records ids offsets lengths words
   pub tally_is : tally ≡ tally_from no_tally stands ids offsets words
 
--- in the first n elements of a longer table
-front : (n : ℕ) (m z : List (List ℕ)) → n ≤ length z → length m ≡ length (take n z) → take n (m ++ drop n z) ≡ m
-front n m z h l = take_at m (drop n z) n (l ∙ length-take-le n z h)
-
-pub front_in : (n : ℕ) (m z : List (List ℕ)) → n ≤ length z → length m ≡ length (take n z) → n ≤ length (m ++ drop n z)
-front_in n m z h l = let a = length-append m (drop n z) in let b = length-take-le n z h in omega arith
-
-pub front_long : (n : ℕ) (m z : List (List ℕ)) → n ≤ length z → length m ≡ length (take n z) → n ≡ length (take n (m ++ drop n z))
-front_long n m z h l = sym (ap length (front n m z h l) ∙ l ∙ length-take-le n z h)
-
 pub prepared : {records : List (List ℕ)} {ids offsets lengths words : List ℕ} {stands : List (List ℕ)} {tally : Tally} → stands ≡ settled_of records ids offsets lengths words
     → tally ≡ tally_from no_tally stands ids offsets words → Prepared records ids offsets lengths words stands tally
 prepared s t = record { stands_are = s; tally_is = t }

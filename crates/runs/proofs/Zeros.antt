@@ -10,6 +10,17 @@ use Rattle.lists.proofs.Lists.{take-zeros, drop-zeros}
 pub zero_again : (w : List ℕ) (n : ℕ) → w ≡ replicate n 0 → w ≡ replicate (length w) 0
 zero_again w n e = e ∙ ap (λ (m : ℕ). replicate m 0) (sym (ap length e ∙ length-replicate n 0))
 
+-- where the first n elements of a list are written anew
+module _ {A : Type 0} (n : ℕ) (m w : List A) (h : n ≤ length w) (l : length m ≡ length (take n w)) where
+  front_is : length m ≡ n
+  front_is = l ∙ length-take-le n w h
+
+  pub front-within : n ≤ length (m ++ drop n w)
+  front-within = rw (length-append m (drop n w)) (let e = front_is in omega arith)
+
+  pub front_long : n ≡ length (take n (m ++ drop n w))
+  front_long = sym (ap length (take_at m (drop n w) n front_is) ∙ front_is)
+
 module _ (w : List ℕ) (n : ℕ) (h : n ≤ length w) (z : w ≡ replicate (length w) 0) where
   zero_back : drop n w ≡ replicate (length w - n) 0
   zero_back = ap (drop n) z ∙ drop-zeros n (length w)
@@ -20,18 +31,9 @@ module _ (w : List ℕ) (n : ℕ) (h : n ≤ length w) (z : w ≡ replicate (len
 
   -- m stands where the part stood
   module _ (m : List ℕ) (l : length m ≡ length (take n w)) where
-    m_long : length m ≡ n
-    m_long = l ∙ length-take-le n w h
-
-    pub front-within : n ≤ length (m ++ drop n w)
-    front-within = rw (length-append m (drop n w)) (let e = m_long in omega arith)
-
-    pub front_long : n ≡ length (take n (m ++ drop n w))
-    front_long = sym (ap length (take_at m (drop n w) n m_long) ∙ m_long)
-
     -- and the part is cleared
     pub cleared : (c : List ℕ) → c ≡ replicate (length (take n (m ++ drop n w))) 0 → c ++ drop n (m ++ drop n w) ≡ replicate (length w) 0
     cleared c e =
-        (λ i. (e ∙ ap (λ (k : ℕ). replicate k 0) (sym front_long)) i ++ (drop_at m (drop n w) n m_long ∙ zero_back) i)
+        (λ i. (e ∙ ap (λ (k : ℕ). replicate k 0) (sym (front_long n m w h l))) i ++ (drop_at m (drop n w) n (front_is n m w h l) ∙ zero_back) i)
         ∙ replicate-append-replicate n (length w - n) 0
         ∙ ap (λ (k : ℕ). replicate k 0) (let e : n + (length w - n) ≡ length w = omega arith in e)

@@ -19,11 +19,11 @@ mark-requires c =
 
 pub slice_bounds-merge_dict-end : goal.slice_bounds-merge_dict-end
 slice_bounds-merge_dict-end c =
-    omega (arith, front-within c.args.work.now c.unless-n.result (marks_fit c.requires c.unless-n.ensures) c.requires.clean c.mark.new.marks c.mark.auto.marks)
+    omega (arith, front-within c.unless-n.result c.mark.new.marks c.args.work.now (marks_fit c.requires c.unless-n.ensures) c.mark.auto.marks)
 
 pub slice_bounds-merge_dict-end-2 : goal.slice_bounds-merge_dict-end-2
 slice_bounds-merge_dict-end-2 c =
-    omega (arith, front_long c.args.work.now c.unless-n.result (marks_fit c.requires c.unless-n.ensures) c.requires.clean c.mark.new.marks c.mark.auto.marks)
+    omega (arith, front_long c.unless-n.result c.mark.new.marks c.args.work.now (marks_fit c.requires c.unless-n.ensures) c.mark.auto.marks)
 
 pub merge_dict-c-requires-clause-runs : goal.merge_dict-c-requires-clause-runs
 merge_dict-c-requires-clause-runs c =
@@ -35,11 +35,11 @@ merge_dict-c-requires-clause-texts c =
 
 pub slice_bounds-zero-end : goal.slice_bounds-zero-end
 slice_bounds-zero-end c =
-    omega (arith, front-within c.args.work.now c.unless-n.result (marks_fit c.requires c.unless-n.ensures) c.requires.clean c.mark.new.marks c.mark.auto.marks)
+    omega (arith, front-within c.unless-n.result c.mark.new.marks c.args.work.now (marks_fit c.requires c.unless-n.ensures) c.mark.auto.marks)
 
 pub slice_bounds-zero-end-2 : goal.slice_bounds-zero-end-2
 slice_bounds-zero-end-2 c =
-    omega (arith, front_long c.args.work.now c.unless-n.result (marks_fit c.requires c.unless-n.ensures) c.requires.clean c.mark.new.marks c.mark.auto.marks)
+    omega (arith, front_long c.unless-n.result c.mark.new.marks c.args.work.now (marks_fit c.requires c.unless-n.ensures) c.mark.auto.marks)
 
 pub returns-clause-left : goal.returns-clause-left
 returns-clause-left c =
